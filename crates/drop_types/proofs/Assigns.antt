@@ -1,5 +1,5 @@
 -- An assignment of an owned value keeps a state typed.
-use Rattle.std.proofs.Common.{◌≡◌, ◌∙◌, ap₂, ℕ, zero, suc, ◌<◌, Bool, true, false, List, ◌∷◌, ◌++◌, length, Option, Some, refl, sym, ap, subst, arith}
+use Rattle.std.proofs.Common.{◌≡◌, ◌∙◌, ap₂, ℕ, zero, suc, ◌<◌, Bool, true, false, List, ◌∷◌, ◌++◌, length, Option, Some, refl, sym, ap, subst, arith, inl}
 use Rattle.std.specs.Prelude.{◌||◌, not, if◌then◌else◌}
 use Rattle.fr_base.specs.declared.label.Plain.{Plain}
 use Rattle.fr_base.specs.declared.place.Lval.{Lval}
@@ -40,6 +40,7 @@ use Rattle.drop_types.proofs.Dropped.{Dropping, drop_typed}
 use Rattle.drop_types.proofs.Parts.{shape_is}
 use Rattle.drop_types.proofs.Puts.{Target, before, at_before, focus_before, carries_before, differ_before, standing, put_down}
 use Rattle.drop_types.proofs.Targets.{own_target, lent_target}
+use Rattle.plain_types.proofs.Refs.{NoneNew}
 
 pub record AssignRow (x : Entry) (vs : List Value) (w : Lval) (v : Value) (l : Leaves) (z : Entry) : Type 0 where
   pub env : Env
@@ -96,11 +97,11 @@ module _ (now : Position → Now) (move : Position → Option (Move Position Pos
   here : At y (plain_state s) t.number x i.env i.temps i.result
   here = record { state = r.state; runs = runs_here s t p wrap r.goes_on r.found r.at; entry = i.entry }
 
-  loaded : Loaded (plain_state s) t.number x i.env i.after i.result i.kind (Own v) i.left
+  loaded : Loaded y (plain_state s) t.number x i.env i.after i.result i.kind (Own v) i.left
   loaded = load y (plain_state s) t.number x i.env i.result here refl i.pops
 
   -- where the value goes to a place of that type
-  module _ (o : Owned) (l : Loaded (plain_state s) t.number x i.env i.after i.result (own o) (Own v) i.left) (e2 : Env) (comes : plug unit_value ≡ record { entry = going e2 i.after i.result; temps = i.left }) where
+  module _ (o : Owned) (l : Loaded y (plain_state s) t.number x i.env i.after i.result (own o) (Own v) i.left) (e2 : Env) (comes : plug unit_value ≡ record { entry = going e2 i.after i.result; temps = i.left }) where
     abbrev s1 : Machine Position
     s1 = before s t p wrap r.goes_on r.found r.at i.env e2 i.after i.result i.left l.waits s.output
 
@@ -110,11 +111,11 @@ module _ (now : Position → Now) (move : Position → Option (Move Position Pos
     abbrev t1 : Thread Position
     t1 = record { number = t.number; life = wrap q1; slots = t.slots }
 
-    moved : (z : Typing) × Dropping (name_for s1) s1 z (whole (own o)) v
+    moved : (z : Typing) × Dropping (name_for s1) s1 z (whole (own o)) v × (z.gives ≡ y.gives) × NoneNew y.exact z.exact
     moved = carried l s1 (only_here s t p wrap r.goes_on r.found r.at q1 t.slots s.heap s.output (λ z. omega arith)) (λ b. refl) t1 (put_thread s.threads t1 t.number refl ∙ ap (put_in t1) r.found)
 
     module _ (target : Target (raised_typing (suc (moved.0.rank (slot_k t.number (length i.env)))) moved.0) (plain_state (with_carrier s1 (name_for s1) (whole (own o)) (moved.0.gives.result (name_for s1)) v)) t.number (name_for s1) i.env e2 w) where
-      put_steps : StepsTyped (moves_by now move) s t fresh.None (record { act = do_assign w (Own v); plug = λ z. wrap (plug z) })
+      put_steps : StepsTyped y (moves_by now move) s t fresh.None (record { act = do_assign w (Own v); plug = λ z. wrap (plug z) })
       put_steps =
           let b = standing s t p wrap r.goes_on r.found r.at i.env e2 i.after i.result i.left l.waits s.output moved.1 w i.is.named target in
           let labels = b.reached.passed ++ drops (Own b.old) ++ stores b.reached.spot (Own v) in
@@ -122,17 +123,19 @@ module _ (now : Position → Now) (move : Position → Option (Move Position Pos
           let st2 = with_value (state_of s t) b.reached.spot (Own v) in
           let done = drop_typed (name_for s1) (record s { threads = with_thread s.threads (record { number = t.number; life = wrap (record { entry = going e2 i.after i.result; temps = i.left }); slots = st2.slots }); heap = st2.heap; output = s.output ++ prints labels }) _ target.part b.old d in
           step_by now move s t wrap m plug unit_value (record { entry = going e2 i.after i.result; temps = i.left })
-          (λ life. dropped (record s { threads = with_thread s.threads (record { number = t.number; life = life; slots = st2.slots }); heap = st2.heap; output = s.output ++ prints labels }) b.old) labels done.0 r.goes_on comes
+          (λ life. dropped (record s { threads = with_thread s.threads (record { number = t.number; life = life; slots = st2.slots }); heap = st2.heap; output = s.output ++ prints labels }) b.old) labels y done.0 r.goes_on comes
           (ap (λ o. nameless fresh.None (then_released (where_reached o (λ k. end_of_some (with_value (state_of s t) k.spot (Own v)).heap (machine.value_at (state_of s t) k.spot))) (stepped (moves_by now move) s t m (then_reached o (λ k. assign_did (state_of s t) (Own v) k (machine.value_at (state_of s t) k.spot)))))) b.is
           ∙ ap (λ o. nameless fresh.None (then_released (end_of_some st2.heap o) (stepped (moves_by now move) s t m (assign_did (state_of s t) (Own v) b.reached o)))) b.stands)
           done.1
+          (done.2 ∙ moved.2)
+          (λ j b f. let g = done.3 j b f in inl (moved.3 j b (target.refs j true b g), λ flat at. target.kept b flat (ap target.types (sym at) ∙ g)))
 
   -- by the path
-  owned_by : (o : Owned) → i.kind ≡ own o → StepsTyped (moves_by now move) s t fresh.None (record { act = do_assign w (Own v); plug = λ z. wrap (plug z) })
+  owned_by : (o : Owned) → i.kind ≡ own o → StepsTyped y (moves_by now move) s t fresh.None (record { act = do_assign w (Own v); plug = λ z. wrap (plug z) })
   owned_by o e = by (on_path is_mutable i.env w.slot w.depth) refl
     where
-      l : Loaded (plain_state s) t.number x i.env i.after i.result (own o) (Own v) i.left
-      l = subst (λ k. Loaded (plain_state s) t.number x i.env i.after i.result k (Own v) i.left) e loaded
+      l : Loaded y (plain_state s) t.number x i.env i.after i.result (own o) (Own v) i.left
+      l = subst (λ k. Loaded y (plain_state s) t.number x i.env i.after i.result k (Own v) i.left) e loaded
 
       shape : piece_shape (shape_at i.env) i.piece ≡ Some (owned_shape o)
       shape = shape_is (piece_shape (shape_at i.env) i.piece) o (ap (has_shape_of i.env i.piece) (sym e) ∙ i.shape)
@@ -143,7 +146,7 @@ module _ (now : Position → Now) (move : Position → Option (Move Position Pos
       comes : (e2 : Env) → set_through i.env w (own o) ≡ e2 → plug unit_value ≡ record { entry = going e2 i.after i.result; temps = i.left }
       comes e2 f = r.comes unit_value ∙ ap₂ (λ a b. record { entry = a; temps = left_after b unit_value }) (i.comes ∙ ap (λ d. going d i.after i.result) (ap (set_through i.env w) e ∙ f)) i.leaves
 
-      by : (b : Bool) → on_path is_mutable i.env w.slot w.depth ≡ b → StepsTyped (moves_by now move) s t fresh.None (record { act = do_assign w (Own v); plug = λ z. wrap (plug z) })
+      by : (b : Bool) → on_path is_mutable i.env w.slot w.depth ≡ b → StepsTyped y (moves_by now move) s t fresh.None (record { act = do_assign w (Own v); plug = λ z. wrap (plug z) })
       by false f =
           let e2 = put_at i.env w (whole (own o)) in
           let c = comes e2 (ap (λ d. if d then i.env else e2) f) in
@@ -159,13 +162,13 @@ module _ (now : Position → Now) (move : Position → Option (Move Position Pos
           (carries_before s t p wrap r.goes_on r.found r.at i.env i.env i.after i.result i.left l.waits s.output d.1) (differ_before s t p wrap r.goes_on r.found r.at i.env i.env i.after i.result i.left l.waits s.output d.1) w i.piece lt i.is.is shape i.open_place.free i.is.named i.open_place.path f)
 
   -- an owned value has an owned type
-  pub assign_steps : StepsTyped (moves_by now move) s t fresh.None (record { act = do_assign w (Own v); plug = λ z. wrap (plug z) })
+  pub assign_steps : StepsTyped y (moves_by now move) s t fresh.None (record { act = do_assign w (Own v); plug = λ z. wrap (plug z) })
   assign_steps =
       let z = ranked loaded.typing loaded.state t.number loaded.running i.env (i.kind ∷ i.after) i.after (Some i.kind) i.result loaded.at top_some loaded.waits in
       let tree = hand_tree z.at z.focus loaded.waits v i.left loaded.temps in
       by tree.0 i.kind refl tree.2
     where
-      by : (tr : Tree) (k : Kind) → i.kind ≡ k → TreeOf (whole k) tr → StepsTyped (moves_by now move) s t fresh.None (record { act = do_assign w (Own v); plug = λ z. wrap (plug z) })
+      by : (tr : Tree) (k : Kind) → i.kind ≡ k → TreeOf (whole k) tr → StepsTyped y (moves_by now move) s t fresh.None (record { act = do_assign w (Own v); plug = λ z. wrap (plug z) })
       by tr (own o) f h = owned_by o f
       by tr (shared us) f h = absurd h
       by tr (mutable us) f h = absurd h

@@ -18,14 +18,14 @@ use Rattle.fr_sound.specs.Entries.{Entry, going}
 use Rattle.fr_sound.specs.Seen.{Gives}
 use Rattle.fr_sound.specs.States.{Typing}
 use Rattle.fr_store.specs.Store.{gone_v}
-use Rattle.fr_store.specs.Typed.{Tree}
+use Rattle.fr_store.specs.Typed.{Tree, owns, hole}
 use Rattle.fr_store.specs.Below.{TreeOf}
 use Rattle.plain_types.specs.Positions.{Position, moves_by, StartsAs}
 use Rattle.plain_types.specs.ActRows.{Leaves, quiet, left_after, Pops, ActRow, r_discard}
 use Rattle.plain_types.specs.Keeps.{Ready, StepsTyped, Keeps}
 use Rattle.plain_types.proofs.OneThread.{Counted}
 use Rattle.plain_types.proofs.Lower.{seen_as}
-use Rattle.plain_types.proofs.Focus.{top_some}
+use Rattle.plain_types.proofs.Focus.{top_some, hand_at}
 use Rattle.plain_types.proofs.AtHand.{Only}
 use Rattle.plain_types.proofs.Hand.{At, ranked, pop}
 use Rattle.plain_types.proofs.Operands.{Loaded, load, hand_value}
@@ -35,6 +35,9 @@ use Rattle.drop_types.specs.DropActs.{IsDiscard}
 use Rattle.drop_types.proofs.Prepared.{name_for, name_free, beside, prepared_at, prepared_focus, prepared_keys, prepared_over}
 use Rattle.drop_types.proofs.HandGoes.{hand_tree, hand_goes}
 use Rattle.drop_types.proofs.Dropped.{IsTyped, Dropping, drop_typed}
+use Rattle.plain_types.proofs.Refs.{NoneNew, none_owns}
+use Rattle.fr_store.specs.Rows.{with_type}
+use Rattle.fr_store.specs.Keys.{slot_k}
 
 record DiscardRow (x : Entry) (vs : List Value) (v : Value) (l : Leaves) (z : Entry) : Type 0 where
   env : Env
@@ -63,8 +66,8 @@ owned_piece_of (mutable us) t h = absurd h
 owned_piece_of (view o) t h = absurd h
 
 -- an owned value at hand comes to a carrier, where its thread goes on in the state s without it
-pub carried : {a0 : PlainState Position} {n : ℕ} {x : Running Position} {e : Env} {us : List Kind} {g : Owned} {k : Kind} {v : Plain} {ws : List Value} (l : Loaded a0 n x e us g k (Own v) ws) (s : Machine Position) → Only a0 (plain_state s) n (record { place = record { entry = going e us g; temps = ws }; slots = x.slots })
-    → ((o : ObjNo) → (plain_state s).object o ≡ a0.object o) → (t : Thread Position) → thread_at s.threads n ≡ Some t → (y : Typing) × Dropping (name_for s) s y (owned_piece k) v
+pub carried : {y0 : Typing} {a0 : PlainState Position} {n : ℕ} {x : Running Position} {e : Env} {us : List Kind} {g : Owned} {k : Kind} {v : Plain} {ws : List Value} (l : Loaded y0 a0 n x e us g k (Own v) ws) (s : Machine Position) → Only a0 (plain_state s) n (record { place = record { entry = going e us g; temps = ws }; slots = x.slots })
+    → ((o : ObjNo) → (plain_state s).object o ≡ a0.object o) → (t : Thread Position) → thread_at s.threads n ≡ Some t → (y : Typing) × Dropping (name_for s) s y (owned_piece k) v × (y.gives ≡ y0.gives) × NoneNew y0.exact y.exact
 carried {a0 = a0} {n = n} {x = x} {e = e} {us = us} {g = g} {k = k} {v = v} {ws = ws} l s only objects t found =
     let u = name_for s in
     let free = name_free s in
@@ -81,23 +84,25 @@ carried {a0 = a0} {n = n} {x = x} {e = e} {us = us} {g = g} {k = k} {v = v} {ws 
         none = free;
         carries = hand_goes at fc l.waits v ws l.temps u none (prepared_keys l.at u none) (prepared_over l.at u none) (plain_state s) (plain_state (with_carrier s u (owned_piece k) (l.typing.gives.result u) v)) here (λ o. objects o ∙ sym (l.objects o)) (owned_piece k) tree.0 tree.1 q.0 q.1 (beside s u (owned_piece k) (l.typing.gives.result u) v free);
       },
+      l.names,
+      λ j b f. l.refs j b (none_owns l.typing.exact (hand_at n us) hole j b (none_owns (with_type l.typing.exact (hand_at n us) (owns hole)) (slot_k u 0) tree.0 j b f)),
     )
 
 -- and is dropped
-pub discarded : {a0 : PlainState Position} {n : ℕ} {x : Running Position} {e : Env} {us : List Kind} {g : Owned} {k : Kind} {v : Plain} {ws : List Value} (l : Loaded a0 n x e us g k (Own v) ws) (s : Machine Position) → Only a0 (plain_state s) n (record { place = record { entry = going e us g; temps = ws }; slots = x.slots })
-    → ((o : ObjNo) → (plain_state s).object o ≡ a0.object o) → (t : Thread Position) → thread_at s.threads n ≡ Some t → IsTyped (dropped s v)
-discarded {k = k} {v = v} l s only objects t found = let c = carried l s only objects t found in drop_typed (name_for s) s c.0 (owned_piece k) v c.1
+pub discarded : {y0 : Typing} {a0 : PlainState Position} {n : ℕ} {x : Running Position} {e : Env} {us : List Kind} {g : Owned} {k : Kind} {v : Plain} {ws : List Value} (l : Loaded y0 a0 n x e us g k (Own v) ws) (s : Machine Position) → Only a0 (plain_state s) n (record { place = record { entry = going e us g; temps = ws }; slots = x.slots })
+    → ((o : ObjNo) → (plain_state s).object o ≡ a0.object o) → (t : Thread Position) → thread_at s.threads n ≡ Some t → IsTyped y0 (dropped s v)
+discarded {k = k} {v = v} l s only objects t found = let c = carried l s only objects t found in let d = drop_typed (name_for s) s c.0 (owned_piece k) v c.1 in (d.0, d.1, d.2 ∙ c.2, λ j b f. c.3 j b (d.3 j b f))
 
 -- a value at hand that is counted nowhere goes
-light_gone : {a0 : PlainState Position} {n : ℕ} {x : Running Position} {e : Env} {us : List Kind} {g : Owned} {k : Kind} {v : Value} {ws : List Value} (l : Loaded a0 n x e us g k v ws) (s : Machine Position) → Only a0 (plain_state s) n (record { place = record { entry = going e us g; temps = ws }; slots = x.slots })
-    → ((o : ObjNo) → (plain_state s).object o ≡ a0.object o) → ((b : Gives) (t : ℕ) → Counted (seen_as b t gone_v (Some v)) → ⊥) → IsTyped s
+light_gone : {y0 : Typing} {a0 : PlainState Position} {n : ℕ} {x : Running Position} {e : Env} {us : List Kind} {g : Owned} {k : Kind} {v : Value} {ws : List Value} (l : Loaded y0 a0 n x e us g k v ws) (s : Machine Position) → Only a0 (plain_state s) n (record { place = record { entry = going e us g; temps = ws }; slots = x.slots })
+    → ((o : ObjNo) → (plain_state s).object o ≡ a0.object o) → ((b : Gives) (t : ℕ) → Counted (seen_as b t gone_v (Some v)) → ⊥) → IsTyped y0 s
 light_gone {a0 = a0} {n = n} {x = x} {e = e} {us = us} {g = g} {k = k} {v = v} {ws = ws} l s only objects light =
     let r = ranked l.typing l.state n l.running e (k ∷ us) us (Some k) g l.at top_some l.waits in
     let long : length us ≡ length ws = let q = r.long in let p = ap length l.temps in omega (arith, q, p) in
     let value = hand_value r.typing l.state n (length us) l.running v ws l.at.runs l.temps long in
     let sl : Only a0 (plain_state s) n (record { place = record { entry = going e us g; temps = ws }; slots = l.running.slots }) = subst (λ z. Only a0 (plain_state s) n (record { place = record { entry = going e us g; temps = ws }; slots = z })) (sym l.slots) only in
     let b = pop r.typing l.state (plain_state s) n l.running e us g k v ws r.at r.focus l.waits l.temps (l.only (plain_state s) (record { place = record { entry = going e us g; temps = ws }; slots = l.running.slots }) sl) (λ o. objects o ∙ sym (l.objects o)) (λ c. light r.typing.gives n (subst Counted value c)) in
-    (b.typing, b.at.state)
+    (b.typing, b.at.state, b.names ∙ r.names ∙ l.names, λ j u f. l.refs j u (r.refs j u (b.refs j u f)))
 
 module _ (now : Position → Now) (move : Position → Option (Move Position Position)) (y : Typing) (s : Machine Position) (t : Thread Position) (p : Position) (wrap : Position → Life Position) (plug : Value → Position) where
   -- the state once the thread went on
@@ -123,24 +128,24 @@ module _ (now : Position → Now) (move : Position → Option (Move Position Pos
     stands : (labels : List Label) → thread_at (on (wrap q) labels).threads t.number ≡ Some (record { number = t.number; life = wrap q; slots = t.slots })
     stands labels = put_at s.threads (record { number = t.number; life = wrap q; slots = t.slots }) t.number refl ∙ ap (put_in (record { number = t.number; life = wrap q; slots = t.slots })) r.found
 
-    discard_by : (v : Value) → u ≡ v → Loaded (plain_state s) t.number x i.env i.after i.result i.kind v i.left → StepsTyped (moves_by now move) s t fresh.None (record { act = do_discard v; plug = λ z. wrap (plug z) })
+    discard_by : (v : Value) → u ≡ v → Loaded y (plain_state s) t.number x i.env i.after i.result i.kind v i.left → StepsTyped y (moves_by now move) s t fresh.None (record { act = do_discard v; plug = λ z. wrap (plug z) })
     discard_by (Own w) e l =
         let d = discarded l (on (wrap q) (drops (Own w))) (only (drops (Own w))) (λ o. refl) (record { number = t.number; life = wrap q; slots = t.slots }) (stands (drops (Own w))) in
-        step_by now move s t wrap (record { act = do_discard (Own w); plug = λ z. wrap (plug z) }) plug unit_value q (λ life. dropped (on life (drops (Own w))) w) (drops (Own w)) d.0 r.goes_on comes refl d.1
+        step_by now move s t wrap (record { act = do_discard (Own w); plug = λ z. wrap (plug z) }) plug unit_value q (λ life. dropped (on life (drops (Own w))) w) (drops (Own w)) y d.0 r.goes_on comes refl d.1 d.2 d.3
     discard_by (ToSlot j) e l =
         let d = light_gone l (on (wrap q) []) (only []) (λ o. refl) (λ b n c. c) in
-        step_by now move s t wrap (record { act = do_discard (ToSlot j); plug = λ z. wrap (plug z) }) plug unit_value q (λ life. on life []) [] d.0 r.goes_on comes refl d.1
+        step_by now move s t wrap (record { act = do_discard (ToSlot j); plug = λ z. wrap (plug z) }) plug unit_value q (λ life. on life []) [] y d.0 r.goes_on comes refl d.1 d.2 d.3
     discard_by (ToObject o) e l =
         let d = light_gone l (on (wrap q) []) (only []) (λ b. refl) (λ b n c. c) in
-        step_by now move s t wrap (record { act = do_discard (ToObject o); plug = λ z. wrap (plug z) }) plug unit_value q (λ life. on life []) [] d.0 r.goes_on comes refl d.1
+        step_by now move s t wrap (record { act = do_discard (ToObject o); plug = λ z. wrap (plug z) }) plug unit_value q (λ life. on life []) [] y d.0 r.goes_on comes refl d.1 d.2 d.3
     discard_by (Held m) e l =
         let d = light_gone l (on (wrap q) []) (only []) (λ b. refl) (λ b n c. c) in
-        step_by now move s t wrap (record { act = do_discard (Held m); plug = λ z. wrap (plug z) }) plug unit_value q (λ life. on life []) [] d.0 r.goes_on comes refl d.1
+        step_by now move s t wrap (record { act = do_discard (Held m); plug = λ z. wrap (plug z) }) plug unit_value q (λ life. on life []) [] y d.0 r.goes_on comes refl d.1 d.2 d.3
 
-    discard_steps : StepsTyped (moves_by now move) s t fresh.None (record { act = do_discard u; plug = λ z. wrap (plug z) })
+    discard_steps : StepsTyped y (moves_by now move) s t fresh.None (record { act = do_discard u; plug = λ z. wrap (plug z) })
     discard_steps = discard_by u refl (load y (plain_state s) t.number x i.env i.result here refl i.pops)
 
 pub discard_keeps : Keeps IsDiscard
 discard_keeps now move y s t p wrap act plug h r =
     let k : Ready y s t p wrap (do_discard h.0) plug = subst (λ a. Ready y s t p wrap a plug) h.1 r in
-    subst (λ a. StepsTyped (moves_by now move) s t fresh.None (record { act = a; plug = λ z. wrap (plug z) })) (sym h.1) (discard_steps now move y s t p wrap plug h.0 k (discard_row k.row))
+    subst (λ a. StepsTyped y (moves_by now move) s t fresh.None (record { act = a; plug = λ z. wrap (plug z) })) (sym h.1) (discard_steps now move y s t p wrap plug h.0 k (discard_row k.row))

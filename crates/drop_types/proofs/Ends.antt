@@ -21,7 +21,7 @@ use Rattle.plain_types.proofs.OneThread.{kept_still}
 use Rattle.plain_types.proofs.Focus.{top_some}
 use Rattle.plain_types.proofs.Hand.{At, ranked}
 use Rattle.plain_types.proofs.Operands.{Loaded, load}
-use Rattle.plain_types.proofs.Done.{runs_here}
+use Rattle.plain_types.proofs.Done.{names_stay, runs_here}
 use Rattle.plain_types.proofs.Slots.{owned_value}
 use Rattle.plain_types.proofs.Threads.{no_pair, put_here, put_elsewhere, pairs_same, still_here}
 use Rattle.drop_types.specs.Drops.{with_carrier}
@@ -31,6 +31,10 @@ use Rattle.drop_types.proofs.Prepared.{name_for, name_free, beside, prepared_at,
 use Rattle.drop_types.proofs.HandGoes.{hand_tree}
 use Rattle.drop_types.proofs.EndGoes.{end_goes}
 use Rattle.drop_types.proofs.Dropped.{IsTyped, drop_typed}
+use Rattle.plain_types.proofs.Refs.{none_owns}
+use Rattle.fr_store.specs.Rows.{with_type}
+use Rattle.fr_store.specs.Typed.{owns, hole}
+use Rattle.fr_store.specs.Keys.{slot_k, temp_k}
 
 record EndRow (x : Entry) (vs : List Value) (v : Value) : Type 0 where
   before : List Kind
@@ -61,11 +65,11 @@ module _ (y : Typing) (s : Machine Position) (t : Thread Position) (p : Position
   here = record { state = r.state; runs = runs_here s t p wrap (goes_by r.by) r.found r.at; entry = i.entry }
 
   -- with the operand at hand
-  module _ (l : Loaded (plain_state s) t.number x [] [] i.result (own i.result) v []) where
+  module _ (l : Loaded y (plain_state s) t.number x [] [] i.result (own i.result) v []) where
     value : (w : Plain) × (v ≡ Own w)
     value = owned_value l (ranked l.typing l.state t.number l.running [] (own i.result ∷ []) [] (Some (own i.result)) i.result l.at top_some l.waits)
 
-    gone_on : (w : Plain) → v ≡ Own w → (labels : List Label) → IsTyped (dropped (overed s t labels) w)
+    gone_on : (w : Plain) → v ≡ Own w → (labels : List Label) → IsTyped y (dropped (overed s t labels) w)
     gone_on w e labels =
         let new : Thread Position = record { number = t.number; life = over; slots = t.slots } in
         let s2 = overed s t labels in
@@ -85,11 +89,12 @@ module _ (y : Typing) (s : Machine Position) (t : Thread Position) (p : Position
         let fc = prepared_focus l.at u none [] (Some (own i.result)) top_some (λ q. cc) in
         let tree = hand_tree at fc l.waits w [] temps in
         let q = own_part (whole (own i.result)) tree.0 tree.2 in
-        drop_typed u s2 _ q.0 w (record {
+        let d = drop_typed u s2 _ q.0 w (record {
           none = free;
           carries = end_goes at fc w temps light u none (prepared_keys l.at u none) (prepared_over l.at u none) (plain_state s2) (plain_state (with_carrier s2 u q.0 (l.typing.gives.result u) w)) (ap running_in found) away (λ n. pairs n ∙ same.pairs n)
               same.mutexes same.given (λ o. sym (l.objects o)) q.0 tree.0 tree.1 q.1 q.2 (beside s2 u q.0 (l.typing.gives.result u) w free);
-        })
+        }) in
+        (d.0, d.1, d.2 ∙ l.names, λ j b f. l.refs j b (none_owns l.typing.exact (temp_k t.number 0) hole j b (none_owns (with_type l.typing.exact (temp_k t.number 0) (owns hole)) (slot_k u 0) tree.0 j b (d.3 j b f))))
 
 pub end_keeps : EndKeeps
 end_keeps now move y s t p wrap act v r =
@@ -98,12 +103,12 @@ end_keeps now move y s t p wrap act v r =
     let d = value y s t p wrap act v r i l in
     by wrap act r.by d.0 d.1 (gone_on y s t p wrap act v r i l d.0 d.1)
   where
-    by : (wrap : Position → Life Position) (act : Value → Act Position) → EndsBy wrap act → (w : Plain) → v ≡ Own w → ((labels : List Label) → IsTyped (dropped (overed s t labels) w)) → StepsTyped (moves_by now move) s t fresh.None (record { act = act v; plug = λ z. over })
+    by : (wrap : Position → Life Position) (act : Value → Act Position) → EndsBy wrap act → (w : Plain) → v ≡ Own w → ((labels : List Label) → IsTyped y (dropped (overed s t labels) w)) → StepsTyped y (moves_by now move) s t fresh.None (record { act = act v; plug = λ z. over })
     by _ _ main_ends w e typed =
         let labels = drops (Own w) ++ label.End t.number ∷ [] in
         let k = typed labels in
-        record { next = record { state = dropped (overed s t labels) w; labels = labels }; is = ap (λ a. done_act (moves_by now move) s t fresh.None (record { act = do_end v; plug = λ z. over }) (do_end a)) e; typing = k.0; typed = k.1 }
+        record { next = record { state = dropped (overed s t labels) w; labels = labels }; is = ap (λ a. done_act (moves_by now move) s t fresh.None (record { act = do_end v; plug = λ z. over }) (do_end a)) e; typing = k.0; typed = k.1; kept = names_stay k.2; refs = k.3 }
     by _ _ loose_ends w e typed =
         let labels = label.End t.number ∷ [] in
         let k = typed labels in
-        record { next = record { state = dropped (overed s t labels) w; labels = labels }; is = ap (λ a. done_act (moves_by now move) s t fresh.None (record { act = do_leave v; plug = λ z. over }) (do_leave a)) e; typing = k.0; typed = k.1 }
+        record { next = record { state = dropped (overed s t labels) w; labels = labels }; is = ap (λ a. done_act (moves_by now move) s t fresh.None (record { act = do_leave v; plug = λ z. over }) (do_leave a)) e; typing = k.0; typed = k.1; kept = names_stay k.2; refs = k.3 }

@@ -1,5 +1,5 @@
 -- The end of a drop: the carrier goes with its value.
-use Rattle.std.proofs.Common.{◌≡◌, ◌≢◌, ⊎_elim, ◌∙◌, ℕ, ◌<◌, Bool, Some, None, sym, ap, subst}
+use Rattle.std.proofs.Common.{◌≡◌, ◌≢◌, ⊎_elim, ◌∙◌, ℕ, ◌<◌, Bool, Some, None, refl, sym, ap, subst}
 use Rattle.fr_base.specs.declared.label.Plain.{Plain}
 use Rattle.fr_base.specs.declared.name.ObjNo.{ObjNo}
 use Rattle.fr_base.specs.declared.name.MutexNo.{MutexNo}
@@ -23,6 +23,7 @@ use Rattle.drop_types.proofs.Carrier.{Carries, carrier_alone, carrier_free, carr
 use Rattle.drop_types.proofs.Shapes.{Went, went_carried, went_nowhere, went_typed}
 use Rattle.drop_types.proofs.After.{After, after_none, elsewhere}
 use Rattle.drop_types.proofs.Unboxed.{not_mine}
+use Rattle.plain_types.proofs.Refs.{NoneNew, none_owns}
 
 module _ {y : Typing} {a : PlainState Position} {u : ℕ} {p : Piece} {v : Plain} (c : Carries y a u p v) (a2 : PlainState Position) (none : a2.thread u ≡ None) (places : (k : ℕ) → k ≢ u → place_in (a2.thread k) ≡ place_in (a.thread k)) (results : (k : ℕ) → result_val temps_of y k (a2.thread k) ≡ result_val temps_of y k (a.thread k))
     (pairs : (k : ℕ) → a2.pair k ≡ a.pair k) (contents : (m : MutexNo) → content_val y.gives (a2.mutex m) ≡ content_val y.gives (a.mutex m)) (given : (m : MutexNo) → a2.is_given m ≡ a.is_given m) (objects : (b : ObjNo) → a2.object b ≡ a.object b)
@@ -112,7 +113,7 @@ results_by {y = y} {a = a} {u = u} c a2 none others k =
 
 module _ {y : Typing} {a : PlainState Position} {u : ℕ} {p : Piece} {v : Plain} (c : Carries y a u p v) (flat : Counted (owned_val y.gives v) → ⊥) (a2 : PlainState Position) (none : a2.thread u ≡ None) (others : (k : ℕ) → k ≢ u → a2.thread k ≡ a.thread k) (pairs : (k : ℕ) → a2.pair k ≡ a.pair k)
     (mutexes : (m : MutexNo) → a2.mutex m ≡ a.mutex m) (given : (m : MutexNo) → a2.is_given m ≡ a.is_given m) (objects : (b : ObjNo) → a2.object b ≡ a.object b) (made : (b : ObjNo) (w : Plain) (z : Running Position) → a2.object b ≡ Some w → place_in (a2.thread b.thread) ≡ Some z → b.count < a2.made b.thread) where
-  pub flat_leaves : (z : Typing) × PositionTypes z a2
+  pub flat_leaves : (z : Typing) × PositionTypes z a2 × (z.gives ≡ y.gives) × NoneNew y.exact z.exact
   flat_leaves = (
     typing_with y (with_type y.exact (slot_k u 0) (owns hole)) y.marks,
     carrier_leaves c a2 none (λ k ne. ap place_in (others k ne)) (results_by c a2 none others) pairs (λ m. ap (content_val y.gives) (mutexes m)) given objects made
@@ -123,4 +124,6 @@ module _ {y : Typing} {a : PlainState Position} {u : ℕ} {p : Piece} {v : Plain
         (λ m ne. mutexes m)
         (λ m d e. absurd (flat (subst Counted (sym e) tt)))
         (λ m d e. absurd (flat (subst Counted (sym e) tt))),
+    refl,
+    none_owns y.exact (slot_k u 0) hole,
   )

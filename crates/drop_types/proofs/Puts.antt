@@ -139,6 +139,8 @@ pub record Target (y : Typing) (a : PlainState Position) (t u : ℕ) (e e2 : Env
   pub typed : Typed y.rank types (swap (store y a) (slot_k u 0) loc)
   pub full : types (slot_k u 0) ≡ owns tree
   pub refs : (j : Key) (m : Bool) (z : Place) → types j ≡ refers m z → y.exact j ≡ refers m z
+  -- no mutable reference stands in a variable that is written
+  pub kept : (z : Place) → w.depth ≡ 0 → types (slot_k t w.slot) ≡ refers true z → ⊥
   pub off : (j : Key) → j ≢ slot_k u 0 → ((i : ℕ) → j ≢ slot_k t i) → types j ≡ y.exact j
   pub nested : IsNested e2
   pub below : SlotsBelow (slot_k t) types e2

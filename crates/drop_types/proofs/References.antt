@@ -1,5 +1,5 @@
 -- An assignment keeps a state typed: of a reference to a variable, and of any value.
-use Rattle.std.proofs.Common.{◌≡◌, ◌∙◌, ap₂, ℕ, zero, ◌<◌, true, false, List, [], ◌∷◌, ◌++◌, length, Option, Some, refl, sym, ap, subst, arith}
+use Rattle.std.proofs.Common.{◌≡◌, ◌∙◌, ap₂, ℕ, zero, ◌<◌, true, false, List, [], ◌∷◌, ◌++◌, length, Option, Some, refl, sym, ap, subst, arith, ◌⊎◌, ◌≢◌, inl, inr}
 use Rattle.std.specs.Prelude.{◌&&◌, nat_lt, not}
 use Rattle.fr_base.specs.declared.label.Plain.TheVariants as plain
 use Rattle.fr_base.specs.declared.label.Label.{Label}
@@ -18,23 +18,26 @@ use Rattle.fr_plain.specs.PlainState.{Running, plain_state}
 use Rattle.fr_sound.specs.Entries.{Entry, going}
 use Rattle.fr_sound.specs.States.{Typing, RunningTyped, env_at, is_hidden, is_held}
 use Rattle.fr_sound.proofs.SeenLemmas.{slot_there}
-use Rattle.plain_types.specs.Positions.{Position, Knows, temps_of, moves_by}
+use Rattle.plain_types.specs.Positions.{Position, Knows, temps_of, moves_by, PositionTypes}
 use Rattle.plain_types.proofs.OneThread.{store}
 use Rattle.plain_types.proofs.AtHand.{Only}
 use Rattle.plain_types.proofs.Slots.{owned_value}
 use Rattle.plain_types.specs.ActRows.{left_after}
-use Rattle.plain_types.specs.Keeps.{Ready, StepsTyped, Keeps}
-use Rattle.plain_types.proofs.Focus.{top_some}
+use Rattle.plain_types.specs.Keeps.{Ready, StepsTyped, Keeps, CameFrom, puts}
+use Rattle.plain_types.proofs.Focus.{top_some, hand_at}
 use Rattle.plain_types.proofs.Hand.{At, ranked}
 use Rattle.plain_types.proofs.Operands.{Loaded, load}
 use Rattle.plain_types.proofs.Places.{variable_below, variable_seen}
 use Rattle.plain_types.proofs.Done.{runs_here, only_here, step_by}
 use Rattle.drop_types.specs.DropActs.{IsAssign}
-use Rattle.drop_types.proofs.Dropped.{IsTyped, nothing_dropped}
+use Rattle.drop_types.proofs.Dropped.{nothing_dropped}
 use Rattle.drop_types.proofs.SlotDrops.{names_below}
 use Rattle.drop_types.proofs.Turned.{turned, old_nothing}
 use Rattle.std.proofs.lemmas.Bool.{ltb-false}
 use Rattle.drop_types.proofs.Assigns.{AssignRow, assign_row, assign_steps}
+use Rattle.fr_store.specs.Keys.{Key, slot_k}
+use Rattle.fr_store.specs.Store.{Place}
+use Rattle.fr_store.specs.Typed.{refers}
 
 -- A REFERENCE
 
@@ -55,7 +58,7 @@ module _ (now : Position → Now) (move : Position → Option (Move Position Pos
   here : At y (plain_state s) t.number x i.env i.temps i.result
   here = record { state = r.state; runs = runs_here s t p wrap r.goes_on r.found r.at; entry = i.entry }
 
-  loaded : Loaded (plain_state s) t.number x i.env i.after i.result i.kind v i.left
+  loaded : Loaded y (plain_state s) t.number x i.env i.after i.result i.kind v i.left
   loaded = load y (plain_state s) t.number x i.env i.result here refl i.pops
 
   module _ (ref : is_owned i.kind ≡ false) where
@@ -99,12 +102,17 @@ module _ (now : Position → Now) (move : Position → Option (Move Position Pos
     is_typed : type_at i.env (record { slot = w.slot; depth = 0 }) ≡ found i.piece
     is_typed = ap (type_at i.env) (sym w_is) ∙ i.is.is
 
-    typed : (labels : List Label) → IsTyped (on (wrap q) labels)
+    typed : (labels : List Label) → (z : Typing) × PositionTypes z (plain_state (on (wrap q) labels)) × (z.gives ≡ y.gives) × ((j : Key) (b : Place) → z.exact j ≡ refers true b → ((y.exact j ≡ refers true b) × (j ≢ slot_k t.number w.slot)) ⊎ ((j ≡ slot_k t.number w.slot) × (y.exact (hand_at t.number i.after) ≡ refers true b)))
     typed labels =
         turned loaded w.slot i.piece ref lt is_typed i.shape i.open_place.free (names_below w.slot i.kind i.names) old.0 old.1 unheld (plain_state (on (wrap q) labels))
         (subst (λ z. Only loaded.state (plain_state (on (wrap q) labels)) t.number (record { place = q; slots = with_slot z w.slot v })) (sym loaded.slots)
         (loaded.only (plain_state (on (wrap q) labels)) (record { place = q; slots = with_slot t.slots w.slot v }) (only_here s t p wrap r.goes_on r.found r.at q (with_slot t.slots w.slot v) s.heap (s.output ++ prints labels) (λ z. omega arith))))
         (λ o. sym (loaded.objects o))
+
+    -- where a mutable reference came from
+    came : {j : Key} {b : Place} → ((y.exact j ≡ refers true b) × (j ≢ slot_k t.number w.slot)) ⊎ ((j ≡ slot_k t.number w.slot) × (y.exact (hand_at t.number i.after) ≡ refers true b)) → CameFrom (puts w) t.number (length t.slots) y.exact j b
+    came (inl h) = inl (h.0, λ flat. h.1)
+    came (inr h) = inr (h.0, (length i.after, h.1))
 
     abbrev steps : Lval → Option Value → Option (Stepped Position)
     steps d o = nameless fresh.None (then_released (end_of_some s.heap o) (stepped (moves_by now move) s t m (assign_did (state_of s t) v (record { spot = in_slot w.slot; passed = [] }) o)))
@@ -112,29 +120,29 @@ module _ (now : Position → Now) (move : Position → Option (Move Position Pos
     done : (b : Value) → old.0 ≡ b → done_act (moves_by now move) s t fresh.None m (do_assign w v) ≡ steps w (Some b)
     done b f = ap (λ d. nameless fresh.None (alone_stepped (moves_by now move) s t m (do_assign d v))) w_is ∙ ap (steps w) (subst (λ z. slot_at z w.slot ≡ Some b) loaded.slots (old.1 ∙ ap Some f))
 
-    by_old : (b : Value) → old.0 ≡ b → StepsTyped (moves_by now move) s t fresh.None (record { act = do_assign w v; plug = λ z. wrap (plug z) })
+    by_old : (b : Value) → old.0 ≡ b → StepsTyped y (moves_by now move) s t fresh.None (record { act = do_assign w v; plug = λ z. wrap (plug z) })
     by_old (Own b) f =
         let none = old_nothing loaded w.slot i.piece ref lt is_typed i.shape i.open_place.free (names_below w.slot i.kind i.names) old.0 old.1 unheld b f in
         let labels = drops (Own plain.Nothing) ++ stores (in_slot w.slot) v in
         let a = typed labels in
-        let d = nothing_dropped (on (wrap q) labels) a in
-        step_by now move s t wrap m plug unit_value q (λ life. dropped (on life labels) plain.Nothing) labels d.0 r.goes_on comes (done (Own plain.Nothing) (f ∙ ap Own none)) d.1
-    by_old (ToSlot j) f = let labels = stores (in_slot w.slot) v in let a = typed labels in step_by now move s t wrap m plug unit_value q (λ life. on life labels) labels a.0 r.goes_on comes (done (ToSlot j) f) a.1
-    by_old (ToObject o) f = let labels = stores (in_slot w.slot) v in let a = typed labels in step_by now move s t wrap m plug unit_value q (λ life. on life labels) labels a.0 r.goes_on comes (done (ToObject o) f) a.1
+        let d = nothing_dropped a.0 (on (wrap q) labels) (a.0, a.1, refl, λ j b h. h) in
+        step_by now move s t wrap m plug unit_value q (λ life. dropped (on life labels) plain.Nothing) labels y d.0 r.goes_on comes (done (Own plain.Nothing) (f ∙ ap Own none)) d.1 (d.2 ∙ a.2) (λ j b h. came (a.3 j b (d.3 j b h)))
+    by_old (ToSlot j) f = let labels = stores (in_slot w.slot) v in let a = typed labels in step_by now move s t wrap m plug unit_value q (λ life. on life labels) labels y a.0 r.goes_on comes (done (ToSlot j) f) a.1 a.2 (λ j b h. came (a.3 j b h))
+    by_old (ToObject o) f = let labels = stores (in_slot w.slot) v in let a = typed labels in step_by now move s t wrap m plug unit_value q (λ life. on life labels) labels y a.0 r.goes_on comes (done (ToObject o) f) a.1 a.2 (λ j b h. came (a.3 j b h))
     by_old (Held n) f = let g : true ≡ false = sym (ap (λ z. is_held (Some z)) f) ∙ unheld in absurd cc
 
   -- by the kind
-  assign_any : StepsTyped (moves_by now move) s t fresh.None (record { act = do_assign w v; plug = λ z. wrap (plug z) })
+  assign_any : StepsTyped y (moves_by now move) s t fresh.None (record { act = do_assign w v; plug = λ z. wrap (plug z) })
   assign_any = by i.kind refl
     where
-      owned : (o : Owned) → i.kind ≡ own o → StepsTyped (moves_by now move) s t fresh.None (record { act = do_assign w v; plug = λ z. wrap (plug z) })
+      owned : (o : Owned) → i.kind ≡ own o → StepsTyped y (moves_by now move) s t fresh.None (record { act = do_assign w v; plug = λ z. wrap (plug z) })
       owned o f =
-          let l : Loaded (plain_state s) t.number x i.env i.after i.result (own o) v i.left = subst (λ k. Loaded (plain_state s) t.number x i.env i.after i.result k v i.left) f loaded in
+          let l : Loaded y (plain_state s) t.number x i.env i.after i.result (own o) v i.left = subst (λ k. Loaded y (plain_state s) t.number x i.env i.after i.result k v i.left) f loaded in
           let b = owned_value l (ranked l.typing l.state t.number l.running i.env (own o ∷ i.after) i.after (Some (own o)) i.result l.at top_some l.waits) in
           let ready : Ready y s t p wrap (do_assign w (Own b.0)) plug = subst (λ z. Ready y s t p wrap (do_assign w z) plug) b.1 r in
-          subst (λ z. StepsTyped (moves_by now move) s t fresh.None (record { act = do_assign w z; plug = λ d. wrap (plug d) })) (sym b.1) (assign_steps now move y s t p wrap plug w b.0 ready (assign_row ready.row))
+          subst (λ z. StepsTyped y (moves_by now move) s t fresh.None (record { act = do_assign w z; plug = λ d. wrap (plug d) })) (sym b.1) (assign_steps now move y s t p wrap plug w b.0 ready (assign_row ready.row))
 
-      by : (k : Kind) → i.kind ≡ k → StepsTyped (moves_by now move) s t fresh.None (record { act = do_assign w v; plug = λ z. wrap (plug z) })
+      by : (k : Kind) → i.kind ≡ k → StepsTyped y (moves_by now move) s t fresh.None (record { act = do_assign w v; plug = λ z. wrap (plug z) })
       by (own o) f = owned o f
       by (shared us) f = let ref = ap is_owned f in by_old ref (old ref).0 refl
       by (mutable us) f = let ref = ap is_owned f in by_old ref (old ref).0 refl
@@ -143,4 +151,4 @@ module _ (now : Position → Now) (move : Position → Option (Move Position Pos
 pub assign_keeps : Keeps IsAssign
 assign_keeps now move y s t p wrap act plug h r =
     let k : Ready y s t p wrap (do_assign h.0 h.1) plug = subst (λ a. Ready y s t p wrap a plug) h.2 r in
-    subst (λ a. StepsTyped (moves_by now move) s t fresh.None (record { act = a; plug = λ z. wrap (plug z) })) (sym h.2) (assign_any now move y s t p wrap plug h.0 h.1 k (assign_row k.row))
+    subst (λ a. StepsTyped y (moves_by now move) s t fresh.None (record { act = a; plug = λ z. wrap (plug z) })) (sym h.2) (assign_any now move y s t p wrap plug h.0 h.1 k (assign_row k.row))

@@ -12,6 +12,7 @@ use Rattle.plain_types.proofs.OneThread.{CarriedOf, Carried, Counted}
 use Rattle.plain_types.proofs.Moved.{flip, flip_first, flip_second, flip_third, flip_twice}
 use Rattle.plain_types.proofs.SlotTurn.{alike_swap}
 use Rattle.drop_types.proofs.Lost.{Others}
+use Rattle.plain_types.proofs.Refs.{NoneNew, none_owns}
 
 -- a value isn't other than itself
 others_self : (w : Val) → Others w w → ⊥
@@ -122,6 +123,10 @@ light_carried {s = s} {s2 = s2} {h = h} {w = w} k light = record {
 -- key k is left with nothing, and key h has what k had
 abbrev pub came_types : KeyTypes → Key → Key → Tree → KeyTypes
 came_types E h k t = with_type (with_type (with_type E h (owns hole)) k (owns hole)) h (owns t)
+
+-- no mutable reference is new
+pub came_none : (E : KeyTypes) (h k : Key) (t : Tree) → NoneNew E (came_types E h k t)
+came_none E h k t j u e = let E1 = with_type E h (owns hole) in none_owns E h hole j u (none_owns E1 k hole j u (none_owns (with_type E1 k (owns hole)) h t j u e))
 
 pub came_typed : (rank : Key → ℕ) (E : KeyTypes) (s s2 : Store) (h k : Key) (w c : Val) (t : Tree) → Came s s2 h (at_key k) w c → s2.at k ≡ gone_v → Typed rank E s → Unnamed E h → Unnamed E k → h ≢ k → E k ≡ owns t → Typed rank (came_types E h k t) s2
 came_typed rank E s s2 h k w c t came left typed free_h free_k ne full =

@@ -1,5 +1,5 @@
 -- The end of a drop of one value of a mutex of several.
-use Rattle.std.proofs.Common.{◌≡◌, ◌≢◌, ⊎_elim, ◌∙◌, ℕ, suc, ◌<◌, Option, Some, None, sym, ap, subst, arith}
+use Rattle.std.proofs.Common.{◌≡◌, ◌≢◌, ⊎_elim, ◌∙◌, ℕ, suc, ◌<◌, Option, Some, None, refl, sym, ap, subst, arith}
 use Rattle.fr_base.specs.declared.label.Plain.{Plain}
 use Rattle.fr_base.specs.declared.label.Plain.TheVariants as plain
 use Rattle.fr_base.specs.declared.name.ObjNo.{ObjNo}
@@ -21,6 +21,7 @@ use Rattle.drop_types.proofs.Carrier.{Carries}
 use Rattle.drop_types.proofs.Shapes.{Went}
 use Rattle.drop_types.proofs.Fewer.{one_fewer}
 use Rattle.drop_types.proofs.Leaves.{carrier_leaves, kept_off, none_off, results_by}
+use Rattle.plain_types.proofs.Refs.{NoneNew, none_owns}
 
 module _ {y : Typing} {a : PlainState Position} {u : ℕ} {p : Piece} {m : MutexNo} (c : Carries y a u p (plain.Mutex m)) (content : Option Plain) (n : ℕ) (was : a.mutex m ≡ Some (record { content = content; shares = suc (suc n) })) (a2 : PlainState Position) (none : a2.thread u ≡ None) (others : (k : ℕ) → k ≢ u → a2.thread k ≡ a.thread k) (pairs : (k : ℕ) → a2.pair k ≡ a.pair k)
     (now : a2.mutex m ≡ Some (record { content = content; shares = suc n })) (mutexes : (k : MutexNo) → k ≢ m → a2.mutex k ≡ a.mutex k) (given : (k : MutexNo) → a2.is_given k ≡ a.is_given k) (objects : (b : ObjNo) → a2.object b ≡ a.object b)
@@ -57,7 +58,7 @@ module _ {y : Typing} {a : PlainState Position} {u : ℕ} {p : Piece} {m : Mutex
         content = λ w f. key_other (content_k m.home m.count) (slot_k u 0) (owns hole) (y.exact (content_k m.home m.count)) (λ e. cc) ∙ h.content w f;
       }
 
-  pub share_leaves : (z : Typing) × PositionTypes z a2
+  pub share_leaves : (z : Typing) × PositionTypes z a2 × (z.gives ≡ y.gives) × NoneNew y.exact z.exact
   share_leaves = (
     typing_with y (with_type y.exact (slot_k u 0) (owns hole)) y.marks,
     carrier_leaves c a2 none (λ k ne. ap place_in (others k ne)) (results_by c a2 none others) pairs contents given objects made
@@ -72,4 +73,6 @@ module _ {y : Typing} {a : PlainState Position} {u : ℕ} {p : Piece} {m : Mutex
         let g : Some fewer ≡ Some z = sym now ∙ ap a2.mutex same ∙ f in
         let is : fewer ≡ z = cc in
         subst (λ i. MutexTyped (typing_with y E2 y.marks) a2 s2 i z) same (subst (MutexTyped (typing_with y E2 y.marks) a2 s2 m) is (typed went (λ j i q. subst (λ b. IsMark a2 b j i) (sym same) (to j i (subst (λ b. IsMark a b j i) same q))) (λ j i q. subst (λ b. IsMark a b j i) (sym same) (back j i (subst (λ b. IsMark a2 b j i) same q)))))),
+    refl,
+    none_owns y.exact (slot_k u 0) hole,
   )

@@ -41,6 +41,10 @@ use Rattle.drop_types.proofs.Handed.{own_part}
 use Rattle.drop_types.proofs.Prepared.{name_for, name_free, beside, prepared_at, prepared_focus, prepared_keys, prepared_over}
 use Rattle.drop_types.proofs.SlotGoes.{slot_tree, slot_goes, slot_light}
 use Rattle.drop_types.proofs.Dropped.{IsTyped, drop_typed}
+use Rattle.plain_types.proofs.Refs.{none_owns}
+use Rattle.fr_store.specs.Rows.{with_type}
+use Rattle.fr_store.specs.Typed.{owns, hole}
+use Rattle.fr_store.specs.Keys.{slot_k}
 
 record DropRow (x : Entry) (vs : List Value) (l : Leaves) (z : Entry) : Type 0 where
   env : Env
@@ -130,14 +134,14 @@ module _ (now : Position → Now) (move : Position → Option (Move Position Pos
         sym (ap is_held (ap (λ z. slot_at z (length i.env)) slots ∙ pushed_here v vs (length i.env) long)) ∙ sym (run.hidden (length i.env)) ∙ ap (λ (z : Entry). is_hidden (env_at z.env (length i.env))) e_is
         ∙ ap is_hidden (here_new i.slot i.env (length i.env) refl) ∙ ap not i.named
 
-    light : (labels : List Label) → ((b : Gives) (n : ℕ) (l : Location) → Counted (seen_as b n (ref_v l) (Some v)) → ⊥) → IsTyped (on vs (wrap q) labels)
+    light : (labels : List Label) → ((b : Gives) (n : ℕ) (l : Location) → Counted (seen_as b n (ref_v l) (Some v)) → ⊥) → IsTyped y (on vs (wrap q) labels)
     light labels plain =
         let u = name_for s in
         let ne : u ≢ t.number = λ z. (let f : None ≡ Some t = sym (name_free s) ∙ ap (thread_at s.threads) z ∙ r.found in cc) in
         let none : (plain_state s).thread u ≡ None = ap running_in (name_free s) in
-        (_, slot_light (prepared_at here u none) (prepared_focus here u none h.below h.hand h.tops h.idle) h.tops h.idle i.named i.unlocked h.low v unheld vs slots (plain y.gives t.number (y.marks t.number (length i.env))) (plain_state (on vs (wrap q) labels)) (only vs labels) (λ b. refl))
+        (_, slot_light (prepared_at here u none) (prepared_focus here u none h.below h.hand h.tops h.idle) h.tops h.idle i.named i.unlocked h.low v unheld vs slots (plain y.gives t.number (y.marks t.number (length i.env))) (plain_state (on vs (wrap q) labels)) (only vs labels) (λ b. refl), refl, none_owns y.exact (slot_k t.number (length i.env)) hole)
 
-    owned : (w : Plain) → v ≡ Own w → (labels : List Label) → IsTyped (dropped (on vs (wrap q) labels) w)
+    owned : (w : Plain) → v ≡ Own w → (labels : List Label) → IsTyped y (dropped (on vs (wrap q) labels) w)
     owned w e labels =
         let s2 = on vs (wrap q) labels in
         let u = name_for s2 in
@@ -151,18 +155,19 @@ module _ (now : Position → Now) (move : Position → Option (Move Position Pos
         let fc = prepared_focus here u none h.below h.hand h.tops h.idle in
         let tree = slot_tree at fc h.tops h.idle i.named i.unlocked h.low v unheld vs slots w e in
         let part = own_part i.slot.part tree.0 tree.2 in
-        drop_typed u s2 _ part.0 w (record {
+        let d = drop_typed u s2 _ part.0 w (record {
           none = free;
           carries = slot_goes at fc h.tops h.idle i.named i.unlocked h.low v unheld vs slots w e u none (prepared_keys here u none) (prepared_over here u none) (plain_state s2) (plain_state (with_carrier s2 u part.0 (y.gives.result u) w)) away (λ b. refl) part.0 tree.0 tree.1 part.1 part.2 (beside s2 u part.0 (y.gives.result u) w free);
-        })
+        }) in
+        (d.0, d.1, d.2, λ j b f. none_owns y.exact (slot_k t.number (length i.env)) hole j b (none_owns (with_type y.exact (slot_k t.number (length i.env)) (owns hole)) (slot_k u 0) tree.0 j b (d.3 j b f)))
 
-  by_value : (v : Value) (vs : List Value) → t.slots ≡ v ∷ vs → StepsTyped (moves_by now move) s t fresh.None (record { act = do_drop; plug = λ z. wrap (plug z) })
-  by_value (Own w) vs e = let d = owned (Own w) vs e w refl (drops (Own w)) in step_by now move s t wrap m plug unit_value q (λ life. dropped (on vs life (drops (Own w))) w) (drops (Own w)) d.0 r.goes_on comes (ap steps e) d.1
-  by_value (ToSlot j) vs e = let d = light (ToSlot j) vs e [] (λ b n l c. c) in step_by now move s t wrap m plug unit_value q (λ life. on vs life []) [] d.0 r.goes_on comes (ap steps e) d.1
-  by_value (ToObject o) vs e = let d = light (ToObject o) vs e [] (λ b n l c. c) in step_by now move s t wrap m plug unit_value q (λ life. on vs life []) [] d.0 r.goes_on comes (ap steps e) d.1
+  by_value : (v : Value) (vs : List Value) → t.slots ≡ v ∷ vs → StepsTyped y (moves_by now move) s t fresh.None (record { act = do_drop; plug = λ z. wrap (plug z) })
+  by_value (Own w) vs e = let d = owned (Own w) vs e w refl (drops (Own w)) in step_by now move s t wrap m plug unit_value q (λ life. dropped (on vs life (drops (Own w))) w) (drops (Own w)) y d.0 r.goes_on comes (ap steps e) d.1 d.2 d.3
+  by_value (ToSlot j) vs e = let d = light (ToSlot j) vs e [] (λ b n l c. c) in step_by now move s t wrap m plug unit_value q (λ life. on vs life []) [] y d.0 r.goes_on comes (ap steps e) d.1 d.2 d.3
+  by_value (ToObject o) vs e = let d = light (ToObject o) vs e [] (λ b n l c. c) in step_by now move s t wrap m plug unit_value q (λ life. on vs life []) [] y d.0 r.goes_on comes (ap steps e) d.1 d.2 d.3
   by_value (Held n) vs e = let f : true ≡ false = unheld (Held n) vs e in absurd cc
 
-  drop_steps : StepsTyped (moves_by now move) s t fresh.None (record { act = do_drop; plug = λ z. wrap (plug z) })
+  drop_steps : StepsTyped y (moves_by now move) s t fresh.None (record { act = do_drop; plug = λ z. wrap (plug z) })
   drop_steps =
       let run = r.state.threads t.number x here.runs in
       let k = taken_apart t.slots (length i.env) (run.all_slots ∙ ap (λ (z : Entry). length z.env) (sym run.known ∙ i.entry)) in
@@ -171,4 +176,4 @@ module _ (now : Position → Now) (move : Position → Option (Move Position Pos
 pub drop_slot_keeps : Keeps IsDrop
 drop_slot_keeps now move y s t p wrap act plug h r =
     let k : Ready y s t p wrap do_drop plug = subst (λ a. Ready y s t p wrap a plug) h r in
-    subst (λ a. StepsTyped (moves_by now move) s t fresh.None (record { act = a; plug = λ z. wrap (plug z) })) (sym h) (drop_steps now move y s t p wrap plug k (drop_row k.row))
+    subst (λ a. StepsTyped y (moves_by now move) s t fresh.None (record { act = a; plug = λ z. wrap (plug z) })) (sym h) (drop_steps now move y s t p wrap plug k (drop_row k.row))

@@ -7,7 +7,7 @@ use Rattle.fr_typing.specs.Kinds.{Owned, unit, int, box, mutex, task, Kind, own,
 use Rattle.fr_typing.specs.Places.{Env, owned_shape, piece_shape, shape_at, found, type_at, write_blocked, on_path, is_mutable, is_writable, is_own_path, put_at}
 use Rattle.fr_store.specs.Keys.{slot_k}
 use Rattle.fr_store.specs.Store.{gone_v, ref_v}
-use Rattle.fr_store.specs.Typed.{TopFits, owns}
+use Rattle.fr_store.specs.Typed.{TopFits, owns, refers}
 use Rattle.fr_store.specs.Below.{tree_of}
 use Rattle.fr_store.specs.Thread.{place_of}
 use Rattle.fr_store.proofs.Rows.{found_place, swap_through, not_to, sole}
@@ -32,6 +32,9 @@ use Rattle.drop_types.proofs.Handed.{own_part}
 use Rattle.drop_types.proofs.Placed.{stood, place, placed_typed, placed_full, placed_off, placed_nested, placed_below, placed_above, placed_parts, placed_away}
 use Rattle.drop_types.proofs.Puts.{Target}
 use Rattle.drop_types.proofs.Lent.{lent_to, loaned_self}
+use Rattle.fr_store.specs.Rows.{with_type}
+use Rattle.fr_store.specs.Changes.{put_tree}
+use Rattle.fr_store.proofs.Keys.{key_same, key_other}
 
 some_there : (x : Owned) → TopFits (tree_of x) gone_v → ⊥
 some_there unit f = cc
@@ -67,6 +70,10 @@ module _ {y : Typing} {a : PlainState Position} {t : ℕ} {r : Running Position}
         typed = placed_typed at fc k differ w p lt is shape free mine b.0 b.1 b.2 b.3 b.4;
         full = placed_full at fc k differ w p lt is shape free mine b.0 b.1 b.2 b.3 b.4;
         refs = swapped_refs y.exact (slot_k u 0) (slot_k t w.slot) w.depth (tree_of x) b.2 b.0;
+        kept = λ z flat h.
+            let q = owns (put_tree w.depth (tree_of x) b.2) in
+            let f : q ≡ refers true z = sym (key_same (slot_k t w.slot) q (y.exact (slot_k t w.slot))) ∙ sym (key_other (slot_k t w.slot) (slot_k u 0) (owns b.0) (with_type y.exact (slot_k t w.slot) q (slot_k t w.slot)) apart) ∙ h in
+            cc;
         off = placed_off at fc k differ w p lt is shape free mine b.0 b.1 b.2 b.3 b.4;
         nested = placed_nested at fc k differ w p lt is shape free mine b.0 b.1 b.2 b.3 b.4;
         below = placed_below at fc k differ w p lt is shape free mine b.0 b.1 b.2 b.3 b.4;
@@ -101,6 +108,7 @@ module _ {y : Typing} {a : PlainState Position} {t : ℕ} {r : Running Position}
         typed = swap_through y.rank y.exact (store y a) (slot_k u 0) (place_of (slot_k t) w) b.0 b.1 (tree_of x) l.loc fc.thread.typed (carrier_free k) (λ z. apart (sym z)) full unnamed b.2 l.at;
         full = full;
         refs = λ j m z h. h;
+        kept = λ z flat h. let f : true ≡ false = sym lent ∙ ap (on_path is_mutable e w.slot) flat in cc;
         off = λ j nh ns. refl;
         nested = fc.thread.nested;
         below = fc.thread.slots;

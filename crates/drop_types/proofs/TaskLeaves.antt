@@ -1,5 +1,5 @@
 -- The end of a drop of the task of a thread that goes on: nobody owns that thread any more.
-use Rattle.std.proofs.Common.{◌≡◌, ◌≢◌, ⊎_elim, ◌∙◌, ℕ, ◌<◌, Some, None, sym, ap, subst}
+use Rattle.std.proofs.Common.{◌≡◌, ◌≢◌, ⊎_elim, ◌∙◌, ℕ, ◌<◌, Some, None, refl, sym, ap, subst}
 use Rattle.fr_base.specs.declared.label.Plain.{Plain}
 use Rattle.fr_base.specs.declared.label.Plain.TheVariants as plain
 use Rattle.fr_base.specs.declared.name.ObjNo.{ObjNo}
@@ -18,6 +18,7 @@ use Rattle.plain_types.specs.Positions.{Position, temps_of, PositionTypes}
 use Rattle.plain_types.proofs.OneThread.{typing_with}
 use Rattle.drop_types.proofs.Carrier.{Carries}
 use Rattle.drop_types.proofs.Leaves.{carrier_leaves, kept_off, none_off}
+use Rattle.plain_types.proofs.Refs.{NoneNew, none_owns}
 
 module _ {y : Typing} {a : PlainState Position} {u : ℕ} {p : Piece} {n : ℕ} (c : Carries y a u p (plain.Task n)) (x : Running Position) (was : a.thread n ≡ Some (owing x)) (a2 : PlainState Position) (none : a2.thread u ≡ None) (now : a2.thread n ≡ Some (loose x)) (others : (k : ℕ) → k ≢ u → k ≢ n → a2.thread k ≡ a.thread k) (pairs : (k : ℕ) → a2.pair k ≡ a.pair k)
     (mutexes : (m : MutexNo) → a2.mutex m ≡ a.mutex m) (given : (m : MutexNo) → a2.is_given m ≡ a.is_given m) (objects : (b : ObjNo) → a2.object b ≡ a.object b) (made : (b : ObjNo) (w : Plain) (z : Running Position) → a2.object b ≡ Some w → place_in (a2.thread b.thread) ≡ Some z → b.count < a2.made b.thread) where
@@ -35,7 +36,7 @@ module _ {y : Typing} {a : PlainState Position} {u : ℕ} {p : Piece} {n : ℕ} 
       ⊎_elim (λ (e : k ≡ u). ap (λ i. result_val temps_of y i (a2.thread i)) e ∙ ap (result_val temps_of y u) none ∙ sym (ap (result_val temps_of y u) c.here) ∙ ap (λ i. result_val temps_of y i (a.thread i)) (sym e))
       (λ (nu : k ≢ u). ⊎_elim (λ (e : k ≡ n). ap (λ i. result_val temps_of y i (a2.thread i)) e ∙ ap (result_val temps_of y n) now ∙ sym (ap (result_val temps_of y n) was) ∙ ap (λ i. result_val temps_of y i (a.thread i)) (sym e)) (λ (nn : k ≢ n). ap (result_val temps_of y k) (others k nu nn)) (decide_number k n)) (decide_number k u)
 
-  pub task_leaves : (z : Typing) × PositionTypes z a2
+  pub task_leaves : (z : Typing) × PositionTypes z a2 × (z.gives ≡ y.gives) × NoneNew y.exact z.exact
   task_leaves = (
     typing_with y (with_type y.exact (slot_k u 0) (owns hole)) y.marks,
     carrier_leaves c a2 none places results pairs (λ m. ap (content_val y.gives) (mutexes m)) given objects made
@@ -46,4 +47,6 @@ module _ {y : Typing} {a : PlainState Position} {u : ℕ} {p : Piece} {n : ℕ} 
         (λ m ne. mutexes m)
         (λ m d e. cc)
         (λ m d e. cc),
+    refl,
+    none_owns y.exact (slot_k u 0) hole,
   )

@@ -43,6 +43,7 @@ use Rattle.plain_types.proofs.Envs.{hidden_put, owned_put, part_type}
 use Rattle.plain_types.proofs.Slots.{hand_clear, clear_same, focus_at, owned_in, lock_with}
 use Rattle.plain_types.proofs.SlotTurn.{slot_two, temp_two, same_two, slots_changed}
 use Rattle.plain_types.proofs.Written.{Writes, slot_written, slot_unwritten, slots_many, held_same, mark_same, mark_was}
+use Rattle.plain_types.proofs.Refs.{none_owns}
 
 -- WHAT STOOD THERE
 
@@ -115,7 +116,7 @@ some_val e = cc
 
 -- THE CHANGE
 
-module _ {a0 : PlainState Position} {n : ℕ} {x : Running Position} {e : Env} {us : List Kind} {g : Owned} {k : Kind} {v : Value} {ws : List Value} (l : Loaded a0 n x e us g k v ws) (i : ℕ) (p : Piece) (ref : is_owned k ≡ false) (lt : i < length e) (is : type_at e (record { slot = i; depth = 0 }) ≡ found p) (shape : has_shape_of e p k ≡ true) (free : write_blocked e i ≡ false)
+module _ {y0 : Typing} {a0 : PlainState Position} {n : ℕ} {x : Running Position} {e : Env} {us : List Kind} {g : Owned} {k : Kind} {v : Value} {ws : List Value} (l : Loaded y0 a0 n x e us g k v ws) (i : ℕ) (p : Piece) (ref : is_owned k ≡ false) (lt : i < length e) (is : type_at e (record { slot = i; depth = 0 }) ≡ found p) (shape : has_shape_of e p k ≡ true) (free : write_blocked e i ≡ false)
     (low : AreBelow i (kind_places k)) (old : Value) (stands : slot_at l.running.slots i ≡ Some old) (unheld : is_held (Some old) ≡ false) where
   -- ranks that suit
   abbrev high : ℕ
@@ -308,8 +309,15 @@ module _ {a0 : PlainState Position} {n : ℕ} {x : Running Position} {e : Env} {
       })
 
   -- the state with the variable written is typed
-  pub turned : (a2 : PlainState Position) → Only l.state a2 n (record { place = record { entry = going (put_at e (record { slot = i; depth = 0 }) (whole k)) us g; temps = ws }; slots = with_slot l.running.slots i v }) → ((o : ObjNo) → a2.object o ≡ l.state.object o) → (y : Typing) × PositionTypes y a2
-  turned a2 only objects = (_, turned_typed refs.0 refs.1 refs.2 a2 only objects)
+  pub turned : (a2 : PlainState Position) → Only l.state a2 n (record { place = record { entry = going (put_at e (record { slot = i; depth = 0 }) (whole k)) us g; temps = ws }; slots = with_slot l.running.slots i v }) → ((o : ObjNo) → a2.object o ≡ l.state.object o) → (y : Typing) × PositionTypes y a2 × (y.gives ≡ y0.gives) × ((j : Key) (b : Place) → y.exact j ≡ refers true b → ((y0.exact j ≡ refers true b) × (j ≢ slot_k n i)) ⊎ ((j ≡ slot_k n i) × (y0.exact (hand_at n us) ≡ refers true b)))
+  turned a2 only objects = (_, turned_typed refs.0 refs.1 refs.2 a2 only objects, l.names, came)
+    where
+      came : (j : Key) (b : Place) → with_type (with_type z.exact (hand_at n us) (owns hole)) (slot_k n i) (refers refs.0 refs.1) j ≡ refers true b → ((y0.exact j ≡ refers true b) × (j ≢ slot_k n i)) ⊎ ((j ≡ slot_k n i) × (y0.exact (hand_at n us) ≡ refers true b))
+      came j b e2 =
+          let E1 = with_type z.exact (hand_at n us) (owns hole) in
+          let p = refers refs.0 refs.1 in
+          ⊎_elim (λ (q : j ≡ slot_k n i). inr (q, l.refs (hand_at n us) b (refs.2 ∙ sym (key_same (slot_k n i) p (E1 (slot_k n i))) ∙ ap (with_type E1 (slot_k n i) p) (sym q) ∙ e2)))
+          (λ (q : j ≢ slot_k n i). inl (l.refs j b (none_owns z.exact (hand_at n us) hole j b (sym (key_other j (slot_k n i) p (E1 j) q) ∙ e2)), q)) (decide_key j (slot_k n i))
 
   -- and an owned value that stood there is none
   pub old_nothing : (b : Plain) → old ≡ Own b → b ≡ plain.Nothing

@@ -39,4 +39,4 @@ pub record AtLast (y : Typing) (s : Whole Position) (t : Thread Position) (p : P
 -- then it can end without a new name, and the state is typed again
 abbrev pub EndKeeps : Type 0
 EndKeeps = (now : Position → Now) (move : Position → Option (Move Position Position)) (y : Typing) (s : Whole Position) (t : Thread Position) (p : Position) (wrap : Position → Life Position) (act : Value → Act Position) (v : Value)
-    → AtLast y s t p wrap act v → StepsTyped (moves_by now move) s t fresh.None (record { act = act v; plug = λ z. over })
+    → AtLast y s t p wrap act v → StepsTyped y (moves_by now move) s t fresh.None (record { act = act v; plug = λ z. over })

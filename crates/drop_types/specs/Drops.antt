@@ -25,6 +25,7 @@ carrying u p g v = record { number = u; life = loose (carrier p g); slots = Own 
 abbrev pub with_carrier : Whole Position → ℕ → Piece → Owned → Plain → Whole Position
 with_carrier s u p g v = record s { threads = carrying u p g v ∷ s.threads }
 
--- where the state is typed with a carrier of the value, under a name that isn't in use, it is typed once the value is dropped
+-- where the state is typed with a carrier of the value, under a name that isn't in use, it is typed once the value is dropped, and mutexes and results have
+-- the types that they had
 abbrev pub DropKeeps : Type 0
-DropKeeps = (y : Typing) (s : Whole Position) (u : ℕ) (p : Piece) (g : Owned) (v : Plain) → thread_at s.threads u ≡ None → PositionTypes y (plain_state (with_carrier s u p g v)) → (z : Typing) × PositionTypes z (plain_state (dropped s v))
+DropKeeps = (y : Typing) (s : Whole Position) (u : ℕ) (p : Piece) (g : Owned) (v : Plain) → thread_at s.threads u ≡ None → PositionTypes y (plain_state (with_carrier s u p g v)) → (z : Typing) × PositionTypes z (plain_state (dropped s v)) × (z.gives ≡ y.gives)

@@ -38,6 +38,7 @@ use Rattle.plain_types.proofs.Turned.{untouched_other}
 use Rattle.plain_types.proofs.Marks.{mark_back, one_mark_to}
 use Rattle.plain_types.proofs.Focus.{top_none, top_some, hand_at}
 use Rattle.plain_types.proofs.AtHand.{mark_off}
+use Rattle.plain_types.proofs.Refs.{none_owns}
 use Rattle.plain_types.proofs.Hand.{At, Ranked, ranked, rehung, pushed_others, pushed_here}
 use Rattle.plain_types.proofs.Done.{runs_here, only_here}
 use Rattle.plain_types.proofs.Sums.{Lone, temp_after, keys_same, Base, Sums, turned}
@@ -92,7 +93,7 @@ module _ (s s2 : Store) (h : Key) (m : MutexNo) (c : Tree) (same : SameBut (at_k
 
 -- THE STATE
 
-module _ (s : Machine Position) (t : Thread Position) (p : Position) (e : Env) (ts : List Kind) (g x : Owned) (w : Lval) (z : Ranked (plain_state s) t.number (record { place = p; slots = t.slots }) e ts ts None g) (f : FoundMutex z.typing s t w x) (a2 : PlainState Position) where
+module _ {y0 : Typing} (s : Machine Position) (t : Thread Position) (p : Position) (e : Env) (ts : List Kind) (g x : Owned) (w : Lval) (z : Ranked y0 (plain_state s) t.number (record { place = p; slots = t.slots }) e ts ts None g) (f : FoundMutex z.typing s t w x) (a2 : PlainState Position) where
   abbrev h : Key
   h = hand_at t.number ts
 
@@ -246,7 +247,7 @@ dup_row : {x z : Entry} {vs : List Value} {w : Lval} {l : Leaves} → ActRow Sta
 dup_row (r_dup {e = e} {ts = ts} {g = g} {x = x} q h b) = record { env = e; temps = ts; result = g; content = x; waits = q; is = h; entry = refl; leaves = refl; comes = refl }
 
 module _ (now : Position → Now) (move : Position → Option (Move Position Position)) (y : Typing) (s : Machine Position) (t : Thread Position) (p : Position) (wrap : Position → Life Position) (plug : Value → Position) where
-  dup_steps : (w : Lval) → Ready y s t p wrap (do_dup w) plug → StepsTyped (moves_by now move) s t fresh.None (record { act = do_dup w; plug = λ z. wrap (plug z) })
+  dup_steps : (w : Lval) → Ready y s t p wrap (do_dup w) plug → StepsTyped y (moves_by now move) s t fresh.None (record { act = do_dup w; plug = λ z. wrap (plug z) })
   dup_steps w r =
       let i = dup_row r.row in
       let x : Running Position = record { place = p; slots = t.slots } in
@@ -261,11 +262,13 @@ module _ (now : Position → Now) (move : Position → Option (Move Position Pos
       let only = only_here s t p wrap r.goes_on r.found r.at q t.slots s.heap s.output (λ u. omega arith) in
       let st = dup_typed s t p i.env i.temps i.result i.content w z f a2 (record { now = only.now; others = only.others; pairs = only.pairs }) (λ o. refl) only.made (there_set s.mutexes f.number (Some (record { content = f.shared.content; shares = f.shared.shares + 1 })) f.shared f.there)
       (λ k ne. there_off s.mutexes f.number (Some (record { content = f.shared.content; shares = f.shared.shares + 1 })) k ne) (λ k. given_set s.mutexes f.number (Some (record { content = f.shared.content; shares = f.shared.shares + 1 })) k) in
-      step_by now move s t wrap (record { act = do_dup w; plug = λ u. wrap (plug u) }) plug v q (λ l. record s { threads = with_thread s.threads (record { number = t.number; life = l; slots = t.slots }); mutexes = ms }) f.labels _ r.goes_on
+      step_by now move s t wrap (record { act = do_dup w; plug = λ u. wrap (plug u) }) plug v q (λ l. record s { threads = with_thread s.threads (record { number = t.number; life = l; slots = t.slots }); mutexes = ms }) f.labels y _ r.goes_on
       (r.comes v ∙ ap₂ (λ b k. record { entry = b; temps = left_after k v }) i.comes i.leaves)
       (ap (λ o. nameless fresh.None (at_mutex (moves_by now move) s o (shared (moves_by now move) s t (record { act = do_dup w; plug = λ u. wrap (plug u) })))) f.behind
       ∙ ap (λ o. nameless fresh.None (where_there (moves_by now move) o (shared (moves_by now move) s t (record { act = do_dup w; plug = λ u. wrap (plug u) }) f.number f.labels))) f.there)
       st
+      z.names
+      (λ j u e. z.refs j u (none_owns z.typing.exact (hand_at n i.temps) (mutex_tree (tree_of i.content)) j u e))
 
 pub dup_keeps : Keeps IsDup
-dup_keeps now move y s t p wrap act plug h r = subst (λ a. StepsTyped (moves_by now move) s t fresh.None (record { act = a; plug = λ z. wrap (plug z) })) (sym h.1) (dup_steps now move y s t p wrap plug h.0 (subst (λ a. Ready y s t p wrap a plug) h.1 r))
+dup_keeps now move y s t p wrap act plug h r = subst (λ a. StepsTyped y (moves_by now move) s t fresh.None (record { act = a; plug = λ z. wrap (plug z) })) (sym h.1) (dup_steps now move y s t p wrap plug h.0 (subst (λ a. Ready y s t p wrap a plug) h.1 r))

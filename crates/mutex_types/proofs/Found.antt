@@ -62,7 +62,7 @@ pub record FoundMutex (y : Typing) (s : Machine Position) (t : Thread Position) 
   pub boxes : ℕ
   pub res : Resolves y.exact false (slot_k t.number w.slot) w.depth base boxes (owns (tree_of (mutex x)))
 
-pub found_mutex : (s : Machine Position) (t : Thread Position) (p : Position) (e : Env) (ts us : List Kind) (o : Option Kind) (g x : Owned) (w : Lval) (z : Ranked (plain_state s) t.number (record { place = p; slots = t.slots }) e ts us o g) → HasType e w (found (whole (own (mutex x)))) → FoundMutex z.typing s t w x
+pub found_mutex : {y0 : Typing} (s : Machine Position) (t : Thread Position) (p : Position) (e : Env) (ts us : List Kind) (o : Option Kind) (g x : Owned) (w : Lval) (z : Ranked y0 (plain_state s) t.number (record { place = p; slots = t.slots }) e ts us o g) → HasType e w (found (whole (own (mutex x)))) → FoundMutex z.typing s t w x
 found_mutex s t p e ts us o g x w z is =
     let n = t.number in
     let xr : Running Position = record { place = p; slots = t.slots } in

@@ -15,10 +15,17 @@ use Rattle.fr_store.specs.Thread.{ThreadKeys, ThreadTyped, OwnOrForeign, place_o
 use Rattle.fr_store.proofs.Keys.{key_same, key_other, decide_key}
 use Rattle.fr_store.proofs.Rows.{borrow, swap_own, same_store}
 use Rattle.fr_store.proofs.ThreadKept.{last_unnamed, slots_with, whole_tree}
+use Rattle.plain_types.proofs.Refs.{NoneNew, none_with, none_owns}
 
 -- the types after a lock: key b has the reference, key c what key k had
 abbrev pub locked_types : KeyTypes → Key → Key → Key → Place → Tree → KeyTypes
 locked_types E b c k u t = with_type (with_type (with_type E b (refers false u)) k (owns hole)) c (owns t)
+
+-- a lock makes no mutable reference
+pub lock_none : (E : KeyTypes) (b c k : Key) (u : Place) (t : Tree) → NoneNew E (locked_types E b c k u t)
+lock_none E b c k u t j v e =
+    let E1 = with_type E b (refers false u) in
+    none_with E b (refers false u) (λ w f. cc) j v (none_owns E1 k hole j v (none_owns (with_type E1 k (owns hole)) c t j v e))
 
 module _ (key : ℕ → Key) (rank : Key → ℕ) (a k : Key) (e : List Slot) (E : KeyTypes) (s s2 : Store) (w : Lval) (x : Owned) (name : Text) (ks : ThreadKeys key rank a) (t : ThreadTyped key rank a e E s None) (lt : w.slot < length e) (high : (i : ℕ) → i ≤ suc (length e) → rank (key i) < rank a)
     (lent : Unlent E (key w.slot)) (l : Location) (base : Key) (boxes : ℕ) (res : Resolves E false (key w.slot) w.depth base boxes (owns (tree_of (mutex x)))) (at : store_locate s (place_of key w) ≡ Some l)

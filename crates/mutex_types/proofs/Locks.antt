@@ -55,17 +55,17 @@ use Rattle.plain_types.specs.Keeps.{KeepsUnlessWaiting}
 use Rattle.plain_types.proofs.Mutexes.{decide_mutex, mutex_is, there_set, there_off, given_set}
 use Rattle.mutex_types.proofs.Found.{FoundMutex, found_mutex}
 use Rattle.plain_types.proofs.Done.{step_by}
-use Rattle.mutex_types.proofs.LockTypes.{locked_types, locked_refs, locked_same, locked_thread, off_two}
+use Rattle.mutex_types.proofs.LockTypes.{locked_types, lock_none, locked_refs, locked_same, locked_thread, off_two}
 
 -- RANKS
 
 -- a thread between two acts, with room for two slots
-pub record Roomy (a : PlainState Position) (t : ℕ) (x : Running Position) (e : Env) (ts : List Kind) (g : Owned) : Type 0 where
+pub record Roomy (y0 : Typing) (a : PlainState Position) (t : ℕ) (x : Running Position) (e : Env) (ts : List Kind) (g : Owned) : Type 0 where
   pub waits : wait ts ≡ true
-  pub ranked : Ranked a t x e ts ts None g
+  pub ranked : Ranked y0 a t x e ts ts None g
   pub high : (i n : ℕ) → i ≤ suc (length e) → ranked.typing.rank (slot_k t i) < ranked.typing.rank (temp_k t n)
 
-pub roomy : (y : Typing) (a : PlainState Position) (t : ℕ) (x : Running Position) (e : Env) (ts : List Kind) (g : Owned) → At y a t x e ts g → wait ts ≡ true → Roomy a t x e ts g
+pub roomy : (y : Typing) (a : PlainState Position) (t : ℕ) (x : Running Position) (e : Env) (ts : List Kind) (g : Owned) → At y a t x e ts g → wait ts ≡ true → Roomy y a t x e ts g
 roomy y a t x e ts g h w =
     let r = h.state.threads t x h.runs in
     let n = suc (y.rank (slot_k t (suc (length e)))) in
@@ -76,6 +76,8 @@ roomy y a t x e ts g h w =
       waits = w;
       ranked = record {
         typing = raised_typing n y;
+        names = refl;
+        refs = λ k u q. q;
         at = record { state = st; runs = h.runs; entry = h.entry };
         focus = focus (raised_typing n y) a t x e ts g st h.runs h.entry (λ i m le. big r.keys.ranks i m (omega (arith, le))) ts None top_none (λ z. w);
         running = q;
@@ -106,7 +108,7 @@ marks_off M t i l u j ne = eq_cases (λ b. (if b then (if j == i then l else M u
 
 -- THE STATE
 
-module _ (s : Machine Position) (t : Thread Position) (p : Position) (e : Env) (ts : List Kind) (g x : Owned) (w : Lval) (name : Text) (r : Roomy (plain_state s) t.number (record { place = p; slots = t.slots }) e ts g) (f : FoundMutex r.ranked.typing s t w x) (is : HasType e w (found (whole (own (mutex x))))) (free : read_blocked e w.slot ≡ false)
+module _ {y0 : Typing} (s : Machine Position) (t : Thread Position) (p : Position) (e : Env) (ts : List Kind) (g x : Owned) (w : Lval) (name : Text) (r : Roomy y0 (plain_state s) t.number (record { place = p; slots = t.slots }) e ts g) (f : FoundMutex r.ranked.typing s t w x) (is : HasType e w (found (whole (own (mutex x))))) (free : read_blocked e w.slot ≡ false)
     (v : Plain) (inside : f.shared.content ≡ Some v) (a2 : PlainState Position) where
   abbrev n : ℕ
   n = t.number
@@ -474,7 +476,7 @@ content_in z m q = by z.content q
     by (Some v) i = (v, refl)
 
 module _ (now : Position → Now) (move : Position → Option (Move Position Position)) (y : Typing) (s : Machine Position) (t : Thread Position) (p : Position) (wrap : Position → Life Position) (plug : Value → Position) where
-  lock_steps : (w : Lval) → act_waits s t (do_lock w) ≡ None → Ready y s t p wrap (do_lock w) plug → StepsTyped (moves_by now move) s t fresh.None (record { act = do_lock w; plug = λ z. wrap (plug z) })
+  lock_steps : (w : Lval) → act_waits s t (do_lock w) ≡ None → Ready y s t p wrap (do_lock w) plug → StepsTyped y (moves_by now move) s t fresh.None (record { act = do_lock w; plug = λ z. wrap (plug z) })
   lock_steps w enabled r =
       let i = lock_row r.row in
       let x : Running Position = record { place = p; slots = t.slots } in
@@ -491,14 +493,16 @@ module _ (now : Position → Now) (move : Position → Option (Move Position Pos
       let only = only_here s t p wrap r.goes_on r.found r.at q slots s.heap s.output (λ u. omega arith) in
       let st = lock_typed s t p i.env i.temps i.result i.content w i.name z f i.is i.free v.0 v.1 a2 (record { now = only.now; others = only.others; pairs = only.pairs }) (λ o. refl) only.made (there_set s.mutexes f.number (Some out) f.shared f.there)
       (λ k ne. there_off s.mutexes f.number (Some out) k ne) (λ k. given_set s.mutexes f.number (Some out) k) in
-      step_by now move s t wrap (record { act = do_lock w; plug = λ u. wrap (plug u) }) plug unit_value q (λ l. record s { threads = with_thread s.threads (record { number = t.number; life = l; slots = slots }); mutexes = ms }) (f.labels ++ label.Lock f.number ∷ []) _ r.goes_on
+      step_by now move s t wrap (record { act = do_lock w; plug = λ u. wrap (plug u) }) plug unit_value q (λ l. record s { threads = with_thread s.threads (record { number = t.number; life = l; slots = slots }); mutexes = ms }) (f.labels ++ label.Lock f.number ∷ []) y _ r.goes_on
       (r.comes unit_value ∙ ap₂ (λ b k. record { entry = b; temps = left_after k unit_value }) i.comes i.leaves)
       (ap (λ o. nameless fresh.None (at_mutex (moves_by now move) s o (locked (moves_by now move) s t (record { act = do_lock w; plug = λ u. wrap (plug u) })))) f.behind
       ∙ ap (λ o. nameless fresh.None (where_there (moves_by now move) o (locked (moves_by now move) s t (record { act = do_lock w; plug = λ u. wrap (plug u) }) f.number f.labels))) f.there
       ∙ ap (λ o. nameless fresh.None (locked_with (moves_by now move) s t (record { act = do_lock w; plug = λ u. wrap (plug u) }) f.number f.labels f.shared o)) v.1)
       st
+      z.ranked.names
+      (λ j u e. z.ranked.refs j u (lock_none z.ranked.typing.exact (slot_k n (length i.env)) (slot_k n (suc (length i.env))) (content_k f.number.home f.number.count) (place_of (slot_k n) w) (tree_of i.content) j u e))
 
 pub lock_keeps : KeepsUnlessWaiting IsLocking
 lock_keeps now move y s t p wrap act plug h e r =
-    subst (λ a. StepsTyped (moves_by now move) s t fresh.None (record { act = a; plug = λ z. wrap (plug z) })) (sym h.1)
+    subst (λ a. StepsTyped y (moves_by now move) s t fresh.None (record { act = a; plug = λ z. wrap (plug z) })) (sym h.1)
     (lock_steps now move y s t p wrap plug h.0 (subst (λ a. act_waits s t a ≡ None) h.1 e) (subst (λ a. Ready y s t p wrap a plug) h.1 r))

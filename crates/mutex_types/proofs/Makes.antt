@@ -33,7 +33,7 @@ use Rattle.fr_sound.specs.Seen.{Gives, owned_val, seen_cell}
 use Rattle.fr_sound.specs.States.{Typing, RunningTyped, content_val, env_at, is_hidden, IsLock, thread_of_key, AreSoMany, IsShare, IsMark, MutexTyped}
 use Rattle.plain_types.specs.Positions.{Position, Knows, temps_of, PositionTypes, moves_by, StartsAs}
 use Rattle.plain_types.specs.ActRows.{Pops, Leaves, loud, left_after, ActRow, r_mutex}
-use Rattle.plain_types.specs.Keeps.{Ready, StepsTyped}
+use Rattle.plain_types.specs.Keeps.{Ready, KeepsNames, StepsTyped}
 use Rattle.plain_types.proofs.Lower.{seen_as}
 use Rattle.plain_types.proofs.OneThread.{store, typing_with, touched, CarriedOf, share_back, as_many}
 use Rattle.plain_types.proofs.Raised.{raised, raised_typing}
@@ -43,6 +43,7 @@ use Rattle.plain_types.proofs.Moved.{flip, flip_first, flip_second, flip_third, 
 use Rattle.plain_types.proofs.Focus.{top_some, hand_at, Focus, focus, hole_there}
 use Rattle.plain_types.proofs.AtHand.{Only, mark_off}
 use Rattle.plain_types.proofs.Hand.{At, ranked, room, pushed_others, pushed_here, only_put, put_running}
+use Rattle.plain_types.proofs.Refs.{none_owns}
 use Rattle.plain_types.proofs.Done.{runs_here, only_here}
 use Rattle.plain_types.proofs.Operands.{load, hand_value}
 use Rattle.plain_types.proofs.Rethread.{rethread}
@@ -54,7 +55,7 @@ use Rattle.plain_types.proofs.Mutexes.{decide_mutex, mutex_is, mutex_cases, made
 use Rattle.plain_types.proofs.Flat.{flat_typed}
 use Rattle.plain_types.proofs.Done.{step_named}
 use Rattle.mutex_types.proofs.Dups.{But}
-use Rattle.plain_types.proofs.Regiven.{Regives, giving, regiven}
+use Rattle.plain_types.proofs.Regiven.{giving, regiven}
 
 -- THE STATE
 
@@ -325,7 +326,7 @@ new_name s (fresh.Mutex m) v h = (m, refl, by (mutex_at s.mutexes m) h)
 abbrev gives_with : Gives → MutexNo → Owned → Gives
 gives_with g m k = record { result = g.result; mutex = λ q. if same_mutex q m then k else g.mutex q }
 
-regives_with : (a : PlainState Position) (g : Gives) (m : MutexNo) (k : Owned) → a.is_given m ≡ false → Regives a g (gives_with g m k)
+regives_with : (a : PlainState Position) (g : Gives) (m : MutexNo) (k : Owned) → a.is_given m ≡ false → KeepsNames a g (gives_with g m k)
 regives_with a g m k free = record {
   mutexes = λ q is. mutex_cases (λ b. (if b then k else g.mutex q) ≡ g.mutex q) q m (λ e. let f : true ≡ false = sym is ∙ ap a.is_given e ∙ free in cc) (λ ne. refl);
   results = λ u l e. refl;
@@ -339,7 +340,7 @@ there_of None = None
 there_of (Some x) = x.there
 
 module _ (now : Position → Now) (move : Position → Option (Move Position Position)) (y : Typing) (s : Machine Position) (t : Thread Position) (p : Position) (wrap : Position → Life Position) (plug : Value → Position) where
-  make_steps : (v : Value) (m : MutexNo) → mutex_at s.mutexes m ≡ None → Ready y s t p wrap (do_mutex v) plug → StepsTyped (moves_by now move) s t (fresh.Mutex m) (record { act = do_mutex v; plug = λ z. wrap (plug z) })
+  make_steps : (v : Value) (m : MutexNo) → mutex_at s.mutexes m ≡ None → Ready y s t p wrap (do_mutex v) plug → StepsTyped y (moves_by now move) s t (fresh.Mutex m) (record { act = do_mutex v; plug = λ z. wrap (plug z) })
   make_steps v m none r =
       let i = make_row r.row in
       let x : Running Position = record { place = p; slots = t.slots } in
@@ -371,14 +372,19 @@ module _ (now : Position → Now) (move : Position → Option (Move Position Pos
       let typed = made_typed y2 l.state n l.running i.env i.after i.result i.content d.0 i.left m at fc (l.temps ∙ ap (λ z. z ∷ i.left) d.1) free empty (gives_new l.typing.gives m i.content) a2
       (record { now = only.now; others = only.others; pairs = only.pairs }) (λ o. sym (l.objects o)) only.made (ap there_of here) (ap is_some here)
       (λ k ne. ap there_of (made_off s.mutexes new k ne) ∙ only.mutexes k) (λ k ne. ap is_some (made_off s.mutexes new k ne) ∙ only.given k) in
-      step_named now move s t wrap (fresh.Mutex m) (record { act = do_mutex v; plug = λ u. wrap (plug u) }) plug b q (λ k. record s { threads = with_thread s.threads (record { number = t.number; life = k; slots = t.slots }); mutexes = ms }) [] _ r.goes_on
+      step_named now move s t wrap (fresh.Mutex m) (record { act = do_mutex v; plug = λ u. wrap (plug u) }) plug b q (λ k. record s { threads = with_thread s.threads (record { number = t.number; life = k; slots = t.slots }); mutexes = ms }) [] y _ r.goes_on
       (r.comes b ∙ ap₂ (λ a k. record { entry = a; temps = left_after k b }) i.comes i.leaves)
       (ap (made (moves_by now move) s t (record { act = do_mutex v; plug = λ u. wrap (plug u) }) (fresh.Mutex m)) d.1
       ∙ ap (λ o. if is_some o then None else Some (record { state = record s { threads = with_thread s.threads (record { number = t.number; life = settle_life (moves_by now move) (wrap (plug b)); slots = t.slots }); mutexes = ms }; labels = [] })) none)
       typed
+      (subst (λ g. KeepsNames (plain_state s) g g2) l.names (regives_with (plain_state s) l.typing.gives m i.content (ap is_some none)))
+      (λ j u e.
+      let h = hand_at n i.after in
+      let E1 = with_type l.typing.exact (content_k m.home m.count) (owns (tree_of i.content)) in
+      l.refs j u (none_owns l.typing.exact (content_k m.home m.count) (tree_of i.content) j u (none_owns E1 h hole j u (none_owns (with_type E1 h (owns hole)) h (mutex_tree (tree_of i.content)) j u e))))
 
 pub make_keeps : KeepsNamed IsMake
 make_keeps now move y s t p wrap act plug names h refused r =
     let q = new_name s names h.0 (subst (λ a. refused_names s (takes_of a) names ≡ None) h.1 refused) in
-    subst (λ a. StepsTyped (moves_by now move) s t names (record { act = a; plug = λ z. wrap (plug z) })) (sym h.1)
-    (subst (λ z. StepsTyped (moves_by now move) s t z (record { act = do_mutex h.0; plug = λ u. wrap (plug u) })) (sym q.1) (make_steps now move y s t p wrap plug h.0 q.0 q.2 (subst (λ a. Ready y s t p wrap a plug) h.1 r)))
+    subst (λ a. StepsTyped y (moves_by now move) s t names (record { act = a; plug = λ z. wrap (plug z) })) (sym h.1)
+    (subst (λ z. StepsTyped y (moves_by now move) s t z (record { act = do_mutex h.0; plug = λ u. wrap (plug u) })) (sym q.1) (make_steps now move y s t p wrap plug h.0 q.0 q.2 (subst (λ a. Ready y s t p wrap a plug) h.1 r)))

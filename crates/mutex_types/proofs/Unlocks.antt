@@ -45,6 +45,7 @@ use Rattle.plain_types.proofs.Moved.{flip, flip_first, flip_second, flip_third, 
 use Rattle.plain_types.proofs.Focus.{Tops, top_none, top_some, hand_at, Focus, focus, temp_none, hole_there}
 use Rattle.plain_types.proofs.AtHand.{mark_off}
 use Rattle.plain_types.proofs.Hand.{At, room, pushed_others, pushed_here}
+use Rattle.plain_types.proofs.Refs.{none_owns}
 use Rattle.plain_types.proofs.Done.{runs_here, only_here}
 use Rattle.plain_types.proofs.Places.{seen_val_of}
 use Rattle.plain_types.proofs.Rethread.{rethread}
@@ -473,7 +474,7 @@ unlock_row : {x z : Entry} {vs : List Value} {l : Leaves} → ActRow StartsAs x 
 unlock_row (r_unlock {e = e} {ts = ts} {g = g} {x = x} {w = w} {name = name} o) = record { env = e; temps = ts; result = g; content = x; place = w; name = name; owned = o; entry = refl; leaves = refl; comes = refl }
 
 module _ (now : Position → Now) (move : Position → Option (Move Position Position)) (y : Typing) (s : Machine Position) (t : Thread Position) (p : Position) (wrap : Position → Life Position) (plug : Value → Position) where
-  unlock_steps : Ready y s t p wrap do_unlock plug → StepsTyped (moves_by now move) s t fresh.None (record { act = do_unlock; plug = λ z. wrap (plug z) })
+  unlock_steps : Ready y s t p wrap do_unlock plug → StepsTyped y (moves_by now move) s t fresh.None (record { act = do_unlock; plug = λ z. wrap (plug z) })
   unlock_steps r =
       let i = unlock_row r.row in
       let x : Running Position = record { place = p; slots = t.slots } in
@@ -515,11 +516,16 @@ module _ (now : Position → Now) (move : Position → Option (Move Position Pos
       let only = only_here s t p wrap r.goes_on r.found r.at q rest s.heap s.output (λ u. omega arith) in
       let typed = unlock_typed s t p i.env i.temps k.us k.o i.result i.content i.place i.name y2 at fc k.tops k.idle k.owned v.0 m.0 rest slots_are f.0 f.1 outside a2 (record { now = only.now; others = only.others; pairs = only.pairs }) (λ o. refl) only.made (there_set s.mutexes m.0 (Some back) f.0 f.1)
       (λ k ne. there_off s.mutexes m.0 (Some back) k ne) (λ k. given_set s.mutexes m.0 (Some back) k) in
-      step_by now move s t wrap (record { act = do_unlock; plug = λ u. wrap (plug u) }) plug unit_value q (λ l. record s { threads = with_thread s.threads (record { number = t.number; life = l; slots = rest }); mutexes = ms }) (label.Unlock m.0 ∷ []) _ r.goes_on
+      step_by now move s t wrap (record { act = do_unlock; plug = λ u. wrap (plug u) }) plug unit_value q (λ l. record s { threads = with_thread s.threads (record { number = t.number; life = l; slots = rest }); mutexes = ms }) (label.Unlock m.0 ∷ []) y _ r.goes_on
       (r.comes unit_value ∙ ap₂ (λ b k. record { entry = b; temps = left_after k unit_value }) i.comes i.leaves)
       (ap (λ o. nameless fresh.None (unlocked (moves_by now move) s t (record { act = do_unlock; plug = λ u. wrap (plug u) }) o)) slots_are
       ∙ ap (λ o. Some (record { state = given_back (moves_by now move) (goes_on (moves_by now move) s t (record { act = do_unlock; plug = λ u. wrap (plug u) }) unit_value rest) m.0 v.0 o; labels = label.Unlock m.0 ∷ [] })) f.1)
       typed
+      refl
+      (λ j u e.
+      let E1 = with_type y.exact (slot_k n (length i.env)) (owns hole) in
+      let E2 = with_type E1 (slot_k n (suc (length i.env))) (owns hole) in
+      none_owns y.exact (slot_k n (length i.env)) hole j u (none_owns E1 (slot_k n (suc (length i.env))) hole j u (none_owns E2 (content_k m.0.home m.0.count) (tree_of i.content) j u e)))
 
 pub unlock_keeps : Keeps IsUnlocking
-unlock_keeps now move y s t p wrap act plug h r = subst (λ a. StepsTyped (moves_by now move) s t fresh.None (record { act = a; plug = λ z. wrap (plug z) })) (sym h) (unlock_steps now move y s t p wrap plug (subst (λ a. Ready y s t p wrap a plug) h r))
+unlock_keeps now move y s t p wrap act plug h r = subst (λ a. StepsTyped y (moves_by now move) s t fresh.None (record { act = a; plug = λ z. wrap (plug z) })) (sym h) (unlock_steps now move y s t p wrap plug (subst (λ a. Ready y s t p wrap a plug) h r))

@@ -1,17 +1,18 @@
 -- Borrows keep a state typed.
-use Rattle.std.proofs.Common.{◌≡◌, inl, inr, ◌∙◌, ap₂, ℕ, Bool, true, false, List, [], ◌∷◌, ◌++◌, length, Option, Some, None, refl, sym, ap, subst, arith}
+use Rattle.std.proofs.Common.{◌≡◌, ◌≢◌, inl, inr, ⊎_elim, ◌∙◌, ap₂, ℕ, Bool, true, false, List, [], ◌∷◌, ◌++◌, length, Option, Some, None, refl, sym, ap, subst, arith}
 use Rattle.fr_base.specs.declared.label.Plain.TheVariants as plain
 use Rattle.fr_base.specs.declared.place.Lval.{Lval}
 use Rattle.fr_base.specs.declared.step.Fresh.TheVariants as fresh
 use Rattle.fr_typing.specs.Kinds.{Owned, Kind, shared, mutable, whole}
 use Rattle.fr_typing.specs.Places.{Env, found, read_blocked, kind_places, AreBelow}
 use Rattle.fr_typing.specs.Finding.{IsOpen}
-use Rattle.fr_store.specs.Keys.{slot_k}
+use Rattle.fr_store.specs.Keys.{Key, slot_k, temp_k}
 use Rattle.fr_store.specs.Store.{at_key, gone_v, ref_v, Place, put_value}
 use Rattle.fr_store.specs.Typed.{refers, KeyTypes, Typed}
 use Rattle.fr_store.specs.Below.{RefOf}
 use Rattle.fr_store.specs.Rows.{with_type, FreeFor}
 use Rattle.fr_store.specs.Thread.{place_of}
+use Rattle.fr_store.proofs.Keys.{key_same, key_other, decide_key}
 use Rattle.fr_store.proofs.Rows.{found_place, borrow}
 use Rattle.fr_store.proofs.Below.{Resolved, mut_place, resolved, resolved_writable}
 use Rattle.fr_store.proofs.ThreadKept.{no_temp, unlent_key, unnamed_key, whole_exact}
@@ -27,11 +28,12 @@ use Rattle.fr_sound.specs.States.{Typing, env_at, is_hidden, is_held}
 use Rattle.fr_code.specs.CodeTypes.{HasType, wait}
 use Rattle.plain_types.specs.Positions.{Position, moves_by, StartsAs}
 use Rattle.plain_types.specs.ActRows.{Leaves, loud, left_after, ActRow, r_borrow, r_borrow_mut}
-use Rattle.plain_types.specs.Keeps.{Ready, StepsTyped, Keeps, IsBorrow, IsBorrowMut}
+use Rattle.plain_types.specs.Keeps.{Ready, on_references, KeepsReferences, StepsTyped, Keeps, IsBorrow, IsBorrowMut}
 use Rattle.plain_types.proofs.Lower.{seen_as}
 use Rattle.plain_types.proofs.OneThread.{store, Counted}
 use Rattle.plain_types.proofs.Focus.{top_none, hand_at, Focus}
 use Rattle.plain_types.proofs.Hand.{At, Ranked, ranked, push}
+use Rattle.plain_types.proofs.Refs.{NoneNew, none_with}
 use Rattle.plain_types.proofs.Done.{runs_here, only_here}
 use Rattle.plain_types.proofs.Operands.{steps_typed}
 use Rattle.plain_types.proofs.Places.{variable_below, variable_seen, leads}
@@ -46,8 +48,21 @@ plain_reference g t (in_slot i) c = c
 plain_reference g t (in_cell o) c = c
 
 -- a variable of a typed thread is no mark
-pub variable_clear : {a : PlainState Position} {t : ℕ} {x : Running Position} {e : Env} {ts us : List Kind} {o : Option Kind} {g : Owned} (r : Ranked a t x e ts us o g) (n : ℕ) → is_hidden (env_at e n) ≡ false → is_held (slot_at x.slots n) ≡ false
+pub variable_clear : {y0 : Typing} {a : PlainState Position} {t : ℕ} {x : Running Position} {e : Env} {ts us : List Kind} {o : Option Kind} {g : Owned} (r : Ranked y0 a t x e ts us o g) (n : ℕ) → is_hidden (env_at e n) ≡ false → is_held (slot_at x.slots n) ≡ false
 variable_clear r n h = sym (r.running.hidden n) ∙ ap (λ (z : Entry). is_hidden (env_at z.env n)) (sym r.running.known ∙ r.at.entry) ∙ h
+
+-- the hand is the key of a temporary value
+pub hand_is : (t : ℕ) (us : List Kind) → (i : ℕ) × (hand_at t us ≡ temp_k t i)
+hand_is t us = (length us, refl)
+
+-- a mutable reference is new where the place is lent so
+lent : (t slots : ℕ) (w : Lval) (m : Bool) (hand : Key) → (i : ℕ) × (hand ≡ temp_k t i) → (E E1 E2 : KeyTypes) → NoneNew E E1 → E2 ≡ with_type E1 hand (refers m (place_of (slot_k t) w)) → KeepsReferences (on_references {P = Position} (do_borrow w m)) t slots E E2
+lent t slots w false hand at E E1 E2 none types k u e = none k u (none_with E1 hand (refers false (place_of (slot_k t) w)) (λ q f. cc) k u (sym (ap (λ (F : KeyTypes). F k) types) ∙ e))
+lent t slots w true hand at E E1 E2 none types k u e =
+    let p = refers true (place_of (slot_k t) w) in
+    let f = sym (ap (λ (F : KeyTypes). F k) types) ∙ e in
+    ⊎_elim (λ (z : k ≡ hand). let g : p ≡ refers true u = sym (key_same hand p (E1 hand)) ∙ ap (with_type E1 hand p) (sym z) ∙ f in inr (at.0, z ∙ at.1, sym (let h : place_of (slot_k t) w ≡ u = cc in h)))
+    (λ (z : k ≢ hand). inl (none k u (sym (key_other k hand p (E1 k) z) ∙ f))) (decide_key k hand)
 
 module _ (now : Position → Now) (move : Position → Option (Move Position Position)) (y : Typing) (s : Whole Position) (t : Thread Position) (p : Position) (wrap : Position → Life Position) (plug : Value → Position) where
   -- a borrow of either kind
@@ -55,7 +70,7 @@ module _ (now : Position → Now) (move : Position → Option (Move Position Pos
       → ((z : Typing) → Focus z (plain_state s) t.number e us None → Resolved (slot_k t.number) z.exact m w (whole k) × FreeFor m z.exact (slot_k t.number w.slot))
       → kind_places k2 ≡ w ∷ []
       → ((E2 : KeyTypes) → RefOf (slot_k t.number) E2 (whole k2) m (place_of (slot_k t.number) w))
-      → StepsTyped (moves_by now move) s t fresh.None (record { act = do_borrow w m; plug = λ z. wrap (plug z) })
+      → StepsTyped y (moves_by now move) s t fresh.None (record { act = do_borrow w m; plug = λ z. wrap (plug z) })
   borrow_steps w m k k2 e us g r entry leave comes waits is check places exact =
       let x : Running Position = record { place = p; slots = t.slots } in
       let n = t.number in
@@ -79,10 +94,12 @@ module _ (now : Position → Now) (move : Position → Option (Move Position Pos
       (subst (AreBelow (length e)) (sym places) (lt, tt))
       (λ m2 u eq. inr (w.slot, (let same : w2 ≡ u = cc in ap (λ (j : Place). j.key) (sym same)), clear))
       (plain_reference z.typing.gives n l.reached.spot) in
-      steps_typed now move s t wrap (record { act = do_borrow w m; plug = λ u. wrap (plug u) }) plug v q t.slots s.heap l.reached.passed b.typing r.goes_on
+      steps_typed now move s t wrap (record { act = do_borrow w m; plug = λ u. wrap (plug u) }) plug v q t.slots s.heap l.reached.passed y b.typing r.goes_on
       (r.comes v ∙ ap₂ (λ a d. record { entry = a; temps = left_after d v }) comes leave)
       (ap (λ o. nameless fresh.None (then_released plain.Nothing (stepped (moves_by now move) s t (record { act = do_borrow w m; plug = λ u. wrap (plug u) }) (then_reached o (borrow_did (state_of s t)))))) l.is)
       b.at.state
+      (b.names ∙ z.names)
+      (lent t.number (length t.slots) w m (hand_at n us) (hand_is n us) y.exact z.typing.exact b.typing.exact z.refs b.types)
 
 record BorrowRow (x : Entry) (vs : List Value) (w : Lval) (l : Leaves) (z : Entry) : Type 0 where
   env : Env
@@ -115,9 +132,9 @@ mut_row : {x z : Entry} {vs : List Value} {w : Lval} {l : Leaves} → ActRow Sta
 mut_row (r_borrow_mut {e = e} {ts = ts} {g = g} {k = k} q h o) = record { env = e; temps = ts; result = g; kind = k; waits = q; is = h; open_place = o; entry = refl; leaves = refl; comes = refl }
 
 pub borrow_keeps : Keeps IsBorrow
-borrow_keeps now move y s t p wrap act plug h r = subst (λ a. StepsTyped (moves_by now move) s t fresh.None (record { act = a; plug = λ z. wrap (plug z) })) (sym h.1) (by (subst (λ a. Ready y s t p wrap a plug) h.1 r))
+borrow_keeps now move y s t p wrap act plug h r = subst (λ a. StepsTyped y (moves_by now move) s t fresh.None (record { act = a; plug = λ z. wrap (plug z) })) (sym h.1) (by (subst (λ a. Ready y s t p wrap a plug) h.1 r))
   where
-    by : Ready y s t p wrap (do_borrow h.0 false) plug → StepsTyped (moves_by now move) s t fresh.None (record { act = do_borrow h.0 false; plug = λ z. wrap (plug z) })
+    by : Ready y s t p wrap (do_borrow h.0 false) plug → StepsTyped y (moves_by now move) s t fresh.None (record { act = do_borrow h.0 false; plug = λ z. wrap (plug z) })
     by r =
         let i = shared_row r.row in
         borrow_steps now move y s t p wrap plug h.0 false i.kind (shared (h.0 ∷ [])) i.env i.temps i.result r i.entry i.leaves i.comes i.waits i.is
@@ -129,9 +146,9 @@ borrow_keeps now move y s t p wrap act plug h r = subst (λ a. StepsTyped (moves
         (λ E2. (refl, record { place = h.0; is = refl; among = inl refl }))
 
 pub borrow_mut_keeps : Keeps IsBorrowMut
-borrow_mut_keeps now move y s t p wrap act plug h r = subst (λ a. StepsTyped (moves_by now move) s t fresh.None (record { act = a; plug = λ z. wrap (plug z) })) (sym h.1) (by (subst (λ a. Ready y s t p wrap a plug) h.1 r))
+borrow_mut_keeps now move y s t p wrap act plug h r = subst (λ a. StepsTyped y (moves_by now move) s t fresh.None (record { act = a; plug = λ z. wrap (plug z) })) (sym h.1) (by (subst (λ a. Ready y s t p wrap a plug) h.1 r))
   where
-    by : Ready y s t p wrap (do_borrow h.0 true) plug → StepsTyped (moves_by now move) s t fresh.None (record { act = do_borrow h.0 true; plug = λ z. wrap (plug z) })
+    by : Ready y s t p wrap (do_borrow h.0 true) plug → StepsTyped y (moves_by now move) s t fresh.None (record { act = do_borrow h.0 true; plug = λ z. wrap (plug z) })
     by r =
         let i = mut_row r.row in
         borrow_steps now move y s t p wrap plug h.0 true i.kind (mutable (h.0 ∷ [])) i.env i.temps i.result r i.entry i.leaves i.comes i.waits i.is

@@ -41,7 +41,7 @@ use Rattle.plain_types.proofs.Lower.{seen_as, slot_is, Names, names_own, names_v
 use Rattle.plain_types.proofs.OneThread.{store, Counted}
 use Rattle.plain_types.proofs.AtHand.{NewName}
 use Rattle.plain_types.proofs.Focus.{top_none, hand_at, Focus}
-use Rattle.plain_types.proofs.Hand.{At, ranked, push, typed_new}
+use Rattle.plain_types.proofs.Hand.{At, ranked, push, push_none, typed_new}
 use Rattle.plain_types.proofs.Done.{runs_here, only_here}
 use Rattle.plain_types.proofs.Operands.{steps_typed}
 use Rattle.plain_types.proofs.Places.{variable_below, variable_seen, slot_here, cell_here, leads, value_there, seen_val_of}
@@ -179,7 +179,7 @@ copy_row : {x z : Entry} {vs : List Value} {w : Lval} {l : Leaves} → ActRow St
 copy_row (r_copy {e = e} {ts = ts} {g = g} {k = k} q h c b) = record { env = e; temps = ts; result = g; kind = k; waits = q; is = h; copied = c; entry = refl; leaves = refl; comes = refl }
 
 module _ (now : Position → Now) (move : Position → Option (Move Position Position)) (y : Typing) (s : State_ Position) (t : Thread Position) (p : Position) (wrap : Position → Life Position) (plug : Value → Position) where
-  copy_steps : (w : Lval) → Ready y s t p wrap (do_read w false) plug → StepsTyped (moves_by now move) s t fresh.None (record { act = do_read w false; plug = λ z. wrap (plug z) })
+  copy_steps : (w : Lval) → Ready y s t p wrap (do_read w false) plug → StepsTyped y (moves_by now move) s t fresh.None (record { act = do_read w false; plug = λ z. wrap (plug z) })
   copy_steps w r =
       let i = copy_row r.row in
       let x : Running Position = record { place = p; slots = t.slots } in
@@ -203,14 +203,23 @@ module _ (now : Position → Now) (move : Position → Option (Move Position Pos
       let labels = l.reached.passed ++ loads l.reached.spot v.0 in
       let only = only_here s t p wrap r.goes_on r.found r.at q t.slots s.heap (s.output ++ prints labels) (λ u. omega arith) in
       let b = push z.typing (plain_state s) _ n x i.env i.temps i.result i.kind v.0 c.type z.at z.focus only (λ o. refl) d2.typed d2.exact d2.names d2.new d2.plain in
-      steps_typed now move s t wrap (record { act = do_read w false; plug = λ u. wrap (plug u) }) plug v.0 q t.slots s.heap labels b.typing r.goes_on
+      steps_typed now move s t wrap (record { act = do_read w false; plug = λ u. wrap (plug u) }) plug v.0 q t.slots s.heap labels y b.typing r.goes_on
       (r.comes v.0 ∙ ap₂ (λ a k. record { entry = a; temps = left_after k v.0 }) i.comes i.leaves)
       (ap (λ o. nameless fresh.None (then_released plain.Nothing (stepped (moves_by now move) s t (record { act = do_read w false; plug = λ u. wrap (plug u) }) (then_reached o (λ k. read_did (state_of s t) false k (machine.value_at (state_of s t) k.spot)))))) l.is
       ∙ ap (λ o. nameless fresh.None (then_released plain.Nothing (stepped (moves_by now move) s t (record { act = do_read w false; plug = λ u. wrap (plug u) }) (read_did (state_of s t) false l.reached o)))) v.1)
       b.at.state
+      (b.names ∙ z.names)
+      (λ j u e. z.refs j u (push_none b (λ v f. not_lent (slot_k n) (with_type z.typing.exact (hand_at n i.temps) c.type) v i.kind i.copied (subst (ExactOf (slot_k n) (with_type z.typing.exact (hand_at n i.temps) c.type) (whole i.kind)) f d2.exact)) j u e))
     where
       some_val : {a b : Val} → Some a ≡ Some b → a ≡ b
       some_val e = cc
 
+      -- what is copied is no mutable reference
+      not_lent : (key : ℕ → Key) (E : KeyTypes) (u : Place) (k : Kind) → copies k ≡ true → ExactOf key E (whole k) (refers true u) → ⊥
+      not_lent key E u (own o) q h = h
+      not_lent key E u (shared us) q h = let f : true ≡ false = h.0 in cc
+      not_lent key E u (mutable us) q h = cc
+      not_lent key E u (view o) q h = let f : true ≡ false = h.0 in cc
+
 pub copy_keeps : Keeps IsCopy
-copy_keeps now move y s t p wrap act plug h r = subst (λ a. StepsTyped (moves_by now move) s t fresh.None (record { act = a; plug = λ z. wrap (plug z) })) (sym h.1) (copy_steps now move y s t p wrap plug h.0 (subst (λ a. Ready y s t p wrap a plug) h.1 r))
+copy_keeps now move y s t p wrap act plug h r = subst (λ a. StepsTyped y (moves_by now move) s t fresh.None (record { act = a; plug = λ z. wrap (plug z) })) (sym h.1) (copy_steps now move y s t p wrap plug h.0 (subst (λ a. Ready y s t p wrap a plug) h.1 r))

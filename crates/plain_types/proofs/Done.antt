@@ -8,12 +8,13 @@ use Rattle.fr_base.specs.declared.step.Fresh.{Fresh}
 use Rattle.fr_base.specs.declared.step.Fresh.TheVariants as fresh
 use Rattle.fr_plain.specs.Heap.{Heap, made_by}
 use Rattle.fr_plain.specs.Machine.{done_act}
+use Rattle.fr_sound.specs.Seen.{Gives}
 use Rattle.fr_sound.specs.States.{Typing}
 use Rattle.fr_plain.specs.MachineThreads.{Now, Move, Life, Thread, Whole, thread_at, with_thread, is_over, pair_of, settle_life}
-use Rattle.fr_plain.specs.PlainState.{Running, place_in, running, running_in, is_over_in, two_of, plain_state}
+use Rattle.fr_plain.specs.PlainState.{Running, PlainState, place_in, running, running_in, is_over_in, two_of, plain_state}
 use Rattle.fr_plain.proofs.ByName.{put_in, put_at, put_off}
 use Rattle.plain_types.specs.Positions.{Position, PositionTypes, moves_by}
-use Rattle.plain_types.specs.Keeps.{GoesOn, is_main, is_owed, is_loose, StepsTyped}
+use Rattle.plain_types.specs.Keeps.{GoesOn, is_main, is_owed, is_loose, KeepsNames, on_references, KeepsReferences, StepsTyped}
 use Rattle.plain_types.proofs.OneThread.{with_running}
 use Rattle.plain_types.proofs.AtHand.{Only}
 
@@ -23,26 +24,40 @@ settles now move _ q is_main = refl
 settles now move _ q is_owed = refl
 settles now move _ q is_loose = refl
 
+-- where all types are as before, those of names that were given are
+pub names_stay : {P : Type 0} {a : PlainState P} {before after : Gives} → after ≡ before → KeepsNames a before after
+names_stay e = record { mutexes = λ m _. ap (λ (g : Gives). g.mutex m) e; results = λ t l _. ap (λ (g : Gives). g.result t) e }
+
+-- one change after the other
+pub names_then : {P : Type 0} {a : PlainState P} {before between after : Gives} → KeepsNames a before between → KeepsNames a between after → KeepsNames a before after
+names_then h k = record { mutexes = λ m e. k.mutexes m e ∙ h.mutexes m e; results = λ t l e. k.results t l e ∙ h.results t l e }
+
 -- a step under these names that leads to a typed state, whatever it does beside its thread's life
-pub step_named : (now : Position → Now) (move : Position → Option (Move Position Position)) (s : Whole Position) (t : Thread Position) (wrap : Position → Life Position) (names : Fresh) (m : Move Position (Life Position)) (plug : Value → Position) (value : Value) (q : Position) (state : Life Position → Whole Position) (labels : List Label) (z : Typing)
+pub step_named : (now : Position → Now) (move : Position → Option (Move Position Position)) (s : Whole Position) (t : Thread Position) (wrap : Position → Life Position) (names : Fresh) (m : Move Position (Life Position)) (plug : Value → Position) (value : Value) (q : Position) (state : Life Position → Whole Position) (labels : List Label) (before : Typing) (z : Typing)
     → GoesOn wrap → plug value ≡ q
     → done_act (moves_by now move) s t names m m.act ≡ Some (record { state = state (settle_life (moves_by now move) (wrap (plug value))); labels = labels })
     → PositionTypes z (plain_state (state (wrap q)))
-    → StepsTyped (moves_by now move) s t names m
-step_named now move s t wrap names m plug value q state labels z goes comes done typed = record {
+    → KeepsNames (plain_state s) before.gives z.gives
+    → KeepsReferences (on_references m.act) t.number (length t.slots) before.exact z.exact
+    → StepsTyped before (moves_by now move) s t names m
+step_named now move s t wrap names m plug value q state labels before z goes comes done typed kept refs = record {
   next = record { state = state (settle_life (moves_by now move) (wrap (plug value))); labels = labels };
   is = done;
   typing = z;
   typed = subst (λ l. PositionTypes z (plain_state (state l))) (sym (settles now move wrap (plug value) goes ∙ ap wrap comes)) typed;
+  kept = kept;
+  refs = refs;
 }
 
 -- without a name
-pub step_by : (now : Position → Now) (move : Position → Option (Move Position Position)) (s : Whole Position) (t : Thread Position) (wrap : Position → Life Position) (m : Move Position (Life Position)) (plug : Value → Position) (value : Value) (q : Position) (state : Life Position → Whole Position) (labels : List Label) (z : Typing)
+pub step_by : (now : Position → Now) (move : Position → Option (Move Position Position)) (s : Whole Position) (t : Thread Position) (wrap : Position → Life Position) (m : Move Position (Life Position)) (plug : Value → Position) (value : Value) (q : Position) (state : Life Position → Whole Position) (labels : List Label) (before : Typing) (z : Typing)
     → GoesOn wrap → plug value ≡ q
     → done_act (moves_by now move) s t fresh.None m m.act ≡ Some (record { state = state (settle_life (moves_by now move) (wrap (plug value))); labels = labels })
     → PositionTypes z (plain_state (state (wrap q)))
-    → StepsTyped (moves_by now move) s t fresh.None m
-step_by now move s t wrap = step_named now move s t wrap fresh.None
+    → z.gives ≡ before.gives
+    → KeepsReferences (on_references m.act) t.number (length t.slots) before.exact z.exact
+    → StepsTyped before (moves_by now move) s t fresh.None m
+step_by now move s t wrap m plug value q state labels before z goes comes done typed kept refs = step_named now move s t wrap fresh.None m plug value q state labels before z goes comes done typed (names_stay kept) refs
 
 module _ (s : Whole Position) (t : Thread Position) (p : Position) (wrap : Position → Life Position) (goes : GoesOn wrap) (found : thread_at s.threads t.number ≡ Some t) (at : t.life ≡ wrap p) where
   abbrev here : Running Position

@@ -141,5 +141,5 @@ abbrev pub no_move : Position → Option (Move Position Position)
 no_move p = None
 
 -- what a step that keeps a state typed leads to is typed
-pub follows : {now : Position → Now} {move : Position → Option (Move Position Position)} {s : Whole Position} {t : Thread Position} {names : Fresh} {m : Move Position (Life Position)} (x : Stepped Position) → done_act (moves_by now move) s t names m m.act ≡ Some x → StepsTyped (moves_by now move) s t names m → (y : Typing) × PositionTypes y (plain_state x.state)
+pub follows : {before : Typing} {now : Position → Now} {move : Position → Option (Move Position Position)} {s : Whole Position} {t : Thread Position} {names : Fresh} {m : Move Position (Life Position)} (x : Stepped Position) → done_act (moves_by now move) s t names m m.act ≡ Some x → StepsTyped before (moves_by now move) s t names m → (y : Typing) × PositionTypes y (plain_state x.state)
 follows x e z = let f : Some z.next ≡ Some x = sym z.is ∙ e in let same : z.next ≡ x = cc in (z.typing, subst (λ (q : Stepped Position). PositionTypes z.typing (plain_state q.state)) same z.typed)

@@ -25,6 +25,7 @@ use Rattle.fr_sound.specs.States.{Typing, RunningTyped}
 use Rattle.fr_code.specs.CodeTypes.{wait}
 use Rattle.plain_types.specs.Positions.{Position, Knows, temps_of, PositionTypes}
 use Rattle.plain_types.proofs.Lower.{seen_as}
+use Rattle.plain_types.proofs.Refs.{NoneNew, none_with, none_owns}
 use Rattle.plain_types.proofs.OneThread.{store, typing_with, Counted, with_running, runs_still, differs_by}
 use Rattle.plain_types.proofs.Raised.{raised, raised_typing}
 use Rattle.plain_types.proofs.Focus.{Tops, top_none, top_some, hand_at, Focus, focus, temp_none}
@@ -37,8 +38,10 @@ pub record At (y : Typing) (a : PlainState Position) (t : ℕ) (x : Running Posi
   pub entry : x.place.entry ≡ going e ts g
 
 -- the state with that thread changed
-pub record Becomes (a2 : PlainState Position) (t : ℕ) (x2 : Running Position) (e : Env) (ts : List Kind) (g : Owned) : Type 0 where
+pub record Becomes (y0 : Typing) (a2 : PlainState Position) (t : ℕ) (x2 : Running Position) (e : Env) (ts : List Kind) (g : Owned) : Type 0 where
   pub typing : Typing
+  pub names : typing.gives ≡ y0.gives
+  pub refs : NoneNew y0.exact typing.exact
   pub at : At typing a2 t x2 e ts g
 
 -- the hand gets another type
@@ -65,15 +68,17 @@ room y t e ks i n le = by (decide_number i (length e))
     by (inr ne) = let f = ks.ranks i (length e) (omega (arith, le, ne)) in omega (arith, f)
 
 -- in a typed state the hand is above what waits, under ranks that suit
-pub record Ranked (a : PlainState Position) (t : ℕ) (x : Running Position) (e : Env) (ts us : List Kind) (o : Option Kind) (g : Owned) : Type 0 where
+pub record Ranked (y0 : Typing) (a : PlainState Position) (t : ℕ) (x : Running Position) (e : Env) (ts us : List Kind) (o : Option Kind) (g : Owned) : Type 0 where
   pub typing : Typing
+  pub names : typing.gives ≡ y0.gives
+  pub refs : NoneNew y0.exact typing.exact
   pub at : At typing a t x e ts g
   pub focus : Focus typing a t e us o
   pub running : RunningTyped Knows temps_of typing (store typing a) t (a.pair t) x
   pub gives : g ≡ typing.gives.result t
   pub long : length x.place.temps ≡ length ts
 
-pub ranked : (y : Typing) (a : PlainState Position) (t : ℕ) (x : Running Position) (e : Env) (ts us : List Kind) (o : Option Kind) (g : Owned) → At y a t x e ts g → Tops us o ts → wait us ≡ true → Ranked a t x e ts us o g
+pub ranked : (y : Typing) (a : PlainState Position) (t : ℕ) (x : Running Position) (e : Env) (ts us : List Kind) (o : Option Kind) (g : Owned) → At y a t x e ts g → Tops us o ts → wait us ≡ true → Ranked y a t x e ts us o g
 ranked y a t x e ts us o g h tops w =
     let r = h.state.threads t x h.runs in
     let n = suc (y.rank (slot_k t (length e))) in
@@ -82,6 +87,8 @@ ranked y a t x e ts us o g h tops w =
     let is : q.entry ≡ going e ts g = sym q.known ∙ h.entry in
     record {
       typing = raised_typing n y;
+      names = refl;
+      refs = λ k u q. q;
       at = record { state = st; runs = h.runs; entry = h.entry };
       focus = focus (raised_typing n y) a t x e ts g st h.runs h.entry (room y t e (record { differ = r.keys.differ; off = λ i z. absurd cc; ranks = r.keys.ranks })) us o tops (λ q. w);
       running = q;
@@ -104,6 +111,17 @@ pushed_here v vs n l = eq_cases (λ b. (if b then Some v else slot_at vs n) ≡ 
 abbrev pub push_place : Env → List Kind → Owned → Kind → Value → Position → Position
 push_place e us g k v p = record { entry = going e (k ∷ us) g; temps = v ∷ p.temps }
 
+-- the state with that thread changed, and the type of its hand
+pub record Pushes (y0 : Typing) (a2 : PlainState Position) (t : ℕ) (hand : Key) (p : Exact) (x2 : Running Position) (e : Env) (ts : List Kind) (g : Owned) : Type 0 where
+  pub typing : Typing
+  pub names : typing.gives ≡ y0.gives
+  pub types : typing.exact ≡ with_type y0.exact hand p
+  pub at : At typing a2 t x2 e ts g
+
+-- what is no mutable reference is none that is new
+pub push_none : {y0 : Typing} {a2 : PlainState Position} {t : ℕ} {hand : Key} {p : Exact} {x2 : Running Position} {e : Env} {ts : List Kind} {g : Owned} (b : Pushes y0 a2 t hand p x2 e ts g) → ((u : Place) → p ≡ refers true u → ⊥) → NoneNew y0.exact b.typing.exact
+push_none {y0 = y0} {hand = hand} {p = p} b other k u e = none_with y0.exact hand p other k u (sym (ap (λ (E : KeyTypes). E k) b.types) ∙ e)
+
 -- a value that owns and counts nothing comes to hand
 pub push : (y : Typing) (a a2 : PlainState Position) (t : ℕ) (x : Running Position) (e : Env) (us : List Kind) (g : Owned) (k : Kind) (v : Value) (p : Exact)
     → At y a t x e us g
@@ -115,7 +133,7 @@ pub push : (y : Typing) (a a2 : PlainState Position) (t : ℕ) (x : Running Posi
     → AreBelow (length e) (temp_places (Some k))
     → ((m : Bool) (u : Place) → p ≡ refers m u → NewName y t x m u)
     → (Counted (seen_as y.gives t gone_v (Some v)) → ⊥)
-    → Becomes a2 t (record { place = push_place e us g k v x.place; slots = x.slots }) e (k ∷ us) g
+    → Pushes y a2 t (hand_at t us) p (record { place = push_place e us g k v x.place; slots = x.slots }) e (k ∷ us) g
 push y a a2 t x e us g k v p h fc only objects typed exact names new plain =
     let r = h.state.threads t x h.runs in
     let is : r.entry ≡ going e us g = sym r.known ∙ h.entry in
@@ -125,6 +143,8 @@ push y a a2 t x e us g k v p h fc only objects typed exact names new plain =
     let empty = gone_there in
     record {
       typing = typing_with y E2 y.marks;
+      names = refl;
+      types = refl;
       at = record {
         state = hand_changed y a a2 t x (record { place = push_place e us g k v x.place; slots = x.slots }) e us us (k ∷ us) None (Some k) g E2 (seen_as y.gives t gone_v (Some v)) h.state h.runs h.entry fc only objects refl top_some (λ q. cc) refl (ap suc long)
             (λ i ne. ap (seen_as y.gives t gone_v) (pushed_others v x.place.temps i (length us) (sym long) ne))
@@ -160,7 +180,7 @@ pub pop : (y : Typing) (a a2 : PlainState Position) (t : ℕ) (x : Running Posit
     → Only a a2 t (record { place = record { entry = going e us g; temps = vs }; slots = x.slots })
     → ((o : ObjNo) → a2.object o ≡ a.object o)
     → (Counted ((store y a).at (hand_at t us)) → ⊥)
-    → Becomes a2 t (record { place = record { entry = going e us g; temps = vs }; slots = x.slots }) e us g
+    → Becomes y a2 t (record { place = record { entry = going e us g; temps = vs }; slots = x.slots }) e us g
 pop y a a2 t x e us g k v vs h fc waits temps only objects plain =
     let r = h.state.threads t x h.runs in
     let is : r.entry ≡ going e (k ∷ us) g = sym r.known ∙ h.entry in
@@ -171,6 +191,8 @@ pop y a a2 t x e us g k v vs h fc waits temps only objects plain =
     let x2 : Running Position = record { place = record { entry = going e us g; temps = vs }; slots = x.slots } in
     record {
       typing = typing_with y E2 y.marks;
+      names = refl;
+      refs = none_owns y.exact (hand_at t us) hole;
       at = record {
         state = hand_changed y a a2 t x x2 e (k ∷ us) us us (Some k) None g E2 gone_v h.state h.runs h.entry fc only objects refl top_none (λ q. waits) refl short
             (λ i ne. sym (ap (λ z. seen_as y.gives t gone_v (slot_at z i)) temps ∙ ap (seen_as y.gives t gone_v) (pushed_others v vs i (length us) (sym short) ne)))

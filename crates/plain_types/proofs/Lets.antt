@@ -1,17 +1,17 @@
 -- `let` keeps a state typed.
-use Rattle.std.proofs.Common.{◌≡◌, ◌≢◌, ⊎_elim, ◌∙◌, ap₂, ℕ, suc, ◌<◌, ◌≤◌, Bool, false, List, [], ◌∷◌, ◌++◌, length, Option, Some, refl, sym, ap, subst, arith}
+use Rattle.std.proofs.Common.{◌≡◌, ◌≢◌, ⊎_elim, inl, inr, ◌∙◌, ap₂, ℕ, suc, ◌<◌, ◌≤◌, Bool, false, List, [], ◌∷◌, ◌++◌, length, Option, Some, refl, sym, ap, subst, arith}
 use Rattle.fr_base.specs.declared.name.ObjNo.{ObjNo}
 use Rattle.fr_base.specs.declared.name.MutexNo.{MutexNo}
 use Rattle.fr_base.specs.declared.step.Fresh.TheVariants as fresh
 use Rattle.fr_terms.specs.Terms.{Text}
 use Rattle.fr_typing.specs.Kinds.{Owned, Kind, whole}
 use Rattle.fr_typing.specs.Places.{Env, Slot}
-use Rattle.fr_store.specs.Keys.{slot_k}
+use Rattle.fr_store.specs.Keys.{Key, slot_k, temp_k}
 use Rattle.fr_store.specs.Store.{Alike, at_key, gone_v, ref_v, Store, value_at, Place, swap}
 use Rattle.fr_store.specs.Changes.{SameButTwo}
 use Rattle.fr_store.specs.Typed.{hole, owns, refers, KeyTypes, Unnamed}
 use Rattle.fr_store.specs.Rows.{with_type}
-use Rattle.fr_store.proofs.Keys.{key_other, decide_number}
+use Rattle.fr_store.proofs.Keys.{key_same, key_other, decide_key, decide_number}
 use Rattle.fr_store.proofs.Rows.{top_fits}
 use Rattle.fr_store.proofs.ThreadKept.{last_unnamed}
 use Rattle.fr_plain.specs.declared.value.Value.{Value}
@@ -25,7 +25,7 @@ use Rattle.fr_sound.specs.Seen.{seen_cell}
 use Rattle.fr_sound.specs.States.{Typing, env_at, part_of, is_hidden, is_held}
 use Rattle.plain_types.specs.Positions.{Position, PositionTypes, moves_by, StartsAs}
 use Rattle.plain_types.specs.ActRows.{Pops, Leaves, quiet, left_after, ActRow, r_let}
-use Rattle.plain_types.specs.Keeps.{Ready, StepsTyped, Keeps}
+use Rattle.plain_types.specs.Keeps.{Ready, binds, KeepsReferences, StepsTyped, Keeps}
 use Rattle.plain_types.proofs.Lower.{seen_as}
 use Rattle.plain_types.proofs.OneThread.{store, typing_with}
 use Rattle.plain_types.proofs.Raised.{ranked_by, raised, raised_typing}
@@ -33,6 +33,8 @@ use Rattle.plain_types.proofs.Focus.{top_none, top_some, hand_at, Focus, temp_no
 use Rattle.plain_types.proofs.AtHand.{Only, mark_off}
 use Rattle.plain_types.proofs.Moved.{carried_swap}
 use Rattle.plain_types.proofs.Hand.{At, pushed_others, pushed_here}
+use Rattle.plain_types.proofs.Refs.{NoneNew, none_owns}
+use Rattle.plain_types.proofs.Borrows.{hand_is}
 use Rattle.plain_types.proofs.Done.{runs_here, only_here}
 use Rattle.plain_types.proofs.Operands.{Loaded, load, hand_value, steps_typed}
 use Rattle.plain_types.specs.Keeps.{IsLet}
@@ -59,7 +61,7 @@ let_row : {x z : Entry} {vs : List Value} {v : Value} {l : Leaves} → ActRow St
 let_row (r_let {e = e} {ts = ts} {us = us} {ws = ws} {g = g} {k = k} n pops free) = record { env = e; before = ts; after = us; left = ws; result = g; kind = k; name = n; pops = pops; entry = refl; leaves = refl; comes = refl }
 
 -- with the operand at hand, under ranks that leave room for its slot
-module _ {a0 : PlainState Position} {n : ℕ} {x : Running Position} {e : Env} {us : List Kind} {g : Owned} {k : Kind} {v : Value} {ws : List Value} (l : Loaded a0 n x e us g k v ws) (name : Text) where
+module _ {y0 : Typing} {a0 : PlainState Position} {n : ℕ} {x : Running Position} {e : Env} {us : List Kind} {g : Owned} {k : Kind} {v : Value} {ws : List Value} (l : Loaded y0 a0 n x e us g k v ws) (name : Text) where
   free_by : Focus (raised_typing (suc (l.typing.rank (slot_k n (length e)))) l.typing) l.state n e us (Some k) → (i : ℕ) → length e ≤ i → Unnamed l.typing.exact (slot_k n i)
   free_by f i le = last_unnamed (slot_k n) (raised_typing (suc (l.typing.rank (slot_k n (length e)))) l.typing).rank (hand_at n us) e l.typing.exact (store l.typing l.state) (Some k) (length e) i f.keys f.thread f.thread.names le (omega (arith, le))
 
@@ -181,8 +183,15 @@ module _ {a0 : PlainState Position} {n : ℕ} {x : Running Position} {e : Env} {
               old : (i : ℕ) → is_hidden (env_at e i) ≡ is_held (slot_at l.running.slots i)
               old i = let r = at_two.state.threads n l.running l.at.runs in ap (λ (w : Entry). is_hidden (env_at w.env i)) (sym l.at.entry ∙ r.known) ∙ r.hidden i
 
+-- what was at hand is in the new slot
+bound_refs : (t slots : ℕ) (hand : Key) → (i : ℕ) × (hand ≡ temp_k t i) → (x : Key) → x ≡ slot_k t slots → (E E1 : KeyTypes) → NoneNew E E1 → KeepsReferences binds t slots E (bound_types E1 hand x)
+bound_refs t slots hand at x is E E1 none k u e =
+    let E2 = with_type E1 hand (owns hole) in
+    ⊎_elim (λ (z : k ≡ x). inr (z ∙ is, (at.0, ap E (sym at.1) ∙ none hand u (sym (key_same x (E1 hand) (E2 x)) ∙ ap (with_type E2 x (E1 hand)) (sym z) ∙ e))))
+    (λ (z : k ≢ x). inl (none k u (none_owns E1 hand hole k u (sym (key_other k x (E1 hand) (E2 k) z) ∙ e)))) (decide_key k x)
+
 module _ (now : Position → Now) (move : Position → Option (Move Position Position)) (y : Typing) (s : Machine Position) (t : Thread Position) (p : Position) (wrap : Position → Life Position) (plug : Value → Position) where
-  let_steps : (v : Value) → Ready y s t p wrap (do_let v) plug → StepsTyped (moves_by now move) s t fresh.None (record { act = do_let v; plug = λ z. wrap (plug z) })
+  let_steps : (v : Value) → Ready y s t p wrap (do_let v) plug → StepsTyped y (moves_by now move) s t fresh.None (record { act = do_let v; plug = λ z. wrap (plug z) })
   let_steps v r =
       let i = let_row r.row in
       let x : Running Position = record { place = p; slots = t.slots } in
@@ -193,11 +202,14 @@ module _ (now : Position → Now) (move : Position → Option (Move Position Pos
       let only = only_here s t p wrap r.goes_on r.found r.at q (v ∷ t.slots) s.heap (s.output ++ []) (λ u. omega arith) in
       let a2 = plain_state (record s { threads = with_thread s.threads (record { number = t.number; life = wrap q; slots = v ∷ t.slots }); heap = s.heap; output = s.output ++ [] }) in
       let only2 = l.only a2 (record { place = q; slots = v ∷ t.slots }) only in
-      let st = typed l i.name a2 (subst (λ w. Only l.state a2 n (record { place = q; slots = v ∷ w })) (sym l.slots) only2) (λ o. sym (l.objects o)) in
-      steps_typed now move s t wrap (record { act = do_let v; plug = λ u. wrap (plug u) }) plug unit_value q (v ∷ t.slots) s.heap [] _ r.goes_on
+      let only3 = subst (λ w. Only l.state a2 n (record { place = q; slots = v ∷ w })) (sym l.slots) only2 in
+      let st = typed l i.name a2 only3 (λ o. sym (l.objects o)) in
+      steps_typed now move s t wrap (record { act = do_let v; plug = λ u. wrap (plug u) }) plug unit_value q (v ∷ t.slots) s.heap [] y _ r.goes_on
       (r.comes unit_value ∙ ap₂ (λ a k. record { entry = a; temps = left_after k unit_value }) i.comes i.leaves)
       refl
       st
+      l.names
+      (bound_refs n (length t.slots) (hand_at n i.after) (hand_is n i.after) (slot_k n (length i.env)) (ap (slot_k n) (sym (as_many_slots l i.name a2 only3 (λ o. sym (l.objects o))) ∙ ap length l.slots)) y.exact l.typing.exact l.refs)
 
 pub let_keeps : Keeps IsLet
-let_keeps now move y s t p wrap act plug h r = subst (λ a. StepsTyped (moves_by now move) s t fresh.None (record { act = a; plug = λ z. wrap (plug z) })) (sym h.1) (let_steps now move y s t p wrap plug h.0 (subst (λ a. Ready y s t p wrap a plug) h.1 r))
+let_keeps now move y s t p wrap act plug h r = subst (λ a. StepsTyped y (moves_by now move) s t fresh.None (record { act = a; plug = λ z. wrap (plug z) })) (sym h.1) (let_steps now move y s t p wrap plug h.0 (subst (λ a. Ready y s t p wrap a plug) h.1 r))

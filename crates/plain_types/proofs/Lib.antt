@@ -10,6 +10,7 @@ pub mod Hoisted
 pub mod Focus
 pub mod AtHand
 pub mod Done
+pub mod Refs
 pub mod Hand
 pub mod Operands
 pub mod Numbers

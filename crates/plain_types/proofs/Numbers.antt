@@ -22,7 +22,7 @@ use Rattle.plain_types.specs.ActRows.{Pops, Leaves, quiet, loud, left_after, Act
 use Rattle.plain_types.specs.Keeps.{Ready, StepsTyped, Keeps, IsPrint, IsArith}
 use Rattle.plain_types.proofs.OneThread.{store}
 use Rattle.plain_types.proofs.Focus.{top_none, hand_at}
-use Rattle.plain_types.proofs.Hand.{At, ranked, push, typed_new, put_running, only_put, objects_put, only_after}
+use Rattle.plain_types.proofs.Hand.{At, ranked, push, push_none, typed_new, put_running, only_put, objects_put, only_after}
 use Rattle.plain_types.proofs.Done.{runs_here, only_here}
 use Rattle.plain_types.proofs.Operands.{load, int_gone, steps_typed}
 
@@ -43,7 +43,7 @@ print_row : {x z : Entry} {vs : List Value} {v : Value} {l : Leaves} → ActRow 
 print_row (r_print {e = e} {ts = ts} {us = us} {ws = ws} {g = g} pops) = record { env = e; before = ts; after = us; left = ws; result = g; pops = pops; entry = refl; leaves = refl; comes = refl }
 
 module _ (now : Position → Now) (move : Position → Option (Move Position Position)) (y : Typing) (s : Whole Position) (t : Thread Position) (p : Position) (wrap : Position → Life Position) (plug : Value → Position) where
-  print_steps : (v : Value) → Ready y s t p wrap (do_print v) plug → StepsTyped (moves_by now move) s t fresh.None (record { act = do_print v; plug = λ z. wrap (plug z) })
+  print_steps : (v : Value) → Ready y s t p wrap (do_print v) plug → StepsTyped y (moves_by now move) s t fresh.None (record { act = do_print v; plug = λ z. wrap (plug z) })
   print_steps v r =
       let i = print_row r.row in
       let x : Running Position = record { place = p; slots = t.slots } in
@@ -52,14 +52,16 @@ module _ (now : Position → Now) (move : Position → Option (Move Position Pos
       let l = load y (plain_state s) t.number x i.env i.result h refl i.pops in
       let only = only_here s t p wrap r.goes_on r.found r.at q t.slots s.heap s.output (λ u. omega arith) in
       let g = int_gone (plain_state s) _ t.number x i.env i.after i.result v i.left l only (λ o. refl) in
-      steps_typed now move s t wrap (record { act = do_print v; plug = λ z. wrap (plug z) }) plug unit_value q t.slots s.heap (label.Print g.number ∷ []) g.becomes.typing r.goes_on
+      steps_typed now move s t wrap (record { act = do_print v; plug = λ z. wrap (plug z) }) plug unit_value q t.slots s.heap (label.Print g.number ∷ []) y g.becomes.typing r.goes_on
       (r.comes unit_value ∙ ap₂ (λ a b. record { entry = a; temps = left_after b unit_value }) i.comes i.leaves)
       (ap (λ w. done_act (moves_by now move) s t fresh.None (record { act = do_print v; plug = λ z. wrap (plug z) }) (do_print w)) g.is)
       g.becomes.at.state
+      g.becomes.names
+      g.becomes.refs
 
 pub print_keeps : Keeps IsPrint
 print_keeps now move y s t p wrap act plug h r =
-    subst (λ a. StepsTyped (moves_by now move) s t fresh.None (record { act = a; plug = λ z. wrap (plug z) })) (sym h.1) (print_steps now move y s t p wrap plug h.0 (subst (λ a. Ready y s t p wrap a plug) h.1 r))
+    subst (λ a. StepsTyped y (moves_by now move) s t fresh.None (record { act = a; plug = λ z. wrap (plug z) })) (sym h.1) (print_steps now move y s t p wrap plug h.0 (subst (λ a. Ready y s t p wrap a plug) h.1 r))
 
 -- ARITHMETIC
 
@@ -81,7 +83,7 @@ arith_row : {x z : Entry} {vs : List Value} {f : Op} {v w : Value} {l : Leaves} 
 arith_row (r_arith {e = e} {ts = ts} {us = us} {rs = rs} {ws = ws} {xs = xs} {g = g} b a) = record { env = e; before = ts; between = us; after = rs; middle = ws; left = xs; result = g; second = b; first = a; entry = refl; leaves = refl; comes = refl }
 
 module _ (now : Position → Now) (move : Position → Option (Move Position Position)) (y : Typing) (s : Whole Position) (t : Thread Position) (p : Position) (wrap : Position → Life Position) (plug : Value → Position) where
-  arith_steps : (f : Op) (v w : Value) → Ready y s t p wrap (do_arith f v w) plug → StepsTyped (moves_by now move) s t fresh.None (record { act = do_arith f v w; plug = λ z. wrap (plug z) })
+  arith_steps : (f : Op) (v w : Value) → Ready y s t p wrap (do_arith f v w) plug → StepsTyped y (moves_by now move) s t fresh.None (record { act = do_arith f v w; plug = λ z. wrap (plug z) })
   arith_steps f v w r =
       let i = arith_row r.row in
       let a0 = plain_state s in
@@ -105,11 +107,13 @@ module _ (now : Position → Now) (move : Position → Option (Move Position Pos
       (λ o. sym (objects_put a1 t.number x2 o ∙ objects_put (plain_state s) t.number x1 o))
       (typed_new k.typing.rank k.typing.exact (store k.typing a2) (hand_at t.number i.after) int_tree (int_v n) k.at.state.typed k.focus.thread.quiet (new_int n))
       refl tt (λ m u e. absurd cc) (λ c. c) in
-      steps_typed now move s t wrap (record { act = do_arith f v w; plug = λ z. wrap (plug z) }) plug (Own (plain.Int n)) q t.slots s.heap [] b.typing r.goes_on
+      steps_typed now move s t wrap (record { act = do_arith f v w; plug = λ z. wrap (plug z) }) plug (Own (plain.Int n)) q t.slots s.heap [] y b.typing r.goes_on
       (r.comes (Own (plain.Int n)) ∙ ap₂ (λ a c. record { entry = a; temps = left_after c (Own (plain.Int n)) }) i.comes i.leaves)
       (ap₂ (λ a c. done_act (moves_by now move) s t fresh.None (record { act = do_arith f v w; plug = λ z. wrap (plug z) }) (do_arith f a c)) g2.is g1.is)
       b.at.state
+      (b.names ∙ k.names ∙ g2.becomes.names ∙ g1.becomes.names)
+      (λ j u e. g1.becomes.refs j u (g2.becomes.refs j u (k.refs j u (push_none b (λ v f. absurd cc) j u e))))
 
 pub arith_keeps : Keeps IsArith
 arith_keeps now move y s t p wrap act plug h r =
-    subst (λ a. StepsTyped (moves_by now move) s t fresh.None (record { act = a; plug = λ z. wrap (plug z) })) (sym h.3) (arith_steps now move y s t p wrap plug h.0 h.1 h.2 (subst (λ a. Ready y s t p wrap a plug) h.3 r))
+    subst (λ a. StepsTyped y (moves_by now move) s t fresh.None (record { act = a; plug = λ z. wrap (plug z) })) (sym h.3) (arith_steps now move y s t p wrap plug h.0 h.1 h.2 (subst (λ a. Ready y s t p wrap a plug) h.3 r))

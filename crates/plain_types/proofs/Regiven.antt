@@ -20,19 +20,15 @@ use Rattle.fr_plain.specs.PlainState.{Running, PlainState, place_in}
 use Rattle.fr_sound.specs.Seen.{Gives, val_of, owned_val, seen_cell}
 use Rattle.fr_sound.specs.States.{Typing, slot_val, temp_val, result_val, content_val, RunningTyped, IsThread, hand_key, hand_kind, IsLock, IsBranch, IsKept, IsShare, AreSoMany, MutexTyped}
 use Rattle.plain_types.specs.Positions.{Position, Knows, temps_of, PositionTypes}
+use Rattle.plain_types.specs.Keeps.{KeepsNames}
 use Rattle.plain_types.proofs.Lower.{seen_as, seen_is}
 use Rattle.plain_types.proofs.OneThread.{store, RunningCore, with_lower}
 use Rattle.plain_types.proofs.Focus.{temp_is}
 
--- the types of given mutexes and of threads that were started are as before
-pub record Regives (a : PlainState Position) (g g2 : Gives) : Type 0 where
-  pub mutexes : (m : MutexNo) → a.is_given m ≡ true → g2.mutex m ≡ g.mutex m
-  pub results : (u : ℕ) (l : Life (Running Position)) → a.thread u ≡ Some l → g2.result u ≡ g.result u
-
 abbrev pub giving : Gives → Typing → Typing
 giving g2 y = record y { gives = g2 }
 
-module _ (g2 : Gives) (y : Typing) (a : PlainState Position) (st : PositionTypes y a) (c : Regives a y.gives g2) where
+module _ (g2 : Gives) (y : Typing) (a : PlainState Position) (st : PositionTypes y a) (c : KeepsNames a y.gives g2) where
   abbrev y2 : Typing
   y2 = record y { gives = g2 }
 

@@ -109,7 +109,7 @@ seen_plain g t (ToObject o) = refl
 seen_plain g t (Held m) = refl
 
 -- an operand of an owned type owns what it is
-pub owned_value : {a0 : PlainState Position} {n : ℕ} {x : Running Position} {e : Env} {us : List Kind} {g k : Owned} {v : Value} {ws : List Value} (l : Loaded a0 n x e us g (own k) v ws) → Ranked l.state n l.running e (own k ∷ us) us (Some (own k)) g → (p : Plain) × (v ≡ Own p)
+pub owned_value : {y0 y1 : Typing} {a0 : PlainState Position} {n : ℕ} {x : Running Position} {e : Env} {us : List Kind} {g k : Owned} {v : Value} {ws : List Value} (l : Loaded y0 a0 n x e us g (own k) v ws) → Ranked y1 l.state n l.running e (own k ∷ us) us (Some (own k)) g → (p : Plain) × (v ≡ Own p)
 owned_value {n = n} {us = us} {k = k} {v = v} {ws = ws} l z =
     let s1 = store z.typing l.state in
     let as_many : length ws ≡ length us = let q = z.long in let p = ap length l.temps in omega (arith, q, p) in

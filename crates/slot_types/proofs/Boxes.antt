@@ -43,6 +43,7 @@ use Rattle.plain_types.proofs.Marks.{mark_back, one_mark_to}
 use Rattle.plain_types.proofs.Moved.{flip, flip_first, flip_second, flip_third, flip_twice}
 use Rattle.plain_types.proofs.Focus.{top_some, hand_at}
 use Rattle.plain_types.proofs.AtHand.{Only, mark_off}
+use Rattle.plain_types.proofs.Refs.{none_owns}
 use Rattle.plain_types.proofs.Hand.{At, Ranked, ranked, rehung, pushed_others, pushed_here}
 use Rattle.plain_types.proofs.Done.{runs_here, only_here, made_here}
 use Rattle.plain_types.proofs.Operands.{Loaded, load, hand_value, steps_typed}
@@ -87,7 +88,7 @@ module _ (s s2 : Store) (h : Key) (o : ObjNo) (same : SameButTwo (at_key h) (at_
 
 -- THE STATE
 
-module _ {a0 : PlainState Position} {n : ℕ} {x : Running Position} {e : Env} {us : List Kind} {g : Owned} {k : Owned} {v : Value} {ws : List Value} (l : Loaded a0 n x e us g (own k) v ws) (z : Ranked l.state n l.running e (own k ∷ us) us (Some (own k)) g) (heap : Heap) (objects : (o : ObjNo) → l.state.object o ≡ cell_at heap o) where
+module _ {y0 y1 : Typing} {a0 : PlainState Position} {n : ℕ} {x : Running Position} {e : Env} {us : List Kind} {g : Owned} {k : Owned} {v : Value} {ws : List Value} (l : Loaded y0 a0 n x e us g (own k) v ws) (z : Ranked y1 l.state n l.running e (own k ∷ us) us (Some (own k)) g) (heap : Heap) (objects : (o : ObjNo) → l.state.object o ≡ cell_at heap o) where
   abbrev h : Key
   h = hand_at n us
 
@@ -242,7 +243,7 @@ box_row : {x z : Entry} {vs : List Value} {v : Value} {l : Leaves} → ActRow St
 box_row (r_box {e = e} {ts = ts} {us = us} {ws = ws} {g = g} {x = x} pops) = record { env = e; before = ts; after = us; left = ws; result = g; content = x; pops = pops; entry = refl; leaves = refl; comes = refl }
 
 module _ (now : Position → Now) (move : Position → Option (Move Position Position)) (y : Typing) (s : Machine Position) (t : Thread Position) (p : Position) (wrap : Position → Life Position) (plug : Value → Position) where
-  box_steps : (v : Value) → Ready y s t p wrap (do_box v) plug → StepsTyped (moves_by now move) s t fresh.None (record { act = do_box v; plug = λ z. wrap (plug z) })
+  box_steps : (v : Value) → Ready y s t p wrap (do_box v) plug → StepsTyped y (moves_by now move) s t fresh.None (record { act = do_box v; plug = λ z. wrap (plug z) })
   box_steps v r =
       let i = box_row r.row in
       let x : Running Position = record { place = p; slots = t.slots } in
@@ -261,10 +262,12 @@ module _ (now : Position → Now) (move : Position → Option (Move Position Pos
       let up = made_here s t p wrap r.goes_on r.found r.at q t.slots heap (s.output ++ []) (made_grows s.heap n d.0) in
       let more = made_next s.heap n d.0 in
       let st = boxed_typed l z s.heap l.objects d.0 d.1 a2 (subst (λ w. Only l.state a2 n (record { place = q; slots = w })) (sym l.slots) only2) (λ o. refl) (omega (arith, up, more)) in
-      steps_typed now move s t wrap (record { act = do_box v; plug = λ u. wrap (plug u) }) plug b q t.slots heap labels _ r.goes_on
+      steps_typed now move s t wrap (record { act = do_box v; plug = λ u. wrap (plug u) }) plug b q t.slots heap labels y _ r.goes_on
       (r.comes b ∙ ap₂ (λ a k. record { entry = a; temps = left_after k b }) i.comes i.leaves)
       (ap (λ w. nameless fresh.None (then_released plain.Nothing (stepped (moves_by now move) s t (record { act = do_box v; plug = λ u. wrap (plug u) }) (box_did (state_of s t) w)))) d.1)
       st
+      (z.names ∙ l.names)
+      (λ j u e. l.refs j u (z.refs j u (none_owns z.typing.exact (hand_at n i.after) (box_tree (tree_of i.content)) j u e)))
 
 pub box_keeps : Keeps IsBox
-box_keeps now move y s t p wrap act plug h r = subst (λ a. StepsTyped (moves_by now move) s t fresh.None (record { act = a; plug = λ z. wrap (plug z) })) (sym h.1) (box_steps now move y s t p wrap plug h.0 (subst (λ a. Ready y s t p wrap a plug) h.1 r))
+box_keeps now move y s t p wrap act plug h r = subst (λ a. StepsTyped y (moves_by now move) s t fresh.None (record { act = a; plug = λ z. wrap (plug z) })) (sym h.1) (box_steps now move y s t p wrap plug h.0 (subst (λ a. Ready y s t p wrap a plug) h.1 r))

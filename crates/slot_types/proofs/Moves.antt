@@ -10,7 +10,7 @@ use Rattle.fr_typing.specs.Kinds.{Owned, unit, int, box, mutex, task, Kind, own,
 use Rattle.fr_typing.specs.Places.{Env, found, type_at, write_blocked, is_own_path, put_at}
 use Rattle.fr_typing.proofs.PlaceLemmas.{AreBelow-weaker}
 use Rattle.fr_store.specs.Keys.{Key, slot_k}
-use Rattle.fr_store.specs.Store.{locate as store_locate}
+use Rattle.fr_store.specs.Store.{locate as store_locate, Place}
 use Rattle.fr_store.specs.Store.{Alike, Location, at_key, Val, gone_v, ref_v, Store, value_at, put_value, swap}
 use Rattle.fr_store.specs.Changes.{SameButTwo, put_tree}
 use Rattle.fr_store.specs.Typed.{hole, owns, refers, KeyTypes, exact_under, some_owns, Resolves, here, Fits, Unnamed}
@@ -67,6 +67,7 @@ record Taken (y : Typing) (a : PlainState Position) (t : ℕ) (e : Env) (us : Li
   thread : (s2 : Store) → SameButTwo (at_key (hand_at t us)) l (store y a) s2 → value_at s2 l ≡ Some ((store y a).at (hand_at t us)) → Some (s2.at (hand_at t us)) ≡ value_at (store y a) l → ThreadTyped (slot_k t) y.rank (hand_at t us) (put_at e w (gone k)) types s2 (Some k)
   others : (j : Key) → j ≢ hand_at t us → ((i : ℕ) → j ≢ slot_k t i) → types j ≡ y.exact j
   stood : Stood (slot_k t) (hand_at t us) y.exact types
+  origin : (j : Key) (u : Place) → types j ≡ refers true u → (y.exact j ≡ refers true u) ⊎ ((j ≡ hand_at t us) × (y.exact (slot_k t w.slot) ≡ refers true u))
   parts : (i : ℕ) → owned_in (part_at (put_at e w (gone k)) i) ≡ owned_in (part_at e i)
   marks : (u i : ℕ) (m : MutexNo) (x : Running Position) → place_in (a.thread u) ≡ Some x → slot_at x.slots i ≡ Some (Held m) → y.marks u i ≢ l
 
@@ -90,6 +91,7 @@ module _ (y : Typing) (a : PlainState Position) (t : ℕ) (x : Running Position)
             (same_store y.rank E2 E2 (swap (store y a) (hand_at t us) l) s2 typed (λ j. refl) (alike_swap (store y a) s2 (hand_at t us) l v away there same to (some_val (hand ∙ there)))) refl refl;
         others = λ j nh ns. key_other j (hand_at t us) (owns (tree_of o)) (with_type y.exact (slot_k t w.slot) (owns (put_tree w.depth hole p.0)) j) nh ∙ key_other j (slot_k t w.slot) (owns (put_tree w.depth hole p.0)) (y.exact j) (ns w.slot);
         stood = λ j m u js. inl (swapped_refs y.exact (hand_at t us) (slot_k t w.slot) w.depth hole p.0 (tree_of o) j m u js);
+        origin = λ j u js. inl (swapped_refs y.exact (hand_at t us) (slot_k t w.slot) w.depth hole p.0 (tree_of o) j true u js);
         parts = owned_put e w (gone (own o)) (λ s is. owned_under w.depth (gone (own o)) s.part p.0 o (subst (ExactOf (slot_k t) y.exact s.part) p.1 (part_exact (slot_k t) y.exact e w.slot s f.thread.slots is)) p.2 refl);
         marks = λ u i m z runs mark. mark_off_owned y a u i m z (slot_k t w.slot) p.0 (tree_of o) w.depth l h.state runs mark unnamed p.1 p.2 chain;
       }
@@ -152,6 +154,8 @@ module _ (y : Typing) (a : PlainState Position) (t : ℕ) (x : Running Position)
             });
             others = λ j nh ns. key_other j b p (E1 j) nh ∙ key_other j x0 (owns hole) (y.exact j) (ns w.slot);
             stood = came;
+            origin = λ j u js. ⊎_elim (λ (z : j ≡ b). inr (z, r.1 ∙ sym (key_same b p (E1 b)) ∙ ap E2 (sym z) ∙ js))
+                (λ (z : j ≢ b). inl (known_tree (slot_k t) b y.exact x0 hole j true u (sym (key_other j b p (E1 j) z) ∙ js))) (decide_key j b);
             parts = owned_put e w0 (gone (mutable vs)) (λ s q. let k : found s.part ≡ found (whole (mutable vs)) = sym (part_type e w.slot s q) ∙ is in let k2 : s.part ≡ whole (mutable vs) = cc in sym (ap owned_part k2));
             marks = λ u i m z runs mark q. mark_off y a u i m z x0 h.state runs mark unnamed (q ∙ stands);
           }
@@ -207,7 +211,7 @@ spot_two y a a2 t x x2 E2 heap runs only objects (in_cell o) u is clear = ap (se
     by (Some w) f = let same : Own w ≡ u = cc in ap (λ q. Some (val_of y.gives t q)) same
 
 module _ (now : Position → Now) (move : Position → Option (Move Position Position)) (y : Typing) (s : Machine Position) (t : Thread Position) (p : Position) (wrap : Position → Life Position) (plug : Value → Position) where
-  move_steps : (w : Lval) → Ready y s t p wrap (do_read w true) plug → StepsTyped (moves_by now move) s t fresh.None (record { act = do_read w true; plug = λ z. wrap (plug z) })
+  move_steps : (w : Lval) → Ready y s t p wrap (do_read w true) plug → StepsTyped y (moves_by now move) s t fresh.None (record { act = do_read w true; plug = λ z. wrap (plug z) })
   move_steps w r =
       let i = move_row r.row in
       let x : Running Position = record { place = p; slots = t.slots } in
@@ -264,14 +268,16 @@ module _ (now : Position → Now) (move : Position → Option (Move Position Pos
         held = λ u j m k runs mark. two (z.typing.marks u j) (mark_off z.typing (plain_state s) u j m k b z.at.state runs mark z.focus.thread.quiet) (d.marks u j m k runs mark);
         carried = carried_swap s1 s2 b (location_of n spot) two to hand;
       }) in
-      steps_typed now move s t wrap (record { act = do_read w true; plug = λ u. wrap (plug u) }) plug v.0 q st2.slots st2.heap labels (typing_with z.typing d.types z.typing.marks) r.goes_on
+      steps_typed now move s t wrap (record { act = do_read w true; plug = λ u. wrap (plug u) }) plug v.0 q st2.slots st2.heap labels y (typing_with z.typing d.types z.typing.marks) r.goes_on
       (r.comes v.0 ∙ ap₂ (λ a k. record { entry = a; temps = left_after k v.0 }) i.comes i.leaves)
       (ap (λ o. nameless fresh.None (then_released plain.Nothing (stepped (moves_by now move) s t (record { act = do_read w true; plug = λ u. wrap (plug u) }) (then_reached o (λ k. read_did (state_of s t) true k (machine.value_at (state_of s t) k.spot)))))) l.is
       ∙ ap (λ o. nameless fresh.None (then_released plain.Nothing (stepped (moves_by now move) s t (record { act = do_read w true; plug = λ u. wrap (plug u) }) (read_did (state_of s t) true l.reached o)))) v.1)
       typed
+      z.names
+      (λ j u e. ⊎_elim (λ (q : z.typing.exact j ≡ refers true u). inl (z.refs j u q)) (λ (q : (j ≡ hand_at n i.temps) × (z.typing.exact (slot_k n w.slot) ≡ refers true u)). inr (length i.temps, q.0, z.refs (slot_k n w.slot) u q.1)) (d.origin j u e))
     where
       some_val : {a b : Val} → Some a ≡ Some b → a ≡ b
       some_val e = cc
 
 pub move_keeps : Keeps IsMove
-move_keeps now move y s t p wrap act plug h r = subst (λ a. StepsTyped (moves_by now move) s t fresh.None (record { act = a; plug = λ z. wrap (plug z) })) (sym h.1) (move_steps now move y s t p wrap plug h.0 (subst (λ a. Ready y s t p wrap a plug) h.1 r))
+move_keeps now move y s t p wrap act plug h r = subst (λ a. StepsTyped y (moves_by now move) s t fresh.None (record { act = a; plug = λ z. wrap (plug z) })) (sym h.1) (move_steps now move y s t p wrap plug h.0 (subst (λ a. Ready y s t p wrap a plug) h.1 r))

@@ -39,11 +39,11 @@ nameless s (fresh.Mutex m) h = absurd cc
 
 module _ (now : Position → Now) (move : Position → Option (Move Position Position)) (y : Typing) (s : Whole Position) (t : Thread Position) (p : Position) (wrap : Position → Life Position) (plug : Value → Position) (names : Fresh) where
   abbrev Steps : Act Position → Type 0
-  Steps act = StepsTyped (moves_by now move) s t names (record { act = act; plug = λ v. wrap (plug v) })
+  Steps act = StepsTyped y (moves_by now move) s t names (record { act = act; plug = λ v. wrap (plug v) })
 
   -- such a step without a name
-  bare : (act : Act Position) → refused_names s no_name names ≡ None → StepsTyped (moves_by now move) s t fresh.None (record { act = act; plug = λ v. wrap (plug v) }) → Steps act
-  bare act h d = subst (λ n. StepsTyped (moves_by now move) s t n (record { act = act; plug = λ v. wrap (plug v) })) (nameless s names h) d
+  bare : (act : Act Position) → refused_names s no_name names ≡ None → StepsTyped y (moves_by now move) s t fresh.None (record { act = act; plug = λ v. wrap (plug v) }) → Steps act
+  bare act h d = subst (λ n. StepsTyped y (moves_by now move) s t n (record { act = act; plug = λ v. wrap (plug v) })) (nameless s names h) d
 
   by_row : {x z : Entry} {vs : List Value} {act : Act Position} {leaves : Leaves} → ActRow StartsAs x vs act leaves z → refused_names s (takes_of act) names ≡ None → act_waits s t act ≡ None → Ready y s t p wrap act plug → Steps act
   by_row (r_let {v = v} x o n) f w r = bare (do_let v) f (let_keeps now move y s t p wrap (do_let v) plug (v, refl) r)

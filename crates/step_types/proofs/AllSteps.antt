@@ -1,5 +1,5 @@
 -- A step of a machine whose places are known is the step of its positions, which the laws of acts are about.
-use Rattle.std.proofs.Common.{◌≡◌, inl, ◌∙◌, ℕ, Bool, true, false, List, [], Option, Some, None, refl, sym, ap, subst}
+use Rattle.std.proofs.Common.{◌≡◌, inl, ◌∙◌, ℕ, Bool, true, false, List, [], length, Option, Some, None, refl, sym, ap, subst}
 use Rattle.std.specs.Prelude.{if◌then◌else◌}
 use Rattle.fr_base.specs.declared.step.Fresh.{Fresh}
 use Rattle.fr_base.specs.declared.step.Fresh.TheVariants as fresh
@@ -11,17 +11,18 @@ use Rattle.fr_plain.specs.MachineThreads.{Now, Move, Moves, on_value, next, Life
 use Rattle.fr_plain.specs.MachineThreads as machine
 use Rattle.fr_plain.specs.Machine.{Stepped, step, step_of, moved, done_act, act_waits, move_waits, takes_of, takes_name, Refusal, refused_names, refused_wait, refused_of, refused}
 use Rattle.fr_plain.specs.Machine as plain_machine
-use Rattle.fr_plain.specs.PlainState.{running, running_in, place_in, plain_state}
+use Rattle.fr_plain.specs.PlainState.{Running, running, running_in, place_in, plain_state}
 use Rattle.fr_plain.specs.Alike.{value_of, LivesAlike, both_alive, both_owing, both_loose, both_ended, both_over, SteppedAlike, ActsAlike, same_act, same_start, same_starts}
 use Rattle.fr_plain.proofs.Alike.{same_done, act_alike, act_takes, names_alike}
 use Rattle.fr_plain.proofs.ByName.{found_number}
 use Rattle.fr_sound.specs.Entries.{Entry, going}
+use Rattle.fr_sound.specs.Seen.{Gives}
 use Rattle.fr_sound.specs.States.{Typing}
 use Rattle.fr_code.specs.Joins.{alone}
 use Rattle.fr_code.specs.Steps.{captured}
 use Rattle.plain_types.specs.Positions.{Position, moves_by, StartsAs}
 use Rattle.plain_types.specs.ActRows.{Leaves, left_after, ActRow, r_let, r_assign, r_copy, r_move, r_borrow, r_borrow_mut, r_box, r_arith, r_print, r_discard, r_drop, r_spawn, r_join, r_mutex, r_dup, r_lock, r_unlock, r_par, r_par_end, EndsAs}
-use Rattle.plain_types.specs.Keeps.{GoesOn, is_main, is_owed, is_loose, StepsTyped}
+use Rattle.plain_types.specs.Keeps.{GoesOn, is_main, is_owed, is_loose, KeepsNames, on_references, KeepsReferences, StepsTyped}
 use Rattle.thread_types.proofs.Finishes.{finish_keeps}
 use Rattle.drop_types.specs.DropActs.{main_ends, loose_ends}
 use Rattle.drop_types.proofs.Ends.{end_keeps}
@@ -87,6 +88,44 @@ module _ {P : Type 0} (entry_of : P → Option Entry) (temps : P → List Value)
       (subst (λ o. refused_wait (move_waits s x o) (refused_names s (takes_name o) names) ≡ None) is
       (subst (λ (b : Bool). (if b then Some plain_machine.has_ended else refused_wait (move_waits s x (life_move ms x.life)) (refused_names s (takes_name (life_move ms x.life)) names)) ≡ None) goes h))
 
+  -- names that were given are those that were given as positions see it
+  names_seen : (s : Whole P) {before after : Gives} → KeepsNames (plain_state (seen_whole entry_of temps s)) before after → KeepsNames (plain_state s) before after
+  names_seen s {before = before} {after = after} h = record { mutexes = h.mutexes; results = λ t l e. by t (thread_at s.threads t) refl e }
+    where
+      by : (t : ℕ) (o : Option (Thread P)) {l : Life (Running P)} → thread_at s.threads t ≡ o → running_in o ≡ Some l → after.result t ≡ before.result t
+      by t None e f = cc
+      by t (Some x) e f = h.results t (running x.slots (seen_life entry_of temps x.life)) (ap running_in (seen_at entry_of temps s.threads t x e))
+
+  -- an act takes mutable references as the act that is alike does
+  carried_on : (a : Act ⊥) → on_references (carry {B = P} a) ≡ on_references (carry {B = Position} a)
+  carried_on (do_let v) = refl
+  carried_on (do_read w true) = refl
+  carried_on (do_read w false) = refl
+  carried_on (do_borrow w true) = refl
+  carried_on (do_borrow w false) = refl
+  carried_on (do_assign w v) = refl
+  carried_on (do_box v) = refl
+  carried_on (do_arith f v w) = refl
+  carried_on (do_print v) = refl
+  carried_on (do_discard v) = refl
+  carried_on do_drop = refl
+  carried_on (do_end v) = refl
+  carried_on (do_join v) = refl
+  carried_on (do_finish v) = refl
+  carried_on (do_leave v) = refl
+  carried_on (do_mutex v) = refl
+  carried_on (do_dup w) = refl
+  carried_on (do_lock w) = refl
+  carried_on do_unlock = refl
+  carried_on do_par_end = refl
+  carried_on (do_spawn cs b) = absurd b
+  carried_on (do_par cs b ds d) = absurd b
+
+  same_on : {a : Act P} {b : Act Position} → ActsAlike R ms rests a b → on_references b ≡ on_references a
+  same_on (same_act a) = sym (carried_on a)
+  same_on (same_start r) = refl
+  same_on (same_starts r q) = refl
+
   -- THE STEP
 
   module _ (y : Typing) (s : Whole P) (st : MachineTypes entry_of temps y (plain_state s)) (t : ℕ) (names : Fresh) (x : Thread P) (found : thread_at s.threads t ≡ Some x) (allowed : refused_of ms s names (Some x) ≡ None) where
@@ -97,12 +136,12 @@ module _ {P : Type 0} (entry_of : P → Option Entry) (temps : P → List Value)
     z = seen_thread entry_of temps x
 
     -- a step that positions make is made
-    acted : (m : Move P (Life P)) (n : Move Position (Life Position)) → life_move ms x.life ≡ Some m → ActsAlike R ms rests m.act n.act → ((v : Value) → LivesAlike R (settle_life ms (m.plug v)) (settle_life rests (n.plug v))) → StepsTyped rests c z names n → StepsOn entry_of temps ms s t names
+    acted : (m : Move P (Life P)) (n : Move Position (Life Position)) → life_move ms x.life ≡ Some m → ActsAlike R ms rests m.act n.act → ((v : Value) → LivesAlike R (settle_life ms (m.plug v)) (settle_life rests (n.plug v))) → StepsTyped y rests c z names n → StepsOn entry_of temps ms y s t names
     acted m n is acts fits d = led (done_act ms s x names m m.act) refl (subst (λ o. SteppedAlike R (done_act ms s x names m m.act) o) d.is (same_done R ms rests s c x z m n (whole_alike entry_of temps R (sees_seen entry_of temps) s) (thread_alike entry_of temps R (sees_seen entry_of temps) x) fits names acts))
       where
-        led : (o : Option (Stepped P)) → done_act ms s x names m m.act ≡ o → SteppedAlike R o (Some d.next) → StepsOn entry_of temps ms s t names
+        led : (o : Option (Stepped P)) → done_act ms s x names m m.act ≡ o → SteppedAlike R o (Some d.next) → StepsOn entry_of temps ms y s t names
         led None e h = absurd h
-        led (Some a) e h = record { next = a; is = ap (step_of ms s names) found ∙ ap (moved ms s x names) is ∙ e; typing = d.typing; typed = types_seen entry_of temps d.typing a.state d.next.state h.1 d.typed }
+        led (Some a) e h = record { next = a; is = ap (step_of ms s names) found ∙ ap (moved ms s x names) is ∙ e; typing = d.typing; typed = types_seen entry_of temps d.typing a.state d.next.state h.1 d.typed; kept = names_seen s d.kept; refs = record { thread = x; found = found; move = m; makes = is; refs = subst (λ o. KeepsReferences o t (length x.slots) y.exact d.typing.exact) (same_on acts) (subst (λ b. KeepsReferences (on_references n.act) b (length x.slots) y.exact d.typing.exact) (found_number s.threads t x found) d.refs) } }
 
     -- as positions see it, it isn't refused either
     fine_there : (m : Move P (Life P)) (n : Move Position (Life Position)) → life_move ms x.life ≡ Some m → is_over x.life ≡ false → ActsAlike R ms rests m.act n.act → (act_waits c z n.act ≡ None) × (refused_names c (takes_of n.act) names ≡ None)
@@ -138,7 +177,7 @@ module _ {P : Type 0} (entry_of : P → Option Entry) (temps : P → List Value)
       rest_there : Value → Life Position
       fits_end : (v : Value) → LivesAlike R (settle_life ms (rest v)) (settle_life rests (rest_there v))
       moves : life_move ms x.life ≡ on_value (ms.now p) (λ v. machine.alone rest (carry (end v))) (next wrap (ms.move p))
-      ends : (v : Value) → EndsAs (seen entry_of temps p).entry (temps p) v → StepsTyped rests c z fresh.None (record { act = carry (end v); plug = rest_there })
+      ends : (v : Value) → EndsAs (seen entry_of temps p).entry (temps p) v → StepsTyped y rests c z fresh.None (record { act = carry (end v); plug = rest_there })
       bare : (v : Value) → refused_names c (takes_of {P = Position} (carry (end v))) names ≡ None → fresh.None ≡ names
 
     here_found : thread_at c.threads z.number ≡ Some z
@@ -146,7 +185,7 @@ module _ {P : Type 0} (entry_of : P → Option Entry) (temps : P → List Value)
 
     -- what is known there
     module _ (go : PlacesGo entry_of temps ms) (p : P) (h : Here p) where
-      by_goes : (e : Entry) → entry_of p ≡ Some e → GoesBy entry_of temps ms p e → StepsOn entry_of temps ms s t names
+      by_goes : (e : Entry) → entry_of p ≡ Some e → GoesBy entry_of temps ms p e → StepsOn entry_of temps ms y s t names
       by_goes e known (moves_by_row m leaves after is_going is_move row comes) =
           let d = row_seen row in
           let n : Move Position (Life Position) = record { act = d.act; plug = λ v. h.wrap_there (record { entry = after; temps = left_after leaves v }) } in
@@ -171,15 +210,15 @@ module _ {P : Type 0} (entry_of : P → Option Entry) (temps : P → List Value)
           let is : life_move ms x.life ≡ Some m2 = h.moves ∙ on_done (ms.now p) v (λ v. machine.alone h.rest (carry (h.end v))) (next h.wrap (ms.move p)) is_done in
           let g = fine_there m2 n is h.not_over (same_act (h.end v)) in
           acted m2 n is (same_act (h.end v)) h.fits_end
-          (subst (λ k. StepsTyped rests c z k n) (h.bare v g.1) (h.ends v (subst (λ k. EndsAs k (temps p) v) (sym (ap entry_or known)) f)))
+          (subst (λ k. StepsTyped y rests c z k n) (h.bare v g.1) (h.ends v (subst (λ k. EndsAs k (temps p) v) (sym (ap entry_or known)) f)))
 
-      at_place : StepsOn entry_of temps ms s t names
+      at_place : StepsOn entry_of temps ms y s t names
       at_place =
           let r = st.threads t (record { place = p; slots = x.slots }) (ap (λ o. place_in (running_in o)) found ∙ h.runs) in
           by_goes r.entry r.known (go p r.entry r.known r.all_temps)
 
     -- the three lives in which it goes on
-    by_life : PlacesGo entry_of temps ms → (l : Life P) → x.life ≡ l → StepsOn entry_of temps ms s t names
+    by_life : PlacesGo entry_of temps ms → (l : Life P) → x.life ≡ l → StepsOn entry_of temps ms y s t names
     by_life go over e = absurd (let f : Some plain_machine.has_ended ≡ None = subst (λ l. (if is_over l then Some plain_machine.has_ended else refused_wait (move_waits s x (life_move ms l)) (refused_names s (takes_name (life_move ms l)) names)) ≡ None) e allowed in cc)
     by_life go (ended v) e = absurd (let f : Some plain_machine.has_ended ≡ None = subst (λ l. (if is_over l then Some plain_machine.has_ended else refused_wait (move_waits s x (life_move ms l)) (refused_names s (takes_name (life_move ms l)) names)) ≡ None) e allowed in cc)
     by_life go (alive p) e = at_place go p (record {
@@ -238,6 +277,6 @@ module _ {P : Type 0} (entry_of : P → Option Entry) (temps : P → List Value)
   pub keeps_all_typed : KeepsAllTyped entry_of temps ms
   keeps_all_typed go y s st t names h = by (thread_at s.threads t) refl
     where
-      by : (o : Option (Thread P)) → thread_at s.threads t ≡ o → StepsOn entry_of temps ms s t names
+      by : (o : Option (Thread P)) → thread_at s.threads t ≡ o → StepsOn entry_of temps ms y s t names
       by None e = absurd (let f : Some plain_machine.no_thread ≡ None = subst (λ o. refused_of ms s names o ≡ None) e h in cc)
       by (Some x) e = by_life y s st t names x e (subst (λ o. refused_of ms s names o ≡ None) e h) go x.life refl

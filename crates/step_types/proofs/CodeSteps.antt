@@ -22,8 +22,9 @@ use Rattle.fr_code.specs.Steps.{Place, CodeMove, run_instr, over_at, code_moves}
 use Rattle.fr_code.specs.Machine.{CodeState, CodeWhole, CodeStepped, code_step}
 use Rattle.fr_code.specs.TableStates.{CodeStateTypes}
 use Rattle.plain_types.specs.ActRows.{left_after}
+use Rattle.plain_types.specs.Keeps.{KeepsNames}
 use Rattle.plain_types.proofs.CodeRows.{instructions_have_rows_lem, ends_have_rows}
-use Rattle.step_types.specs.Machines.{GoesBy, moves_by_row, ends_typed, PlacesGo, StepsOn}
+use Rattle.step_types.specs.Machines.{GoesBy, moves_by_row, ends_typed, PlacesGo, StepsOn, ReferencesKept}
 use Rattle.step_types.specs.Steps.{StepsKeepTypes, ShownStepsKeepTypes, IsNotStuck, has_ended, waits, steps, NeverStuck}
 use Rattle.step_types.proofs.AllSteps.{keeps_all_typed}
 
@@ -85,12 +86,12 @@ module _ (code : List Instr) (table : Table) (h : IsTable code table) where
   pub code_goes : PlacesGo known values (code_moves code)
   code_goes p x e long = let r = h.rows p.pc x e in by_leads p r.leads r.there r.enter long
 
-  pub steps_on : (y : Typing) (c : CodeWhole) → CodeStateTypes table y (plain_state c) → (t : ℕ) (names : Fresh) → refused (code_moves code) c t names ≡ None → StepsOn known values (code_moves code) c t names
+  pub steps_on : (y : Typing) (c : CodeWhole) → CodeStateTypes table y (plain_state c) → (t : ℕ) (names : Fresh) → refused (code_moves code) c t names ≡ None → StepsOn known values (code_moves code) y c t names
   steps_on y c st t names free = keeps_all_typed known values (code_moves code) code_goes y c st t names free
 
   -- a step leads to a typed state
-  step_typed : (y : Typing) (c : CodeWhole) → CodeStateTypes table y (plain_state c) → (t : ℕ) (names : Fresh) (x : CodeStepped) → code_step code c t names ≡ Some x → (o : Option Refusal) → refused (code_moves code) c t names ≡ o → (z : Typing) × CodeStateTypes table z (plain_state x.state)
-  step_typed y c st t names x e None free = let d = steps_on y c st t names free in let same : d.next ≡ x = (let f : Some d.next ≡ Some x = sym d.is ∙ e in cc) in (d.typing, subst (λ (s : CodeStepped). CodeStateTypes table d.typing (plain_state s.state)) same d.typed)
+  step_typed : (y : Typing) (c : CodeWhole) → CodeStateTypes table y (plain_state c) → (t : ℕ) (names : Fresh) (x : CodeStepped) → code_step code c t names ≡ Some x → (o : Option Refusal) → refused (code_moves code) c t names ≡ o → (z : Typing) × CodeStateTypes table z (plain_state x.state) × KeepsNames (plain_state c) y.gives z.gives × ReferencesKept (code_moves code) c t y.exact z.exact
+  step_typed y c st t names x e None free = let d = steps_on y c st t names free in let same : d.next ≡ x = (let f : Some d.next ≡ Some x = sym d.is ∙ e in cc) in (d.typing, subst (λ (s : CodeStepped). CodeStateTypes table d.typing (plain_state s.state)) same d.typed, d.kept, d.refs)
   step_typed y c st t names x e (Some why) free = let f : None ≡ Some x = sym (none_refused (code_moves code) c t names why free) ∙ e in absurd cc
 
 pub steps_keep_types : StepsKeepTypes
@@ -109,4 +110,4 @@ same_is a b h =
 pub shown_steps_keep_types : ShownStepsKeepTypes
 shown_steps_keep_types code table h y a b st c before t names x e after =
     let d = steps_keep_types code table h y c (subst (CodeStateTypes table y) (sym (same_is (plain_state c) a before)) st) t names x e in
-    (d.0, subst (CodeStateTypes table d.0) (same_is (plain_state x.state) b after) d.1)
+    (d.0, subst (CodeStateTypes table d.0) (same_is (plain_state x.state) b after) d.1, subst (λ s. KeepsNames s y.gives d.0.gives) (same_is (plain_state c) a before) d.2, d.3)

@@ -35,7 +35,7 @@ typed_terms_step_on s h t names free =
     let d = steps_on h.code h.table h.is h.typing h.state h.typed t names (sym (refusals_alike h.code s h.state h.stands t names) ∙ free) in
     by d (step s t names) refl (subst (SameSteps h.code (step s t names)) d.is (steps_alike h.code s h.state h.stands t names))
   where
-    by : (d : StepsOn (λ (p : Place). h.table p.pc) (λ (p : Place). p.temps) (code_moves h.code) h.state t names) (o : Option Stepped) → step s t names ≡ o → SameSteps h.code o (Some d.next) → TermsStepOn s t names
+    by : (d : StepsOn (λ (p : Place). h.table p.pc) (λ (p : Place). p.temps) (code_moves h.code) h.typing h.state t names) (o : Option Stepped) → step s t names ≡ o → SameSteps h.code o (Some d.next) → TermsStepOn s t names
     by d None e same = absurd same
     by d (Some x) e same = record { next = x; is = e; typed = record { code = h.code; table = h.table; is = h.is; state = d.next.state; stands = same.1; typing = d.typing; typed = d.typed } }
 

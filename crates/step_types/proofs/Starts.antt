@@ -105,7 +105,7 @@ module _ (code : List Instr) (table : Table) (h : IsTable code table) where
     where
       by : (o : Option CodeStepped) → code_step code c t.0 t.1 ≡ o → go_on o (λ d. code_run code d ts) ≡ Some x → ((d : CodeWhole) → Typed d → (b : CodeStepped) → code_run code d ts ≡ Some b → Typed b.state) → Typed x.state
       by None i q go = absurd cc
-      by (Some d) i q go = labelled d.labels (code_run code d.state ts) x q (λ b k. go d.state (steps_keep_types code table h st.0 c st.1 t.0 t.1 d i) b k)
+      by (Some d) i q go = labelled d.labels (code_run code d.state ts) x q (λ b k. go d.state (let z = steps_keep_types code table h st.0 c st.1 t.0 t.1 d i in (z.0, z.1)) b k)
 
 pub runs_keep_types : RunsKeepTypes
 runs_keep_types code table h order x e = run_typed code table h order code_start (starts_typed code table h) x e

@@ -4,14 +4,24 @@ use Rattle.std.specs.Prelude.{◌≡◌, ℕ, List, [], length, Option, Some, No
 use Rattle.fr_base.specs.declared.step.Fresh.{Fresh}
 use Rattle.fr_plain.specs.declared.value.Value.{Value}
 use Rattle.fr_plain.specs.Alike.{value_of}
-use Rattle.fr_plain.specs.MachineThreads.{going, Move, Moves, Whole}
+use Rattle.fr_plain.specs.MachineThreads.{going, Move, Moves, Life, Thread, Whole, life_move, thread_at}
 use Rattle.fr_plain.specs.Machine.{Stepped, refused, step}
 use Rattle.fr_plain.specs.PlainState.{PlainState, plain_state}
 use Rattle.fr_plain.specs.Run.{Run, terms}
 use Rattle.fr_sound.specs.Entries.{Entry}
+use Rattle.fr_store.specs.Typed.{KeyTypes}
 use Rattle.fr_sound.specs.States.{Typing, StateTypes}
 use Rattle.fr_code.specs.Joins.{JoinsTo}
 use Rattle.plain_types.specs.ActRows.{Leaves, left_after, ActRow, EndsAs}
+use Rattle.plain_types.specs.Keeps.{KeepsNames, on_references, KeepsReferences}
+
+-- mutable references have the exact types that they had, as the act of the thread's move takes them
+pub record ReferencesKept {P : Type 0} (ms : Moves P) (s : Whole P) (t : ℕ) (before after : KeyTypes) : Type 0 where
+  pub thread : Thread P
+  pub found : thread_at s.threads t ≡ Some thread
+  pub move : Move P (Life P)
+  pub makes : life_move ms thread.life ≡ Some move
+  pub refs : KeepsReferences (on_references move.act) t (length thread.slots) before after
 
 -- what is known at each place, if anything is, and its temporary values, the last one first
 module _ {P : Type 0} (entry_of : P → Option Entry) (temps : P → List Value) where
@@ -42,16 +52,18 @@ module _ {P : Type 0} (entry_of : P → Option Entry) (temps : P → List Value)
     abbrev pub PlacesGo : Type 0
     PlacesGo = (p : P) (x : Entry) → entry_of p ≡ Some x → length (temps p) ≡ length x.temps → GoesBy p x
 
-    -- the step can be done, and leaves a typed state
-    pub record StepsOn (s : Whole P) (t : ℕ) (names : Fresh) : Type 0 where
+    -- the step can be done, and leaves a typed state, in which names that were given have the types that they had, and mutable references their exact types
+    pub record StepsOn (before : Typing) (s : Whole P) (t : ℕ) (names : Fresh) : Type 0 where
       pub next : Stepped P
       pub is : step ms s t names ≡ Some next
       pub typing : Typing
       pub typed : MachineTypes typing (plain_state next.state)
+      pub kept : KeepsNames (plain_state s) before.gives typing.gives
+      pub refs : ReferencesKept ms s t before.exact typing.exact
 
     -- THE LAW: in a typed state each step that isn't refused can be done, and leaves a typed state
     abbrev pub KeepsAllTyped : Type 0
-    KeepsAllTyped = PlacesGo → (y : Typing) (s : Whole P) → MachineTypes y (plain_state s) → (t : ℕ) (names : Fresh) → refused ms s t names ≡ None → StepsOn s t names
+    KeepsAllTyped = PlacesGo → (y : Typing) (s : Whole P) → MachineTypes y (plain_state s) → (t : ℕ) (names : Fresh) → refused ms s t names ≡ None → StepsOn y s t names
 
 -- of running terms, whatever is known of them
 abbrev pub TermsKeepTypes : Type 0

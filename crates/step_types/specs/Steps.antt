@@ -22,16 +22,19 @@ use Rattle.fr_code.specs.Machine.{CodeState, CodeThread, CodeWhole, CodeStepped,
 use Rattle.fr_code.specs.CodeTypes.{Table}
 use Rattle.fr_code.specs.CodeTable.{IsTable}
 use Rattle.fr_code.specs.TableStates.{CodeStateTypes}
+use Rattle.plain_types.specs.Keeps.{KeepsNames}
+use Rattle.step_types.specs.Machines.{ReferencesKept}
 
--- each plain step of a code with a table leads from a typed state to a typed one
+-- each plain step of a code with a table leads from a typed state to a typed one, in which names that were given have the types that they had,
+-- and mutable references their exact types
 abbrev pub StepsKeepTypes : Type 0
 StepsKeepTypes = (code : List Instr) (table : Table) → IsTable code table → (y : Typing) (c : CodeWhole) → CodeStateTypes table y (plain_state c) → (t : ℕ) (names : Fresh) (x : CodeStepped) → code_step code c t names ≡ Some x
-    → (z : Typing) × CodeStateTypes table z (plain_state x.state)
+    → (z : Typing) × CodeStateTypes table z (plain_state x.state) × KeepsNames (plain_state c) y.gives z.gives × ReferencesKept (code_moves code) c t y.exact z.exact
 
 -- nothing but the plain state counts: a step of a state that shows this one leads to what shows a typed state
 abbrev pub ShownStepsKeepTypes : Type 0
 ShownStepsKeepTypes = (code : List Instr) (table : Table) → IsTable code table → (y : Typing) (a b : CodeState) → CodeStateTypes table y a → (c : CodeWhole) → SameState (plain_state c) a → (t : ℕ) (names : Fresh) (x : CodeStepped) → code_step code c t names ≡ Some x → SameState (plain_state x.state) b
-    → (z : Typing) × CodeStateTypes table z b
+    → (z : Typing) × CodeStateTypes table z b × KeepsNames a y.gives z.gives × ReferencesKept (code_moves code) c t y.exact z.exact
 
 -- the start of a code with a table is typed
 abbrev pub StartsTyped : Type 0

@@ -4,7 +4,8 @@ ghost use Rattle.step_types.specs.Machines.{TermsKeepTypes};
 ghost use Rattle.step_types.specs.Steps.{ExamplesNeverStuck, NeverStuck, ProgramsNeverStuck, RunsKeepTypes, ShownStepsKeepTypes, StartsTyped, StepsKeepTypes};
 ghost use Rattle.step_types.specs.TypedTerms.{ProgramsStartTyped, RunsStayTyped, TypedTermsStayTyped, TypedTermsStepOn, TypedTermsUnstuck};
 
-/// Each plain step of a code with a table, of whatever thread and instruction, leads from a typed state to a typed one (`step`); nothing but the
+/// Each plain step of a code with a table, of whatever thread and instruction, leads from a typed state to a typed one (`step`): each mutex whose
+/// name was given and each thread that was started have the type that they had, and each mutable reference its exact type, from where the act takes it; nothing but the
 /// plain state counts in that (`shown`). The start of such a code is typed (`start`), and so is each state to which its plain run comes, under
 /// whatever order (`run`). Steps of running terms keep types likewise, where each term of which something is known goes by a row of the typing of
 /// acts, or is at its end (`terms`).

@@ -39,7 +39,8 @@ use Rattle.plain_types.specs.ActRows.{Pops, EndsAs, ends_as}
 use Rattle.plain_types.specs.Keeps.{is_owed}
 use Rattle.plain_types.proofs.Focus.{top_some}
 use Rattle.plain_types.proofs.Hand.{ranked}
-use Rattle.plain_types.proofs.Done.{runs_here}
+use Rattle.plain_types.proofs.Refs.{none_owns}
+use Rattle.plain_types.proofs.Done.{names_stay, runs_here}
 use Rattle.plain_types.proofs.Operands.{load}
 use Rattle.plain_types.proofs.Slots.{owned_value}
 use Rattle.thread_types.specs.ThreadActs.{FinishKeeps}
@@ -255,7 +256,7 @@ finish_keeps now move y s t p v r =
       marks_back = λ m u j k. ⊎_elim (λ (e : u ≡ n). absurd (gone (plain_state s2) n (Own d.0) ended_here k.thread (ap (λ w. place_in ((plain_state s2).thread w)) (sym e) ∙ k.goes_on))) (λ (ne : u ≢ n). record { thread = k.thread; goes_on = sym (ap place_in (others u ne)) ∙ k.goes_on; mark = k.mark }) (decide_number u n);
       made = objects_counted s2;
     }) in
-    record { next = record { state = s2; labels = label.End n ∷ [] }; is = refl; typing = _; typed = typed }
+    record { next = record { state = s2; labels = label.End n ∷ [] }; is = refl; typing = _; typed = typed; kept = names_stay (z.names ∙ l.names); refs = λ j u e. l.refs j u (z.refs j u (none_owns z.typing.exact (result_k n) (tree_of i.result) j u (none_owns (with_type z.typing.exact (result_k n) (owns (tree_of i.result))) (temp_k n 0) hole j u e))) }
   where
     mark_slots : (a : PlainState Position) (n : ℕ) (x : Running Position) → length x.slots ≡ 0 → place_in (a.thread n) ≡ Some x → (w : Running Position) → place_in (a.thread n) ≡ Some w → length w.slots ≡ 0
     mark_slots a n x empty runs w e = let f : Some x ≡ Some w = sym runs ∙ e in let same : x ≡ w = cc in ap (λ (k : Running Position). length k.slots) (sym same) ∙ empty

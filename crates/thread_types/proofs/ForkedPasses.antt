@@ -11,7 +11,7 @@ use Rattle.fr_typing.specs.Places.{Slot, Env, found, type_at, same_name, read_bl
 use Rattle.fr_typing.specs.Captures.{by_par, captured_kind, captured_slot, MayPass}
 use Rattle.fr_typing.proofs.PlaceLemmas.{eq_cases}
 use Rattle.fr_store.specs.Keys.{slot_k, temp_k}
-use Rattle.fr_store.specs.Typed.{Exact, owns, refers}
+use Rattle.fr_store.specs.Typed.{Exact, owns, refers, KeyTypes}
 use Rattle.fr_store.specs.Below.{tree_of}
 use Rattle.fr_store.specs.Thread.{ThreadKeys}
 use Rattle.fr_plain.specs.declared.value.Value.{Value}
@@ -19,9 +19,11 @@ use Rattle.fr_plain.specs.declared.value.Value.TheVariants.{Own, ToObject}
 use Rattle.fr_plain.specs.State.{slot_at, with_slot}
 use Rattle.fr_plain.specs.PlainState.{Running, PlainState, place_in}
 use Rattle.fr_sound.specs.Entries.{going, forked_at}
+use Rattle.fr_sound.specs.Seen.{Gives}
 use Rattle.fr_sound.specs.States.{Typing, env_at, is_hidden}
 use Rattle.plain_types.specs.Positions.{Position, PositionTypes}
 use Rattle.plain_types.proofs.OneThread.{with_running}
+use Rattle.plain_types.proofs.Refs.{NoneNew, none_with}
 use Rattle.plain_types.proofs.Raised.{raised, raised_typing}
 use Rattle.plain_types.proofs.Focus.{top_none, Focus, focus}
 use Rattle.plain_types.proofs.Hand.{room, pushed_others}
@@ -30,23 +32,28 @@ use Rattle.thread_types.proofs.Passed.{Passes}
 use Rattle.thread_types.proofs.AllPass.{named_below, Copied, Moved, Passing}
 use Rattle.thread_types.proofs.Forked.{Forked, parent_hidden, parent_free, forked_giver, caught}
 use Rattle.thread_types.proofs.GivenCopy.{Copies, copy_given}
-use Rattle.thread_types.proofs.GivenMove.{move_given}
+use Rattle.thread_types.proofs.GivenMove.{move_given, move_refs}
 use Rattle.thread_types.proofs.GivenValues.{owned_type, owned_there, owned_copies}
 use Rattle.thread_types.proofs.ForkedViews.{view_there, view_copies}
 use Rattle.thread_types.proofs.Given.{new_many}
+use Rattle.fr_store.specs.Store.{Place}
 
 -- RANKS
 
 -- temporary values of both children rank above their slots
-pub record HasRoom (a : PlainState Position) (t u w : ℕ) (x xu xw : Running Position) (e n m : Env) (ts : List Kind) (g : Owned) : Type 0 where
+pub record HasRoom (gs : Gives) (E0 : KeyTypes) (a : PlainState Position) (t u w : ℕ) (x xu xw : Running Position) (e n m : Env) (ts : List Kind) (g : Owned) : Type 0 where
   pub typing : Typing
+  pub names : typing.gives ≡ gs
+  pub refs : NoneNew E0 typing.exact
   pub forked : Forked typing a t u w x xu xw e n m ts g
   pub focus : Focus typing a u n [] None
   pub focus_other : Focus typing a w m [] None
 
-pub has_room : (y : Typing) (a : PlainState Position) (t u w : ℕ) (x xu xw : Running Position) (e n m : Env) (ts : List Kind) (g : Owned) → Forked y a t u w x xu xw e n m ts g → HasRoom a t u w x xu xw e n m ts g
-has_room y a t u w x xu xw e n m ts g f = record {
+pub has_room : {gs : Gives} {E0 : KeyTypes} (y : Typing) (a : PlainState Position) (t u w : ℕ) (x xu xw : Running Position) (e n m : Env) (ts : List Kind) (g : Owned) → Forked y a t u w x xu xw e n m ts g → y.gives ≡ gs → NoneNew E0 y.exact → HasRoom gs E0 a t u w x xu xw e n m ts g
+has_room y a t u w x xu xw e n m ts g f same none = record {
   typing = y2;
+  names = same;
+  refs = none;
   forked = record {
     state = state;
     runs = f.runs;
@@ -155,7 +162,7 @@ pub record Family (t u : ℕ) (ts : List Kind) (g : Owned) (temps : List Value) 
   pub objects : (e e2 : Env) (sl sl2 : List Value) (n n2 : Env) (new new2 : List Value) (o : ObjNo) → (state e2 sl2 n2 new2).object o ≡ (state e sl n new).object o
   pub made : (e : Env) (sl : List Value) (n : Env) (new : List Value) (o : ObjNo) (v : Plain) (w : Running Position) → (state e sl n new).object o ≡ Some v → place_in ((state e sl n new).thread o.thread) ≡ Some w → o.count < (state e sl n new).made o.thread
 
-module _ {t u : ℕ} {ts : List Kind} {g : Owned} {temps : List Value} {state : Env → List Value → Env → List Value → PlainState Position} (family : Family t u ts g temps state) (w : ℕ) (xw : Running Position) (m : Env) where
+module _ {t u : ℕ} {ts : List Kind} {g : Owned} {temps : List Value} {state : Env → List Value → Env → List Value → PlainState Position} (family : Family t u ts g temps state) (w : ℕ) (xw : Running Position) (m : Env) (gs : Gives) (E0 : KeyTypes) where
   abbrev pub parent : Env → List Value → Running Position
   parent e sl = record { place = record { entry = forked_at e ts g; temps = temps }; slots = sl }
 
@@ -164,7 +171,7 @@ module _ {t u : ℕ} {ts : List Kind} {g : Owned} {temps : List Value} {state : 
 
   -- the state is typed, and the thread waits for its two
   abbrev pub IsForked : Env → List Value → Env → List Value → Type 0
-  IsForked e sl n new = (y : Typing) × Forked y (state e sl n new) t u w (record { place = record { entry = forked_at e ts g; temps = temps }; slots = sl }) (record { place = record { entry = going n [] unit; temps = [] }; slots = new }) xw e n m ts g
+  IsForked e sl n new = (y : Typing) × Forked y (state e sl n new) t u w (record { place = record { entry = forked_at e ts g; temps = temps }; slots = sl }) (record { place = record { entry = going n [] unit; temps = [] }; slots = new }) xw e n m ts g × (y.gives ≡ gs) × NoneNew E0 y.exact
 
   passing : (e e2 : Env) (sl sl2 : List Value) (n : Env) (s : Slot) (new : List Value) (v : Value) (i : ℕ) {y : Typing} → Forked y (state e sl n new) t u w (parent e sl) (child n new) xw e n m ts g → length new ≡ length n → ((b : ℕ) → b ≢ i → slot_at sl2 b ≡ slot_at sl b)
       → Passes (state e sl n new) (state e2 sl2 (s ∷ n) (v ∷ new)) t u (parent e sl) (parent e2 sl2) (child n new) (child (s ∷ n) (v ∷ new)) i (length n)
@@ -186,18 +193,18 @@ module _ {t u : ℕ} {ts : List Kind} {g : Owned} {temps : List Value} {state : 
   }
 
   -- a copy, or a view
-  put : (e n : Env) (sl new : List Value) (name : Text) (l : Kind) (v : Value) (i : ℕ) (p : Exact) (r : HasRoom (state e sl n new) t u w (parent e sl) (child n new) xw e n m ts g) → Copies r.typing (state e sl n new) t u (parent e sl) n l v i p
+  put : (e n : Env) (sl new : List Value) (name : Text) (l : Kind) (v : Value) (i : ℕ) (p : Exact) → ((b : Place) → p ≡ refers true b → ⊥) → (r : HasRoom gs E0 (state e sl n new) t u w (parent e sl) (child n new) xw e n m ts g) → Copies r.typing (state e sl n new) t u (parent e sl) n l v i p
       → IsForked e sl (record { name = Some name; part = whole l } ∷ n) (v ∷ new)
-  put e n sl new name l v i p r c =
+  put e n sl new name l v i p light r c =
       let f = forked_giver r.forked r.focus in
       let q = passing e e sl sl n (record { name = Some name; part = whole l }) new v i r.forked (new_many f) (λ b ne. refl) in
-      (_, caught r.forked r.focus r.focus_other q (copy_given f name c q refl refl))
+      (_, caught r.forked r.focus r.focus_other q (copy_given f name c q refl refl), r.names, λ j b e2. r.refs j b (none_with r.typing.exact (slot_k u (length n)) p light j b e2))
 
   copy : (e n : Env) (sl new : List Value) (c : Captured) (i : ℕ) (k l : Kind) → IsForked e sl n new → MayPass by_par e c i k l → copies k ≡ true → read_blocked e i ≡ false → Copied by_par IsForked e sl n new c i l
   copy e n sl new c i k l st may copied free = by (par_kind e k l may.becomes)
     where
-      r : HasRoom (state e sl n new) t u w (parent e sl) (child n new) xw e n m ts g
-      r = has_room st.0 (state e sl n new) t u w (parent e sl) (child n new) xw e n m ts g st.1
+      r : HasRoom gs E0 (state e sl n new) t u w (parent e sl) (child n new) xw e n m ts g
+      r = has_room st.0 (state e sl n new) t u w (parent e sl) (child n new) xw e n m ts g st.1 st.2 st.3
 
       lt : i < length e
       lt = named_below e c.name i may.is.named
@@ -208,7 +215,7 @@ module _ {t u : ℕ} {ts : List Kind} {g : Owned} {temps : List Value} {state : 
           let f = forked_giver r.forked r.focus in
           let v = owned_there f i lt o.0 type in
           let q = owned_copies f i lt o.0 type (ap copies (sym o.1) ∙ copied) v.0 v.1 in
-          record { value = Own v.0; is = v.1; stays = ap copies (o.2 ∙ sym o.1) ∙ copied; kept = put e n sl new c.name l (Own v.0) i (owns (tree_of o.0)) r (subst (λ b. Copies r.typing (state e sl n new) t u (parent e sl) n b (Own v.0) i (owns (tree_of o.0))) (sym o.2) q) }
+          record { value = Own v.0; is = v.1; stays = ap copies (o.2 ∙ sym o.1) ∙ copied; kept = put e n sl new c.name l (Own v.0) i (owns (tree_of o.0)) (λ b f. cc) r (subst (λ b. Copies r.typing (state e sl n new) t u (parent e sl) n b (Own v.0) i (owns (tree_of o.0))) (sym o.2) q) }
       by (inr o) =
           let hidden = sym (parent_hidden r.forked i) ∙ shown e c.name i may.is.named in
           let becomes = may.becomes ∙ ap Some o.1 in
@@ -218,12 +225,12 @@ module _ {t u : ℕ} {ts : List Kind} {g : Owned} {temps : List Value} {state : 
             value = ToObject v.0;
             is = v.1;
             stays = ap copies o.1;
-            kept = put e n sl new c.name l (ToObject v.0) i (refers false (record { key = slot_k t i; depth = 1 })) r (subst (λ b. Copies r.typing (state e sl n new) t u (parent e sl) n b (ToObject v.0) i (refers false (record { key = slot_k t i; depth = 1 }))) (sym o.1) q);
+            kept = put e n sl new c.name l (ToObject v.0) i (refers false (record { key = slot_k t i; depth = 1 })) (λ b f. cc) r (subst (λ b. Copies r.typing (state e sl n new) t u (parent e sl) n b (ToObject v.0) i (refers false (record { key = slot_k t i; depth = 1 }))) (sym o.1) q);
           }
 
   move : (e n : Env) (sl new : List Value) (c : Captured) (i : ℕ) (k l : Kind) → IsForked e sl n new → MayPass by_par e c i k l → copies k ≡ false → write_blocked e i ≡ false → Moved by_par IsForked e sl n new c i k l
   move e n sl new c i k l st may moves free =
-      let r = has_room st.0 (state e sl n new) t u w (parent e sl) (child n new) xw e n m ts g st.1 in
+      let r = has_room st.0 (state e sl n new) t u w (parent e sl) (child n new) xw e n m ts g st.1 st.2 st.3 in
       let o = par_moves e k l may.becomes moves in
       let type : type_at e (record { slot = i; depth = 0 }) ≡ found (whole (own o.0)) = may.is.is ∙ ap (λ b. found (whole b)) o.1 in
       let lt = named_below e c.name i may.is.named in
@@ -231,7 +238,7 @@ module _ {t u : ℕ} {ts : List Kind} {g : Owned} {temps : List Value} {state : 
       let v = owned_there f i lt o.0 type in
       let open_to = parent_free r.forked i (tree_of o.0) (owned_type f i lt o.0 type) free in
       let step = passing e (put_at e (record { slot = i; depth = 0 }) (gone (own o.0))) sl (with_slot sl i (Own plain.Nothing)) n (captured_slot c (own o.0)) new (Own v.0) i r.forked (new_many f) (λ b ne. slot_unwritten sl i b (Own plain.Nothing) ne) in
-      let d : IsForked (put_at e (record { slot = i; depth = 0 }) (gone (own o.0))) (with_slot sl i (Own plain.Nothing)) (captured_slot c (own o.0) ∷ n) (Own v.0 ∷ new) = (_, caught r.forked r.focus r.focus_other step (move_given f c.name i o.0 v.0 type open_to v.1 step refl refl)) in
+      let d : IsForked (put_at e (record { slot = i; depth = 0 }) (gone (own o.0))) (with_slot sl i (Own plain.Nothing)) (captured_slot c (own o.0) ∷ n) (Own v.0 ∷ new) = (_, caught r.forked r.focus r.focus_other step (move_given f c.name i o.0 v.0 type open_to v.1 step refl refl), r.names, λ j b f2. r.refs j b (move_refs f c.name i o.0 v.0 type open_to v.1 step refl refl j true b f2)) in
       record {
         value = Own v.0;
         is = v.1;

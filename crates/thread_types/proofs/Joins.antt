@@ -7,7 +7,7 @@ use Rattle.fr_typing.specs.Kinds.{Owned, task, Kind, own}
 use Rattle.fr_typing.specs.Places.{Env}
 use Rattle.fr_store.specs.Keys.{slot_k, result_k}
 use Rattle.fr_store.specs.Store.{task_v}
-use Rattle.fr_store.specs.Typed.{TopFits}
+use Rattle.fr_store.specs.Typed.{TopFits, owns, hole}
 use Rattle.fr_store.specs.Below.{tree_of}
 use Rattle.fr_store.proofs.Keys.{decide_number}
 use Rattle.fr_store.proofs.Rows.{top_fits}
@@ -43,6 +43,7 @@ use Rattle.plain_types.proofs.Hand.{Ranked}
 use Rattle.plain_types.proofs.Operands.{Loaded}
 use Rattle.plain_types.specs.Keeps.{GoesOn, Ready, StepsTyped, KeepsUnlessWaiting}
 use Rattle.plain_types.proofs.AtHand.{Only}
+use Rattle.plain_types.proofs.Refs.{NoneNew, none_owns}
 use Rattle.plain_types.proofs.Done.{runs_here, only_here, step_by}
 use Rattle.plain_types.proofs.Envs.{same_tree}
 use Rattle.plain_types.proofs.Hand.{ranked}
@@ -52,6 +53,7 @@ use Rattle.thread_types.specs.ThreadActs.{IsJoin}
 use Rattle.plain_types.proofs.Threads.{objects_counted, goes_by, pairs_by, marks_to_by, marks_back_by, still_here}
 use Rattle.plain_types.proofs.Stays.{Stays}
 use Rattle.thread_types.proofs.Joined.{E2, joined_typed}
+use Rattle.fr_store.specs.Rows.{with_type}
 
 -- THE ACT
 
@@ -134,7 +136,7 @@ record TaskAtHand (y : Typing) (k : Owned) (v : Value) : Type 0 where
   is : v ≡ Own (plain.Task number)
   gives : y.gives.result number ≡ k
 
-module _ {a0 : PlainState Position} {n : ℕ} {x0 : Running Position} {e : Env} {us : List Kind} {g k : Owned} {v : Value} {ws : List Value} (l : Loaded a0 n x0 e us g (own (task k)) v ws) (z : Ranked l.state n l.running e (own (task k) ∷ us) us (Some (own (task k))) g) where
+module _ {y0 y1 : Typing} {a0 : PlainState Position} {n : ℕ} {x0 : Running Position} {e : Env} {us : List Kind} {g k : Owned} {v : Value} {ws : List Value} (l : Loaded y0 a0 n x0 e us g (own (task k)) v ws) (z : Ranked y1 l.state n l.running e (own (task k) ∷ us) us (Some (own (task k))) g) where
   task_at_hand : TaskAtHand z.typing k v
   task_at_hand =
       let d = owned_value l z in
@@ -152,8 +154,8 @@ module _ {a0 : PlainState Position} {n : ℕ} {x0 : Running Position} {e : Env} 
 
 -- THE ACT, once its operand and the thread's result are known
 
-module _ (s : Whole Position) (t : Thread Position) (p : Position) (wrap : Position → Life Position) (goes : GoesOn wrap) (found : thread_at s.threads t.number ≡ Some t) (at : t.life ≡ wrap p) (e : Env) (us : List Kind) (g k : Owned) (v : Value) (ws : List Value) (runs : place_in ((plain_state s).thread t.number) ≡ Some (record { place = p; slots = t.slots }))
-    (l : Loaded (plain_state s) t.number (record { place = p; slots = t.slots }) e us g (own (task k)) v ws) (z : Ranked l.state t.number l.running e (own (task k) ∷ us) us (Some (own (task k))) g) (c : TaskAtHand z.typing k v) (d : Ended s.threads c.number) where
+module _ {y0 : Typing} (s : Whole Position) (t : Thread Position) (p : Position) (wrap : Position → Life Position) (goes : GoesOn wrap) (found : thread_at s.threads t.number ≡ Some t) (at : t.life ≡ wrap p) (e : Env) (us : List Kind) (g k : Owned) (v : Value) (ws : List Value) (runs : place_in ((plain_state s).thread t.number) ≡ Some (record { place = p; slots = t.slots }))
+    (l : Loaded y0 (plain_state s) t.number (record { place = p; slots = t.slots }) e us g (own (task k)) v ws) (z : Ranked l.typing l.state t.number l.running e (own (task k) ∷ us) us (Some (own (task k))) g) (c : TaskAtHand z.typing k v) (d : Ended s.threads c.number) where
   abbrev n : ℕ
   n = t.number
 
@@ -225,10 +227,15 @@ module _ (s : Whole Position) (t : Thread Position) (p : Position) (wrap : Posit
     made = objects_counted next;
   }
 
-  join_state : (q : Typing) × PositionTypes q (plain_state next)
+  join_state : (q : Typing) × PositionTypes q (plain_state next) × (q.gives ≡ y0.gives) × NoneNew y0.exact q.exact
   join_state = (
     typing_with z.typing (E2 z.typing l.state (plain_state next) t.number c.number l.running e us g k value.0 ws z.at z.focus temps ended_now c.gives) z.typing.marks,
     joined_typed z.typing l.state (plain_state next) t.number c.number l.running e us g k value.0 ws z.at z.focus temps ended_now c.gives now_is far others (λ w. pairs_by s next refl ends w ∙ same.pairs w) stays,
+    z.names ∙ l.names,
+    λ j b f.
+        let h = hand_at t.number us in
+        let E1 = with_type z.typing.exact h (owns hole) in
+        l.refs j b (z.refs j b (none_owns z.typing.exact h hole j b (none_owns E1 (result_k c.number) hole j b (none_owns (with_type E1 (result_k c.number) (owns hole)) h (tree_of k) j b f)))),
   )
     where
       temps : l.running.place.temps ≡ Own (plain.Task c.number) ∷ ws
@@ -238,7 +245,7 @@ module _ (s : Whole Position) (t : Thread Position) (p : Position) (wrap : Posit
       ended_now = was ∙ ap (λ w. Some (ended w)) value.1
 
 module _ (now : Position → Now) (move : Position → Option (Move Position Position)) (y : Typing) (s : Whole Position) (t : Thread Position) (p : Position) (wrap : Position → Life Position) (plug : Value → Position) where
-  join_steps : (v : Value) → act_waits s t (do_join v) ≡ None → Ready y s t p wrap (do_join v) plug → StepsTyped (moves_by now move) s t fresh.None (record { act = do_join v; plug = λ z. wrap (plug z) })
+  join_steps : (v : Value) → act_waits s t (do_join v) ≡ None → Ready y s t p wrap (do_join v) plug → StepsTyped y (moves_by now move) s t fresh.None (record { act = do_join v; plug = λ z. wrap (plug z) })
   join_steps v waits r =
       let i = join_row r.row in
       let x : Running Position = record { place = p; slots = t.slots } in
@@ -251,11 +258,13 @@ module _ (now : Position → Now) (move : Position → Option (Move Position Pos
       let w = value s t p wrap r.goes_on r.found r.at i.env i.after i.result i.content v i.left runs l z c d in
       let st = join_state s t p wrap r.goes_on r.found r.at i.env i.after i.result i.content v i.left runs l z c d in
       let m : Move Position (Life Position) = record { act = do_join v; plug = λ b. wrap (plug b) } in
-      step_by now move s t wrap m plug (Own w.0) (record { entry = going i.env (own i.content ∷ i.after) i.result; temps = Own w.0 ∷ i.left }) (λ b. record s { threads = with_thread (with_thread s.threads (with_life d.thread over)) (record { number = t.number; life = b; slots = t.slots }) }) [] st.0 r.goes_on
+      step_by now move s t wrap m plug (Own w.0) (record { entry = going i.env (own i.content ∷ i.after) i.result; temps = Own w.0 ∷ i.left }) (λ b. record s { threads = with_thread (with_thread s.threads (with_life d.thread over)) (record { number = t.number; life = b; slots = t.slots }) }) [] y st.0 r.goes_on
       (r.comes (Own w.0) ∙ ap₂ (λ a b. record { entry = a; temps = left_after b (Own w.0) }) i.comes i.leaves)
       (ap (λ b. done_act (moves_by now move) s t fresh.None m (do_join b)) c.is
       ∙ ap₂ (λ a b. nameless fresh.None (joined_with (moves_by now move) s t m a b)) d.found (ap result_in d.found ∙ ap result_of_life d.life ∙ ap Some w.1))
       st.1
+      st.2
+      st.3
 
 pub join_keeps : KeepsUnlessWaiting IsJoin
-join_keeps now move y s t p wrap act plug h waits r = subst (λ a. StepsTyped (moves_by now move) s t fresh.None (record { act = a; plug = λ z. wrap (plug z) })) (sym h.1) (join_steps now move y s t p wrap plug h.0 (subst (λ a. act_waits s t a ≡ None) h.1 waits) (subst (λ a. Ready y s t p wrap a plug) h.1 r))
+join_keeps now move y s t p wrap act plug h waits r = subst (λ a. StepsTyped y (moves_by now move) s t fresh.None (record { act = a; plug = λ z. wrap (plug z) })) (sym h.1) (join_steps now move y s t p wrap plug h.0 (subst (λ a. act_waits s t a ≡ None) h.1 waits) (subst (λ a. Ready y s t p wrap a plug) h.1 r))

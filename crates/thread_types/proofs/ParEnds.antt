@@ -20,12 +20,16 @@ use Rattle.plain_types.specs.Positions.{Position, PositionTypes, moves_by, Start
 use Rattle.plain_types.specs.ActRows.{Leaves, quiet, left_after, ActRow, r_par_end}
 use Rattle.plain_types.specs.Keeps.{GoesOn, Ready, StepsTyped, KeepsUnlessWaiting}
 use Rattle.plain_types.proofs.OneThread.{with_running, runs_still}
+use Rattle.plain_types.proofs.Refs.{NoneNew, none_owns}
 use Rattle.plain_types.proofs.Done.{runs_here, step_by}
 use Rattle.thread_types.specs.ThreadActs.{IsParEnd}
 use Rattle.plain_types.proofs.Threads.{objects_counted, goes_by, marks_to_by, marks_back_by}
 use Rattle.thread_types.proofs.TwoStates.{goes_with}
 use Rattle.thread_types.proofs.Joins.{Ended, ended_by}
 use Rattle.thread_types.proofs.Woken.{woken_typed}
+use Rattle.fr_store.specs.Rows.{with_type}
+use Rattle.fr_store.specs.Typed.{owns, hole}
+use Rattle.fr_store.specs.Keys.{result_k}
 
 -- PAIRS
 
@@ -169,7 +173,7 @@ module _ (s : Whole Position) (t : Thread Position) (p : Position) (wrap : Posit
   free : (plain_state next).pair t.number ≡ None
   free = ap (λ (d : Bool). if d then None else two_of (pair_of (without_pair s.pairs t.number) t.number)) (goes_by (thread_at next.threads t.number) (record { place = after; slots = t.slots }) runs_two) ∙ ap two_of (pairs_gone s.pairs t.number)
 
-  end_state : (z : Typing) × PositionTypes z (plain_state next)
+  end_state : (z : Typing) × PositionTypes z (plain_state next) × (z.gives ≡ y.gives) × NoneNew y.exact z.exact
   end_state = (
     _,
     woken_typed y (plain_state s) (plain_state next) st t.number f.pair.first f.pair.second (record { place = p; slots = t.slots }) e ts g db.value dc.value runs entry f.shown was_b was_c now (ap running_in now_b) (ap running_in now_c) (λ w wn wb wc. ap running_in (off w wn wb wc)) free pairs
@@ -181,6 +185,8 @@ module _ (s : Whole Position) (t : Thread Position) (p : Position) (wrap : Posit
           marks_back = marks_back_by (plain_state s) (plain_state next) t.number (record { place = p; slots = t.slots }) (record { place = after; slots = t.slots }) runs runs_two refl places;
           made = objects_counted next;
         }),
+    refl,
+    λ j b r. none_owns y.exact (result_k f.pair.first) hole j b (none_owns (with_type y.exact (result_k f.pair.first) (owns hole)) (result_k f.pair.second) hole j b r),
   )
 
 -- THE ACT
@@ -197,7 +203,7 @@ par_end_row : {x z : Entry} {vs : List Value} {l : Leaves} → ActRow StartsAs x
 par_end_row (r_par_end {e = e} {ts = ts} {g = g}) = record { env = e; temps = ts; result = g; entry = refl; leaves = refl; comes = refl }
 
 module _ (moving : Position → Now) (move : Position → Option (Move Position Position)) (y : Typing) (s : Whole Position) (t : Thread Position) (p : Position) (wrap : Position → Life Position) (plug : Value → Position) where
-  par_end_steps : act_waits s t do_par_end ≡ None → Ready y s t p wrap do_par_end plug → StepsTyped (moves_by moving move) s t fresh.None (record { act = do_par_end; plug = λ z. wrap (plug z) })
+  par_end_steps : act_waits s t do_par_end ≡ None → Ready y s t p wrap do_par_end plug → StepsTyped y (moves_by moving move) s t fresh.None (record { act = do_par_end; plug = λ z. wrap (plug z) })
   par_end_steps waits r =
       let i = par_end_row r.row in
       let runs = runs_here s t p wrap r.goes_on r.found r.at in
@@ -211,11 +217,13 @@ module _ (moving : Position → Now) (move : Position → Option (Move Position 
       let z = end_state s t p wrap r.goes_on r.found r.at i.env i.temps i.result y r.state runs i.entry f db dc in
       let m : Move Position (Life Position) = record { act = do_par_end; plug = λ q. wrap (plug q) } in
       step_by moving move s t wrap m plug unit_value (record { entry = going i.env i.temps i.result; temps = p.temps })
-      (λ l. record s { threads = with_thread (with_thread (with_thread s.threads (with_life db.thread over)) (with_life dc.thread over)) (record { number = t.number; life = l; slots = t.slots }); pairs = without_pair s.pairs t.number }) [] z.0 r.goes_on
+      (λ l. record s { threads = with_thread (with_thread (with_thread s.threads (with_life db.thread over)) (with_life dc.thread over)) (record { number = t.number; life = l; slots = t.slots }); pairs = without_pair s.pairs t.number }) [] y z.0 r.goes_on
       (r.comes unit_value ∙ ap₂ (λ a k. record { entry = a; temps = left_after k unit_value }) i.comes i.leaves)
       (ap (two_joined (moves_by moving move) s t m) f.is ∙ ap₂ (two_ended (moves_by moving move) s t m f.pair) d.0.1 d.1.1
       ∙ ap₂ (λ o q. Some (record { state = record (goes_on (moves_by moving move) (record s { threads = taken (moves_by moving move) (taken (moves_by moving move) s.threads o) q }) t m unit_value t.slots) { pairs = without_pair s.pairs t.number }; labels = [] })) db.found dc.found)
       z.1
+      z.2
+      z.3
 
 pub par_end_keeps : KeepsUnlessWaiting IsParEnd
-par_end_keeps moving move y s t p wrap act plug h waits r = subst (λ a. StepsTyped (moves_by moving move) s t fresh.None (record { act = a; plug = λ z. wrap (plug z) })) (sym h) (par_end_steps moving move y s t p wrap plug (subst (λ a. act_waits s t a ≡ None) h waits) (subst (λ a. Ready y s t p wrap a plug) h r))
+par_end_keeps moving move y s t p wrap act plug h waits r = subst (λ a. StepsTyped y (moves_by moving move) s t fresh.None (record { act = a; plug = λ z. wrap (plug z) })) (sym h) (par_end_steps moving move y s t p wrap plug (subst (λ a. act_waits s t a ≡ None) h waits) (subst (λ a. Ready y s t p wrap a plug) h r))

@@ -24,13 +24,14 @@ use Rattle.fr_code.specs.CodeTypes.{wait, SlotsPass}
 use Rattle.fr_code.specs.Steps.{captured}
 use Rattle.plain_types.specs.Positions.{Position, PositionTypes, moves_by, StartsAs}
 use Rattle.plain_types.specs.ActRows.{Leaves, quiet, left_after, ActRow, r_par}
-use Rattle.plain_types.specs.Keeps.{GoesOn, Ready, StepsTyped, KeepsNamed}
+use Rattle.plain_types.specs.Keeps.{GoesOn, Ready, KeepsNames, StepsTyped, KeepsNamed}
 use Rattle.plain_types.proofs.OneThread.{with_running}
 use Rattle.plain_types.proofs.Raised.{ranked_by, raised_typing}
 use Rattle.plain_types.proofs.Focus.{top_none, Focus}
 use Rattle.plain_types.proofs.Slots.{focus_at}
 use Rattle.plain_types.proofs.Hand.{At}
-use Rattle.plain_types.proofs.Done.{runs_here, step_named}
+use Rattle.plain_types.proofs.Refs.{NoneNew}
+use Rattle.plain_types.proofs.Done.{names_then, runs_here, step_named}
 use Rattle.plain_types.proofs.Regiven.{giving, regiven}
 use Rattle.plain_types.proofs.Threads.{objects_counted}
 use Rattle.plain_types.proofs.Fresh.{climb_above, lifted_slots, lifted_here, lifted_other, lifted_keys, lifted_typed, not_kept}
@@ -260,16 +261,19 @@ module _ (s : Whole Position) (t : Thread Position) (p : Position) (wrap : Posit
     pub first : pass (captured cs) t.slots [] ≡ Some (record { left = between; new = new })
     pub second : pass (captured ds) between [] ≡ Some (record { left = left; new = newer })
     pub typing : Typing
+    pub names : typing.gives ≡ with_result (with_result y.gives b unit) c unit
+    pub refs : NoneNew y.exact typing.exact
     pub typed : PositionTypes typing (plain_state (three_state s t wrap goes stands still b c none_b none_c differ ts g p.temps e2 left n new m newer))
 
   pub both_pass : (e1 e2 n m : Env) (cs ds : List (ℕ × Bool)) → SlotsPass by_par e [] cs e1 n → SlotsPass by_par e1 [] ds e2 m → BothPass cs ds e2 n m
   both_pass e1 e2 n m cs ds passed passed2 =
+      let gs = with_result (with_result y.gives b unit) c unit in
       let f = first_family s t wrap goes stands still b c none_b none_c differ ts g p.temps [] [] in
-      let one = all_pass by_par (IsForked f c (record { place = branch; slots = [] }) []) (forked_passing f c (record { place = branch; slots = [] }) []) e [] e1 n t.slots [] cs (y5, forked) passed in
+      let one = all_pass by_par (IsForked f c (record { place = branch; slots = [] }) [] gs y.exact) (forked_passing f c (record { place = branch; slots = [] }) [] gs y.exact) e [] e1 n t.slots [] cs (y5, forked, refl, λ j q h. h) passed in
       let h = second_family s t wrap goes stands still b c none_b none_c differ ts g p.temps n one.news in
       let had : Running Position = record { place = record { entry = going n [] unit; temps = [] }; slots = one.news } in
-      let two = all_pass by_par (IsForked h b had n) (forked_passing h b had n) e1 [] e2 m one.left [] ds (one.kept.0, swapped one.kept.1) passed2 in
-      record { between = one.left; left = two.left; new = one.news; newer = two.news; first = one.is; second = two.is; typing = two.kept.0; typed = two.kept.1.state }
+      let two = all_pass by_par (IsForked h b had n gs y.exact) (forked_passing h b had n gs y.exact) e1 [] e2 m one.left [] ds (one.kept.0, swapped one.kept.1, one.kept.2, one.kept.3) passed2 in
+      record { between = one.left; left = two.left; new = one.news; newer = two.news; first = one.is; second = two.is; typing = two.kept.0; names = two.kept.2; refs = two.kept.3; typed = two.kept.1.state }
 
 -- THE ACT
 
@@ -326,7 +330,7 @@ names_free s u v h = eq_cases (λ q. (q || is_given s u || is_given s v) ≡ fal
 
 module _ (now : Position → Now) (move : Position → Option (Move Position Position)) (y : Typing) (s : Whole Position) (t : Thread Position) (p : Position) (wrap : Position → Life Position) (plug : Value → Position) where
   par_steps : (cs : List Capture) (body : Position) (ds : List Capture) (other : Position) (b c : ℕ) → (b == c || is_given s b || is_given s c) ≡ false → Ready y s t p wrap (do_par cs body ds other) plug
-      → StepsTyped (moves_by now move) s t (fresh.Threads b c) (record { act = do_par cs body ds other; plug = λ z. wrap (plug z) })
+      → StepsTyped y (moves_by now move) s t (fresh.Threads b c) (record { act = do_par cs body ds other; plug = λ z. wrap (plug z) })
   par_steps cs body ds other b c free r =
       let i = par_row r.row in
       let f = names_free s b c free in
@@ -341,7 +345,7 @@ module _ (now : Position → Now) (move : Position → Option (Move Position Pos
         threads = with_thread s.threads (record { number = t.number; life = z; slots = d.left }) ++ record { number = b; life = owing body; slots = d.new } ∷ record { number = c; life = owing other; slots = d.newer } ∷ [];
         pairs = record { parent = t.number; first = b; second = c } ∷ s.pairs;
       })
-      (label.Start b ∷ label.Start c ∷ []) d.typing r.goes_on
+      (label.Start b ∷ label.Start c ∷ []) y d.typing r.goes_on
       (r.comes unit_value ∙ ap₂ (λ z l. record { entry = z; temps = left_after l unit_value }) i.comes i.leaves)
       (ap (λ z. if z then None else second_of (moves_by now move) s t m b body ds c other (pass cs t.slots [])) free
       ∙ ap (λ z. second_of (moves_by now move) s t m b body ds c other (pass z t.slots [])) i.is
@@ -356,6 +360,8 @@ module _ (now : Position → Now) (move : Position → Option (Move Position Pos
         threads = with_thread s.threads (record { number = t.number; life = wrap q; slots = d.left }) ++ record { number = b; life = owing (record { entry = going i.new [] unit; temps = [] }); slots = d.new } ∷ record { number = c; life = owing z; slots = d.newer } ∷ [];
         pairs = record { parent = t.number; first = b; second = c } ∷ s.pairs;
       }))) (sym same2) d.typed))
+      (subst (λ g. KeepsNames (plain_state s) y.gives g) (sym d.names) (names_then (result_regives (plain_state s) y.gives b unit (ap running_in f.1)) (result_regives (plain_state s) (with_result y.gives b unit) c unit (ap running_in f.2))))
+      d.refs
     where
       place_is : (b : Position) (e : Entry) → (b.entry ≡ e) × (b.temps ≡ []) → b ≡ (record { entry = e; temps = [] })
       place_is b e h = ap₂ (λ c d. (let q : Position = record { entry = c; temps = d } in q)) h.0 h.1
@@ -363,6 +369,6 @@ module _ (now : Position → Now) (move : Position → Option (Move Position Pos
 pub par_keeps : KeepsNamed IsPar
 par_keeps now move y s t p wrap act plug names h refused r =
     let q = new_names s names (subst (λ a. refused_names s (takes_of a) names ≡ None) h.4 refused) in
-    subst (λ a. StepsTyped (moves_by now move) s t names (record { act = a; plug = λ z. wrap (plug z) })) (sym h.4)
-    (subst (λ b. StepsTyped (moves_by now move) s t b (record { act = do_par h.0 h.1 h.2 h.3; plug = λ z. wrap (plug z) })) (sym q.is)
+    subst (λ a. StepsTyped y (moves_by now move) s t names (record { act = a; plug = λ z. wrap (plug z) })) (sym h.4)
+    (subst (λ b. StepsTyped y (moves_by now move) s t b (record { act = do_par h.0 h.1 h.2 h.3; plug = λ z. wrap (plug z) })) (sym q.is)
     (par_steps now move y s t p wrap plug h.0 h.1 h.2 h.3 q.first q.second q.free (subst (λ a. Ready y s t p wrap a plug) h.4 r)))

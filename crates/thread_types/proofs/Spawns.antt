@@ -26,13 +26,14 @@ use Rattle.fr_code.specs.CodeTypes.{wait, SlotsPass}
 use Rattle.fr_code.specs.Steps.{captured}
 use Rattle.plain_types.specs.Positions.{Position, PositionTypes, moves_by, StartsAs}
 use Rattle.plain_types.specs.ActRows.{Leaves, loud, left_after, ActRow, r_spawn}
-use Rattle.plain_types.specs.Keeps.{GoesOn, Ready, StepsTyped, KeepsNamed}
+use Rattle.plain_types.specs.Keeps.{GoesOn, Ready, KeepsNames, StepsTyped, KeepsNamed}
 use Rattle.plain_types.proofs.OneThread.{with_running}
 use Rattle.plain_types.proofs.Raised.{ranked_by, raised, raised_typing}
-use Rattle.plain_types.proofs.Focus.{top_none, Focus, focus}
+use Rattle.plain_types.proofs.Focus.{top_none, Focus, focus, hand_at}
 use Rattle.plain_types.proofs.Hand.{At, room}
+use Rattle.plain_types.proofs.Refs.{NoneNew, none_owns}
 use Rattle.plain_types.proofs.Done.{runs_here, step_named}
-use Rattle.plain_types.proofs.Regiven.{Regives, giving, regiven}
+use Rattle.plain_types.proofs.Regiven.{giving, regiven}
 use Rattle.thread_types.specs.ThreadActs.{IsSpawn}
 use Rattle.plain_types.proofs.Threads.{objects_counted, pairs_by}
 use Rattle.plain_types.proofs.Fresh.{lifted_slots, lifted_keys, lifted_typed}
@@ -40,6 +41,8 @@ use Rattle.thread_types.proofs.AllPass.{named_below, Copied, Moved, Passing, all
 use Rattle.thread_types.proofs.Started.{started_typed}
 use Rattle.thread_types.proofs.TwoStates.{goes_with, not_over, child_at, two_state, here, there, beyond, over_same, value_is, take_typed, copy_typed}
 use Rattle.fr_plain.specs.Machine.{name_used}
+use Rattle.fr_store.specs.Typed.{KeyTypes, task_tree}
+use Rattle.fr_store.specs.Below.{tree_of}
 
 -- CAPTURES
 
@@ -50,12 +53,12 @@ spawn_kind e (shared us) l h = cc
 spawn_kind e (mutable us) l h = cc
 spawn_kind e (view o) l h = cc
 
-module _ (s : Whole Position) (t : Thread Position) (wrap : Position → Life Position) (goes : GoesOn wrap) (stands : thread_at s.threads t.number ≡ Some t) (u : ℕ) (none : thread_at s.threads u ≡ None) (ts : List Kind) (g k : Owned) (temps : List Value) (still : is_over t.life ≡ false) where
+module _ (s : Whole Position) (t : Thread Position) (wrap : Position → Life Position) (goes : GoesOn wrap) (stands : thread_at s.threads t.number ≡ Some t) (u : ℕ) (none : thread_at s.threads u ≡ None) (ts : List Kind) (g k : Owned) (temps : List Value) (still : is_over t.life ≡ false) (gs : Gives) (E0 : KeyTypes) where
   abbrev state : Env → List Value → Env → List Value → Whole Position
   state e sl n new = two_state s t wrap goes stands u none ts g k temps e sl n new
 
   abbrev IsTyped : Env → List Value → Env → List Value → Type 0
-  IsTyped e sl n new = (y : Typing) × PositionTypes y (plain_state (two_state s t wrap goes stands u none ts g k temps e sl n new))
+  IsTyped e sl n new = (y : Typing) × PositionTypes y (plain_state (two_state s t wrap goes stands u none ts g k temps e sl n new)) × (y.gives ≡ gs) × NoneNew E0 y.exact
 
   copy : (e n : Env) (sl new : List Value) (c : Captured) (i : ℕ) (q l : Kind) → IsTyped e sl n new → MayPass by_spawn e c i q l → copies q ≡ true → read_blocked e i ≡ false → Copied by_spawn IsTyped e sl n new c i l
   copy e n sl new c i q l st may copied free =
@@ -64,7 +67,7 @@ module _ (s : Whole Position) (t : Thread Position) (wrap : Position → Life Po
       let lt = named_below e c.name i may.is.named in
       let v = value_is s t wrap goes stands u none ts g k temps still st.0 e sl n new st.1 i o.0 lt type in
       let d = copy_typed s t wrap goes stands u none ts g k temps still st.0 e sl n new st.1 c.name i o.0 v.0 lt type v.1 (ap copies (sym o.1) ∙ copied) in
-      record { value = Own v.0; is = v.1; stays = ap copies (o.2 ∙ sym o.1) ∙ copied; kept = subst (λ b. IsTyped e sl (captured_slot c b ∷ n) (Own v.0 ∷ new)) (sym o.2) d }
+      record { value = Own v.0; is = v.1; stays = ap copies (o.2 ∙ sym o.1) ∙ copied; kept = subst (λ b. IsTyped e sl (captured_slot c b ∷ n) (Own v.0 ∷ new)) (sym o.2) (d.0, d.1, d.2 ∙ st.2, λ j b e. st.3 j b (d.3 j b e)) }
 
   move : (e n : Env) (sl new : List Value) (c : Captured) (i : ℕ) (q l : Kind) → IsTyped e sl n new → MayPass by_spawn e c i q l → copies q ≡ false → write_blocked e i ≡ false → Moved by_spawn IsTyped e sl n new c i q l
   move e n sl new c i q l st may moves free =
@@ -78,7 +81,7 @@ module _ (s : Whole Position) (t : Thread Position) (wrap : Position → Life Po
         is = v.1;
         goes = ap copies (o.2 ∙ sym o.1) ∙ moves;
         kept = subst (λ b. IsTyped (put_at e (record { slot = i; depth = 0 }) (gone b)) (with_slot sl i (Own plain.Nothing)) (captured_slot c l ∷ n) (Own v.0 ∷ new)) (sym o.1)
-            (subst (λ b. IsTyped (put_at e (record { slot = i; depth = 0 }) (gone (own o.0))) (with_slot sl i (Own plain.Nothing)) (captured_slot c b ∷ n) (Own v.0 ∷ new)) (sym o.2) d);
+            (subst (λ b. IsTyped (put_at e (record { slot = i; depth = 0 }) (gone (own o.0))) (with_slot sl i (Own plain.Nothing)) (captured_slot c b ∷ n) (Own v.0 ∷ new)) (sym o.2) (d.0, d.1, d.2 ∙ st.2, λ j b e. st.3 j b (d.3 j b e)));
       }
 
   spawn_passing : Passing by_spawn IsTyped
@@ -99,7 +102,7 @@ pub unit_still : (g : Gives) (u w : ℕ) → g.result w ≡ unit → (with_resul
 unfolding with_result
 unit_still g u w h = eq_cases (λ d. (if d then unit else g.result w) ≡ unit) w u (λ q. refl) (λ ne. h)
 
-pub result_regives : (a : PlainState Position) (g : Gives) (u : ℕ) (k : Owned) → a.thread u ≡ None → Regives a g (with_result g u k)
+pub result_regives : (a : PlainState Position) (g : Gives) (u : ℕ) (k : Owned) → a.thread u ≡ None → KeepsNames a g (with_result g u k)
 unfolding with_result
 result_regives a g u k none = record {
   mutexes = λ m e. refl;
@@ -167,12 +170,14 @@ module _ (s : Whole Position) (t : Thread Position) (p : Position) (wrap : Posit
   keys = record { differ = λ i j f. cc; off = λ i f. absurd cc; ranks = λ i j l. (lifted_keys 0 u 0 y.rank).ranks i j l }
 
   -- the new thread is there, and its task at hand
-  pub spawned : (z : Typing) × PositionTypes z (plain_state next)
+  pub spawned : (z : Typing) × PositionTypes z (plain_state next) × (z.gives ≡ with_result y.gives u k) × NoneNew y.exact z.exact
   spawned = (
     _,
     started_typed y3 (plain_state s) (plain_state next) t.number u x e ts g k (child_at s t wrap goes stands u none ts g k p.temps []) at_three focused none_there (result_new y.gives u k) keys refl refl now new others
         (pairs_by s next refl (over_same s t wrap goes stands u none ts g k p.temps e t.slots [] [] still))
         (λ m. refl) (λ m. refl) (λ o. refl) (objects_counted next),
+    refl,
+    none_owns y.exact (hand_at t.number ts) (task_tree (tree_of k)),
   )
 
 -- THE ACT
@@ -197,24 +202,27 @@ spawn_row : {x z : Entry} {vs : List Value} {cs : List Capture} {body : Position
 spawn_row (r_spawn {e = e} {e1 = e1} {n = n} {ts = ts} {g = g} {x = x} cs w pass starts) = record { env = e; after = e1; new = n; temps = ts; result = g; content = x; names = cs; waits = w; passing = pass; starts = starts; entry = refl; is = refl; leaves = refl; comes = refl }
 
 module _ (now : Position → Now) (move : Position → Option (Move Position Position)) (y : Typing) (s : Whole Position) (t : Thread Position) (p : Position) (wrap : Position → Life Position) (plug : Value → Position) where
-  spawn_steps : (cs : List Capture) (body : Position) (u : ℕ) → thread_at s.threads u ≡ None → Ready y s t p wrap (do_spawn cs body) plug → StepsTyped (moves_by now move) s t (fresh.Thread u) (record { act = do_spawn cs body; plug = λ z. wrap (plug z) })
+  spawn_steps : (cs : List Capture) (body : Position) (u : ℕ) → thread_at s.threads u ≡ None → Ready y s t p wrap (do_spawn cs body) plug → StepsTyped y (moves_by now move) s t (fresh.Thread u) (record { act = do_spawn cs body; plug = λ z. wrap (plug z) })
   spawn_steps cs body u none r =
       let i = spawn_row r.row in
       let at : At y (plain_state s) t.number (record { place = p; slots = t.slots }) i.env i.temps i.result = record { state = r.state; runs = runs_here s t p wrap r.goes_on r.found r.at; entry = i.entry } in
       let z = spawned s t p wrap r.goes_on r.found r.at u none i.env i.temps i.result i.content i.waits y at in
       let still : is_over t.life ≡ false = ap is_over r.at ∙ not_over wrap r.goes_on p in
-      let d = all_pass by_spawn (IsTyped s t wrap r.goes_on r.found u none i.temps i.result i.content p.temps still) (spawn_passing s t wrap r.goes_on r.found u none i.temps i.result i.content p.temps still) i.env [] i.after i.new t.slots [] i.names z i.passing in
+      let gs = with_result y.gives u i.content in
+      let d = all_pass by_spawn (IsTyped s t wrap r.goes_on r.found u none i.temps i.result i.content p.temps still gs y.exact) (spawn_passing s t wrap r.goes_on r.found u none i.temps i.result i.content p.temps still gs y.exact) i.env [] i.after i.new t.slots [] i.names z i.passing in
       let v : Value = Own (plain.Task u) in
       let q : Position = record { entry = going i.after (own (task i.content) ∷ i.temps) i.result; temps = v ∷ p.temps } in
       let m : Move Position (Life Position) = record { act = do_spawn cs body; plug = λ b. wrap (plug b) } in
       let child : Position = record { entry = going i.new [] i.content; temps = [] } in
       let same : body ≡ child = place_is body (going i.new [] i.content) i.starts in
-      step_named now move s t wrap (fresh.Thread u) m plug v q (λ b. record s { threads = with_thread s.threads (record { number = t.number; life = b; slots = d.left }) ++ record { number = u; life = owing body; slots = d.news } ∷ [] }) (label.Start u ∷ []) d.kept.0 r.goes_on
+      step_named now move s t wrap (fresh.Thread u) m plug v q (λ b. record s { threads = with_thread s.threads (record { number = t.number; life = b; slots = d.left }) ++ record { number = u; life = owing body; slots = d.news } ∷ [] }) (label.Start u ∷ []) y d.kept.0 r.goes_on
       (r.comes v ∙ ap₂ (λ a b. record { entry = a; temps = left_after b v }) i.comes i.leaves)
       (ap (λ b. started (moves_by now move) s t m (fresh.Thread u) body (λ slots. pass b slots [])) i.is
       ∙ ap (λ o. if is_some o then None else started_with (moves_by now move) s t m body u (pass (captured i.names) t.slots [])) none
       ∙ ap (started_with (moves_by now move) s t m body u) d.is)
       (subst (λ b. PositionTypes d.kept.0 (plain_state (record s { threads = with_thread s.threads (record { number = t.number; life = wrap q; slots = d.left }) ++ record { number = u; life = owing b; slots = d.news } ∷ [] }))) (sym same) d.kept.1)
+      (subst (λ g. KeepsNames (plain_state s) y.gives g) (sym d.kept.2) (result_regives (plain_state s) y.gives u i.content (ap running_in none)))
+      d.kept.3
     where
       place_is : (b : Position) (e : Entry) → (b.entry ≡ e) × (b.temps ≡ []) → b ≡ (record { entry = e; temps = [] })
       place_is b e h = ap₂ (λ c d. (let q : Position = record { entry = c; temps = d } in q)) h.0 h.1
@@ -233,5 +241,5 @@ new_name s (fresh.Thread u) cs body h = (u, refl, by (thread_at s.threads u) ref
 pub spawn_keeps : KeepsNamed IsSpawn
 spawn_keeps now move y s t p wrap act plug names h refused r =
     let q = new_name s names h.0 h.1 (subst (λ a. refused_names s (takes_of a) names ≡ None) h.2 refused) in
-    subst (λ a. StepsTyped (moves_by now move) s t names (record { act = a; plug = λ z. wrap (plug z) })) (sym h.2)
-    (subst (λ b. StepsTyped (moves_by now move) s t b (record { act = do_spawn h.0 h.1; plug = λ z. wrap (plug z) })) (sym q.1) (spawn_steps now move y s t p wrap plug h.0 h.1 q.0 q.2 (subst (λ a. Ready y s t p wrap a plug) h.2 r)))
+    subst (λ a. StepsTyped y (moves_by now move) s t names (record { act = a; plug = λ z. wrap (plug z) })) (sym h.2)
+    (subst (λ b. StepsTyped y (moves_by now move) s t b (record { act = do_spawn h.0 h.1; plug = λ z. wrap (plug z) })) (sym q.1) (spawn_steps now move y s t p wrap plug h.0 h.1 q.0 q.2 (subst (λ a. Ready y s t p wrap a plug) h.2 r)))

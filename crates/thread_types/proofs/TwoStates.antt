@@ -20,6 +20,7 @@ use Rattle.fr_sound.specs.States.{Typing}
 use Rattle.plain_types.specs.Positions.{Position, PositionTypes}
 use Rattle.plain_types.specs.Keeps.{GoesOn, is_main, is_owed, is_loose}
 use Rattle.plain_types.proofs.OneThread.{with_running}
+use Rattle.plain_types.proofs.Refs.{NoneNew, none_owns}
 use Rattle.plain_types.proofs.Raised.{raised, raised_typing}
 use Rattle.plain_types.proofs.Focus.{top_none, top_some, Focus, focus}
 use Rattle.plain_types.proofs.Hand.{At}
@@ -187,15 +188,15 @@ module _ (s : Whole Position) (t : Thread Position) (wrap : Position → Life Po
 
     -- it moves
     pub take_typed : (name : Text) (i : ℕ) (o : Owned) (v : Plain) → i < length e → type_at e (record { slot = i; depth = 0 }) ≡ found (whole (own o)) → slot_at sl i ≡ Some (Own v) → write_blocked e i ≡ false
-        → (z : Typing) × PositionTypes z (plain_state (two_state (put_at e (record { slot = i; depth = 0 }) (gone (own o))) (with_slot sl i (Own plain.Nothing)) (record { name = Some name; part = whole (own o) } ∷ n) (Own v ∷ new)))
+        → (z : Typing) × PositionTypes z (plain_state (two_state (put_at e (record { slot = i; depth = 0 }) (gone (own o))) (with_slot sl i (Own plain.Nothing)) (record { name = Some name; part = whole (own o) } ∷ n) (Own v ∷ new))) × (z.gives ≡ y.gives) × NoneNew y.exact z.exact
     take_typed name i o v lt type is free =
         let step = passing name i o v (put_at e (record { slot = i; depth = 0 }) (gone (own o))) (with_slot sl i (Own plain.Nothing)) (λ b ne. slot_unwritten sl i b (Own plain.Nothing) ne) in
         let open_to = awake_free at fc i free in
-        (_, given_typed at fc giver step (move_given giver name i o v type open_to is step refl refl) (move_refs giver name i o v type open_to is step refl refl))
+        (_, given_typed at fc giver step (move_given giver name i o v type open_to is step refl refl) (move_refs giver name i o v type open_to is step refl refl), refl, λ j b e. move_refs giver name i o v type open_to is step refl refl j true b e)
 
     -- or it is copied
     pub copy_typed : (name : Text) (i : ℕ) (o : Owned) (v : Plain) → i < length e → type_at e (record { slot = i; depth = 0 }) ≡ found (whole (own o)) → slot_at sl i ≡ Some (Own v) → copies (own o) ≡ true
-        → (z : Typing) × PositionTypes z (plain_state (two_state e sl (record { name = Some name; part = whole (own o) } ∷ n) (Own v ∷ new)))
+        → (z : Typing) × PositionTypes z (plain_state (two_state e sl (record { name = Some name; part = whole (own o) } ∷ n) (Own v ∷ new))) × (z.gives ≡ y.gives) × NoneNew y.exact z.exact
     copy_typed name i o v lt type is copied =
         let step = passing name i o v e sl (λ b ne. refl) in
-        (_, given_typed at fc giver step (copy_given giver name (owned_copies giver i lt o type copied v is) step refl refl) (λ j b z r. known_tree (slot_k u) (slot_k u 0) y2.exact (slot_k u (length n)) (tree_of o) j b z r))
+        (_, given_typed at fc giver step (copy_given giver name (owned_copies giver i lt o type copied v is) step refl refl) (λ j b z r. known_tree (slot_k u) (slot_k u 0) y2.exact (slot_k u (length n)) (tree_of o) j b z r), refl, none_owns y.exact (slot_k u (length n)) (tree_of o))

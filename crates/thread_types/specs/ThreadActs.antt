@@ -37,4 +37,4 @@ pub record AtEnd (y : Typing) (s : Whole Position) (t : Thread Position) (p : Po
 -- then it can end without a new name, its result is kept, and the state is typed again
 abbrev pub FinishKeeps : Type 0
 FinishKeeps = (now : Position → Now) (move : Position → Option (Move Position Position)) (y : Typing) (s : Whole Position) (t : Thread Position) (p : Position) (v : Value)
-    → AtEnd y s t p v → StepsTyped (moves_by now move) s t fresh.None (record { act = do_finish v; plug = ended })
+    → AtEnd y s t p v → StepsTyped y (moves_by now move) s t fresh.None (record { act = do_finish v; plug = ended })
