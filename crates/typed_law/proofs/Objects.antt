@@ -1,6 +1,7 @@
 -- The types of objects that a typed one heap gives: each object has the type that stands under the boxes of the key that owns it.
 use Rattle.std.proofs.Common.{◌≡◌, ◌⊎◌, inl, inr, ℕ, zero, suc, ◌+◌, ◌<◌, ◌==◌, Bool, true, false, if◌then◌else◌, List, [], ◌∷◌, ◌++◌, length, Option, Some, None, refl, sym, ap, subst, ◌∙◌, arith}
 use Rattle.fr_base.specs.declared.name.ObjNo.{ObjNo}
+use Rattle.fr_base.specs.declared.name.MutexNo.{MutexNo}
 use Rattle.server_model.specs.Servers.{Cluster}
 use Rattle.fr_typing.specs.Kinds.{Owned as OwnedType, unit, int, box, mutex, task, Kind, Piece}
 use Rattle.fr_typing.proofs.PlaceLemmas.{eq_cases}
@@ -14,7 +15,8 @@ use Rattle.fr_code.specs.CodeTypes.{Entry}
 use Rattle.heap_law.specs.Names.{Among, same_object}
 use Rattle.heap_law.specs.Follow.{Standing, thread_at}
 use Rattle.heap_law.specs.Sight.{sight}
-use Rattle.heap_law.specs.OneHeap.{or_else}
+use Rattle.heap_law.specs.OneHeap.{or_else, object_n, mutex_n, task_n, Owner, a_thread, inside, outside, owner_of}
+use Rattle.heap_law.specs.Things.{Thing}
 use Rattle.path_law.proofs.Sole.{some_is}
 use Rattle.path_law.proofs.Shown.{at_behind}
 use Rattle.typed_law.proofs.Following.{HasHeap, heap_of}
@@ -139,12 +141,12 @@ module _ (k : Cluster) (c : HasHeap k) where
   temp_type None i = None
   temp_type (Some e) i = some_kind (at_behind e.temps i)
 
-  -- the owned type of a key's part, where it has one
+  -- the owned type of a key's part, where it has one; a content has that of its mutex, and a result that of its thread
   abbrev pub key_type : Key → Option OwnedType
   key_type (slot_k t i) = slot_type (entry_in (at t)) i
   key_type (temp_k t i) = temp_type (entry_in (at t)) i
-  key_type (content_k h n) = None
-  key_type (result_k t) = None
+  key_type (content_k h n) = Some (c.typing.gives.mutex (record { home = h; count = n }))
+  key_type (result_k t) = Some (c.typing.gives.result t)
   key_type (hand_k t) = None
 
   abbrev pub seek_some : Option OwnedType → ObjNo → StoreLocation → Option OwnedType
@@ -201,18 +203,49 @@ module _ (k : Cluster) (c : HasHeap k) where
   among_thread_keys h x (y ∷ xs) (inl e) m = among_left h (keys_of y) (all_keys xs) (subst (λ z. Among h (keys_of z)) (sym e) m)
   among_thread_keys h x (y ∷ xs) (inr a) m = among_right h (keys_of y) (all_keys xs) (among_thread_keys h x xs a m)
 
+  -- the keys of contents and results, wherever they stand
+  abbrev owner_keys : Owner → List Key
+  owner_keys (inside (mutex_n m)) = content_k m.home m.count ∷ []
+  owner_keys (inside (task_n t)) = result_k t ∷ []
+  owner_keys (inside (object_n o)) = []
+  owner_keys a_thread = []
+  owner_keys outside = []
+
+  abbrev things_keys : List Thing → List Key
+  things_keys [] = []
+  things_keys (x ∷ xs) = owner_keys (owner_of (sight k) x) ++ things_keys xs
+
   abbrev pub keys : List Key
-  keys = all_keys (sight k).ground.threads
+  keys = all_keys (sight k).ground.threads ++ things_keys (sight k).things
+
+  among_things : (h : Key) (x : Thing) (xs : List Thing) → Among x xs → Among h (owner_keys (owner_of (sight k) x)) → Among h (things_keys xs)
+  among_things h x [] a m = absurd a
+  among_things h x (y ∷ xs) (inl e) m = among_left h (owner_keys (owner_of (sight k) y)) (things_keys xs) (subst (λ z. Among h (owner_keys (owner_of (sight k) z))) (sym e) m)
+  among_things h x (y ∷ xs) (inr a) m = among_right h (owner_keys (owner_of (sight k) y)) (things_keys xs) (among_things h x xs a m)
+
+  -- the key of the content of a mutex, where a thing has it
+  pub content_among : (x : Thing) (m : MutexNo) → Among x (sight k).things → owner_of (sight k) x ≡ inside (mutex_n m) → Among (content_k m.home m.count) keys
+  content_among x m a e =
+      among_right (content_k m.home m.count) (all_keys (sight k).ground.threads) (things_keys (sight k).things)
+      (among_things (content_k m.home m.count) x (sight k).things a (subst (λ o. Among (content_k m.home m.count) (owner_keys o)) (sym e) (inl refl)))
+
+  -- and of the result of a thread
+  pub result_among : (x : Thing) (t : ℕ) → Among x (sight k).things → owner_of (sight k) x ≡ inside (task_n t) → Among (result_k t) keys
+  result_among x t a e =
+      among_right (result_k t) (all_keys (sight k).ground.threads) (things_keys (sight k).things)
+      (among_things (result_k t) x (sight k).things a (subst (λ o. Among (result_k t) (owner_keys o)) (sym e) (inl refl)))
 
   pub slot_among : (x : Standing) (i : ℕ) → Among x (sight k).ground.threads → i < length x.thread.slots → Among (slot_k x.thread.number i) keys
   slot_among x i a l =
-      among_thread_keys (slot_k x.thread.number i) x (sight k).ground.threads a
-      (among_left (slot_k x.thread.number i) (keys_up (slot_k x.thread.number) (length x.thread.slots)) (keys_up (temp_k x.thread.number) (length x.thread.temps)) (among_up (slot_k x.thread.number) i (length x.thread.slots) l))
+      among_left (slot_k x.thread.number i) (all_keys (sight k).ground.threads) (things_keys (sight k).things)
+      (among_thread_keys (slot_k x.thread.number i) x (sight k).ground.threads a
+      (among_left (slot_k x.thread.number i) (keys_up (slot_k x.thread.number) (length x.thread.slots)) (keys_up (temp_k x.thread.number) (length x.thread.temps)) (among_up (slot_k x.thread.number) i (length x.thread.slots) l)))
 
   pub temp_among : (x : Standing) (i : ℕ) → Among x (sight k).ground.threads → i < length x.thread.temps → Among (temp_k x.thread.number i) keys
   temp_among x i a l =
-      among_thread_keys (temp_k x.thread.number i) x (sight k).ground.threads a
-      (among_right (temp_k x.thread.number i) (keys_up (slot_k x.thread.number) (length x.thread.slots)) (keys_up (temp_k x.thread.number) (length x.thread.temps)) (among_up (temp_k x.thread.number) i (length x.thread.temps) l))
+      among_left (temp_k x.thread.number i) (all_keys (sight k).ground.threads) (things_keys (sight k).things)
+      (among_thread_keys (temp_k x.thread.number i) x (sight k).ground.threads a
+      (among_right (temp_k x.thread.number i) (keys_up (slot_k x.thread.number) (length x.thread.slots)) (keys_up (temp_k x.thread.number) (length x.thread.temps)) (among_up (temp_k x.thread.number) i (length x.thread.temps) l)))
 
   abbrev or_unit : Option OwnedType → OwnedType
   or_unit None = unit
