@@ -7,6 +7,7 @@ use Rattle.fr_sound.specs.States.{Typing}
 use Rattle.fr_code.specs.CodeTable.{IsTable}
 use Rattle.fr_code.specs.Machine.{CodeState}
 use Rattle.fr_code.specs.TableStates.{CodeStateTypes}
+use Rattle.plain_types.proofs.Done.{names_stay}
 use Rattle.step_types.proofs.CodeSteps.{shown_steps_keep_types}
 use Rattle.journal.specs.View.{EntryView}
 use Rattle.server_model.specs.declared.event.Event.{Event}
@@ -17,7 +18,7 @@ use Rattle.heap_law.specs.Coherent.{Holds, names_counted, counts_from_one, over_
 use Rattle.heap_law.specs.OneHeap.{one_heap}
 use Rattle.type_law.specs.ClusterTypes.{IsCoherent}
 use Rattle.event_law.specs.Laws.{Gives, FewEvents, NumbersDiffer}
-use Rattle.event_law.proofs.Results.{map_gives, both_give}
+use Rattle.event_law.proofs.Results.{map_gives, both_give, weaker}
 use Rattle.event_law.proofs.Sending.{applied_part}
 use Rattle.local_law.proofs.Bare.{bare_kept}
 use Rattle.value_law.proofs.Sentences.{names_kept, counts_kept}
@@ -25,7 +26,7 @@ use Rattle.turn_law.specs.Turns.{StepsTo}
 use Rattle.assign_law.specs.Every.{IsStepOrStill}
 use Rattle.assign_law.proofs.Every.{each_is}
 use Rattle.typed_law.specs.Counted.{HasNumbers}
-use Rattle.state_law.specs.States.{HeapTyped, EventsKeepState}
+use Rattle.state_law.specs.States.{HeapTyped, HeapKept, EventsKeepState, EventsKeepNames}
 use Rattle.typed_law.proofs.Wholes.{heaps_are_whole}
 use Rattle.typed_law.proofs.Counts.{typed_heaps_count}
 
@@ -58,34 +59,45 @@ numbers_kept k e co few =
     (λ d a b. record { numbers_differ = a; names_counted = b.0.0; counts_from_one = b.0.1; over_are_bare = b.1 })
 
 module _ (k : Cluster) (co : IsCoherent k) where
-  abbrev Typed : Cluster → Type 0
-  Typed z = HeapTyped co.types.table z
+  abbrev Typed : Cluster × EntryView → Type 0
+  Typed d = HeapKept co.types.table k co.types.typing d
 
   table_there : (z : Cluster) → z.code ≡ k.code → IsTable z.code co.types.table
   table_there z e = subst (λ c. IsTable c co.types.table) (sym e) co.types.is_table
 
-  -- with what follows of counts
-  counted : (z : Cluster) → HasNumbers z → z.code ≡ k.code → (y : Typing) → CodeStateTypes co.types.table y (one_heap z) → Typed z
-  counted z numbers e y state = record { is_table = table_there z e; typing = y; state = state; counts = typed_heaps_count z numbers co.types.table y state }
-
-  by_step : (d : Cluster × EntryView) → HasNumbers d.0 → d.0.code ≡ k.code → (names : Fresh) (t : ℕ) → ((c : _) → SameState (plain_state c) (one_heap k) → StepsTo k.code c t names (one_heap d.0) d.1.labels) → Typed d.0
-  by_step d numbers code names t go =
+  by_step : (d : Cluster × EntryView) → HasNumbers d.0 → d.0.code ≡ k.code → (names : Fresh) → d.1.done ≡ Some names → (t : ℕ) → d.1.thread ≡ Some t → ((c : _) → SameState (plain_state c) (one_heap k) → StepsTo k.code c t names (one_heap d.0) d.1.labels) → Typed d
+  by_step d numbers code names done t is go =
       let shown = heaps_are_whole k co.sound in
       let to = go shown.whole shown.shows in
       let z = shown_steps_keep_types k.code co.types.table co.types.is_table co.types.typing (one_heap k) (one_heap d.0) co.types.state shown.whole shown.shows t names to.after to.steps to.same in
-      counted d.0 numbers code z.0 z.1
+      record {
+        heap = record { is_table = table_there d.0 code; typing = z.0; state = z.1; counts = typed_heaps_count d.0 numbers co.types.table z.0 z.1 };
+        names = z.2;
+        refs = λ m e. record { thread = t; is = is; whole = shown.whole; shows = shown.shows; refs = z.3 };
+        still = λ e. let f : None ≡ Some names = sym e ∙ done in cc;
+      }
 
-  still : (d : Cluster × EntryView) → HasNumbers d.0 → d.0.code ≡ k.code → SameState (one_heap d.0) (one_heap k) → Typed d.0
-  still d numbers code same = counted d.0 numbers code co.types.typing (subst (CodeStateTypes co.types.table co.types.typing) (sym (same_is (one_heap d.0) (one_heap k) same)) co.types.state)
+  still : (d : Cluster × EntryView) → HasNumbers d.0 → d.0.code ≡ k.code → d.1.done ≡ None → SameState (one_heap d.0) (one_heap k) → Typed d
+  still d numbers code none same =
+      let state = subst (CodeStateTypes co.types.table co.types.typing) (sym (same_is (one_heap d.0) (one_heap k) same)) co.types.state in
+      record {
+        heap = record { is_table = table_there d.0 code; typing = co.types.typing; state = state; counts = typed_heaps_count d.0 numbers co.types.table co.types.typing state };
+        names = names_stay refl;
+        refs = λ names e. let f : None ≡ Some names = sym none ∙ e in cc;
+        still = λ e. refl;
+      }
 
-  either : (d : Cluster × EntryView) → HasNumbers d.0 × (d.0.code ≡ k.code) → IsStepOrStill k d → Typed d.0
+  either : (d : Cluster × EntryView) → HasNumbers d.0 × (d.0.code ≡ k.code) → IsStepOrStill k d → Typed d
   either d n h = by d.1.done refl
     where
-      by : (o : Option Fresh) → d.1.done ≡ o → Typed d.0
-      by None e = still d n.0 n.1 (h.stays e)
-      by (Some names) e = let s = h.steps names e in by_step d n.0 n.1 names s.0 s.2
+      by : (o : Option Fresh) → d.1.done ≡ o → Typed d
+      by None e = still d n.0 n.1 e (h.stays e)
+      by (Some names) e = let s = h.steps names e in by_step d n.0 n.1 names e s.0 s.1 s.2
+
+pub events_keep_names : EventsKeepNames
+events_keep_names k e co few =
+    both_give (λ (d : Cluster × EntryView). HasNumbers d.0 × (d.0.code ≡ k.code)) (IsStepOrStill k) (HeapKept co.types.table k co.types.typing) (apply k e)
+    (also (λ (d : Cluster × EntryView). HasNumbers d.0) (λ (d : Cluster × EntryView). d.0.code ≡ k.code) (apply k e) (numbers_kept k e co few) (code_kept k e)) (each_is k e co few) (λ d n h. either k co d n h)
 
 pub events_keep : EventsKeepState
-events_keep k e co few =
-    both_give (λ (d : Cluster × EntryView). HasNumbers d.0 × (d.0.code ≡ k.code)) (IsStepOrStill k) (λ (d : Cluster × EntryView). HeapTyped co.types.table d.0) (apply k e)
-    (also (λ (d : Cluster × EntryView). HasNumbers d.0) (λ (d : Cluster × EntryView). d.0.code ≡ k.code) (apply k e) (numbers_kept k e co few) (code_kept k e)) (each_is k e co few) (λ d n h. either k co d n h)
+events_keep k e co few = weaker (HeapKept co.types.table k co.types.typing) (λ (d : Cluster × EntryView). HeapTyped co.types.table d.0) (apply k e) (events_keep_names k e co few) (λ d h. h.heap)

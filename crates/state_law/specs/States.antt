@@ -1,5 +1,13 @@
 -- THE TYPES OF THE ONE HEAP after each event (this project's rule).
+use Rattle.std.specs.Prelude.{◌≡◌, ℕ, Some, None}
+use Rattle.fr_base.specs.declared.step.Fresh.{Fresh}
+use Rattle.fr_store.specs.Typed.{KeyTypes}
+use Rattle.fr_plain.specs.PlainState.{SameState, plain_state}
 use Rattle.fr_sound.specs.States.{Typing}
+use Rattle.fr_code.specs.Steps.{code_moves}
+use Rattle.fr_code.specs.Machine.{CodeWhole}
+use Rattle.plain_types.specs.Keeps.{KeepsNames}
+use Rattle.step_types.specs.Machines.{ReferencesKept}
 use Rattle.fr_code.specs.CodeTypes.{Table}
 use Rattle.fr_code.specs.CodeTable.{IsTable}
 use Rattle.fr_code.specs.TableStates.{CodeStateTypes}
@@ -12,6 +20,14 @@ use Rattle.type_law.specs.ClusterTypes.{IsCoherent}
 use Rattle.event_law.specs.Laws.{Gives, FewEvents}
 use Rattle.typed_law.specs.Counted.{CountsFollow}
 
+-- the plain step of the entry's thread leaves mutable references the exact types that they had, as the act of its move takes them
+pub record LeavesReferences (before : Cluster) (entry : EntryView) (had has : KeyTypes) : Type 0 where
+  pub thread : ℕ
+  pub is : entry.thread ≡ Some thread
+  pub whole : CodeWhole
+  pub shows : SameState (plain_state whole) (one_heap before)
+  pub refs : ReferencesKept (code_moves before.code) whole thread had has
+
 -- the one heap is typed by the table, which is one of the cluster's code, and so is what the one heap tells of what is counted
 pub record HeapTyped (table : Table) (k : Cluster) : Type 0 where
   pub is_table : IsTable k.code table
@@ -19,6 +35,18 @@ pub record HeapTyped (table : Table) (k : Cluster) : Type 0 where
   pub state : CodeStateTypes table typing (one_heap k)
   pub counts : CountsFollow table typing k
 
+-- by that typing mutexes and threads whose names were given have the types that they had before, and mutable references their exact types where a plain step is done;
+-- where none is, all types are as they were
+pub record HeapKept (table : Table) (before : Cluster) (types : Typing) (d : Cluster × EntryView) : Type 0 where
+  pub heap : HeapTyped table d.0
+  pub names : KeepsNames (one_heap before) types.gives heap.typing.gives
+  pub refs : (names : Fresh) → d.1.done ≡ Some names → LeavesReferences before d.1 types.exact heap.typing.exact
+  pub still : d.1.done ≡ None → heap.typing ≡ types
+
 -- each event of a coherent cluster, in which few were done, leaves such a one, by the same table
 abbrev pub EventsKeepState : Type 0
 EventsKeepState = (k : Cluster) (e : Event) (co : IsCoherent k) → FewEvents k → Gives (λ (d : Cluster × EntryView). HeapTyped co.types.table d.0) (apply k e)
+
+-- by which names and mutable references keep their types
+abbrev pub EventsKeepNames : Type 0
+EventsKeepNames = (k : Cluster) (e : Event) (co : IsCoherent k) → FewEvents k → Gives (HeapKept co.types.table k co.types.typing) (apply k e)

@@ -3,4 +3,4 @@
 
 mod laws;
 
-pub use laws::events_keep_state;
+pub use laws::{events_keep_names, events_keep_state};
