@@ -53,7 +53,8 @@ use Rattle.word_law.proofs.Past.{are_no_firsts}
 use Rattle.word_law.proofs.Put.{Split, put_split}
 use Rattle.word_law.proofs.Standing.{CellOf, lying, flying, cell_among, pointer_at, told}
 use Rattle.move_law.specs.Relaid.{Relaid}
-use Rattle.prepare_law.specs.Requests.{WordsHold}
+use Rattle.prepare_law.specs.Requests.{WordsRise}
+use Rattle.prepare_law.proofs.Rising.{rise_itself}
 use Rattle.prepare_law.proofs.Hands.{put, places, stands as stands_here}
 use Rattle.rewrite_law.proofs.Passing.{Fits, same_values}
 use Rattle.arrive_law.specs.Awaited.{Awaits}
@@ -381,8 +382,7 @@ module _ (k : Cluster) (coherent : IsCoherent k) (few : FewEvents k) (s : Server
         let start : HasPlaces k = begun_places k coherent few s here t y at i old c message_there waiting grows in
         let end : HasPlaces (P h2) = places k coherent s here t y at h2 ok2 in
         let new_one = new k coherent few s here t y at i old c message_there waiting grows in
-        let held : WordsHold k = record { has_words = coherent.sound.words.have_words; first_at_holder = coherent.sound.words.first_at_holder; dirty_alone = coherent.sound.words.dirty_alone; past_words = coherent.sound.words.past_words } in
-        (taking_keeps k (P h2) l c.object tk start end taken_up sole_l fresh_l (are_no_firsts.unissued k c.object fresh_new coherent.sound.words.are_issued new_one) held, end)
+        (taking_keeps k (P h2) l c.object tk start end taken_up sole_l fresh_l (are_no_firsts.unissued k c.object fresh_new coherent.sound.words.are_issued new_one) new_one (rise_itself k coherent.sound), end)
 
     -- its place has a star, and no reference on the way is waited for
     last_arrives : (d : ℕ) → w.depth ≡ d → Gives K (arrived_lend w.slot d old fresh_new h1)

@@ -1,5 +1,5 @@
 -- An object lands at its server, and its pointer gets the word that leads there: in a slot of the thread that waits for it, or in a cell here.
-use Rattle.std.proofs.Common.{◌≡◌, inl, ℕ, ◌+◌, ◌<◌, ◌^◌, Bool, true, false, if◌then◌else◌, List, [], ◌∷◌, ◌++◌, Option, Some, None, option_map, refl, sym, ap, subst, ◌∙◌, arith}
+use Rattle.std.proofs.Common.{◌≡◌, inl, inr, ℕ, ◌+◌, ◌<◌, ◌^◌, Bool, true, false, if◌then◌else◌, List, [], ◌∷◌, ◌++◌, Option, Some, None, option_map, refl, sym, ap, subst, ◌∙◌, arith}
 use Rattle.std.specs.Prelude.{⊤, slice_get, slice_index_or}
 use Rattle.std.proofs.lemmas.Bool.{eqb-true}
 use Rattle.global_addr.specs.Words.{server_of, address_of}
@@ -61,7 +61,8 @@ use Rattle.stay_law.proofs.Alike.{itself}
 use Rattle.stay_law.proofs.Servers.{held_if}
 use Rattle.stay_law.proofs.Steps.{TakesNoneHere}
 use Rattle.stay_law.proofs.Threads.{slots_of, temps_of, thread_alike}
-use Rattle.prepare_law.specs.Requests.{WordsHold}
+use Rattle.prepare_law.specs.Requests.{WordsRise}
+use Rattle.prepare_law.proofs.Rising.{rise_changed}
 use Rattle.prepare_law.proofs.Asking.{found_number}
 use Rattle.prepare_law.proofs.Hands.{put, places}
 use Rattle.result_law.proofs.Pointing.{its_partition}
@@ -134,7 +135,7 @@ module _ (k : Cluster) (coherent : IsCoherent k) (few : FewEvents k) (s : Server
 
   -- nothing is known of it but that the words hold
   abbrev pub Kept : Hand → Type 0
-  Kept h = WordsHold (P h) × HasPlaces (P h)
+  Kept h = WordsRise k (P h) × HasPlaces (P h)
 
   -- WHAT IT WAITS FOR
 
@@ -213,15 +214,17 @@ module _ (k : Cluster) (coherent : IsCoherent k) (few : FewEvents k) (s : Server
     -- the pointer through which the object is written
     pub sole_gets : (h2 : Hand) (l : Location) → O h2 → IsSole k l c.object → (IsStale (sight k) (Some l) → ⊥) → Reworded k (P h2) l c.object (new_word p) → Onward k (P h2)
     sole_gets h2 l ok sole fresh r =
-        onward_so k k (P h2) l c.object (new_word p) begun_places begun_places (places k coherent s here t y at h2 ok) (onward_itself k coherent.sound) sole fresh
+        onward_so k k (P h2) l c.object (new_word p) begun_places begun_places (places k coherent s here t y at h2 ok) (onward_itself k coherent.sound) sole fresh (inr new)
         (no_first k k (new_word p) c.object coherent.sound.words.are_issued new begun_places (onward_itself k coherent.sound)) r
 
     -- or whatever pointer is the only one to it
-    pub only_gets : (h2 : Hand) (l : Location) → O h2 → IsOnly k l c.object → (IsStale (sight k) (Some l) → ⊥) → Reworded k (P h2) l c.object (new_word p) → WordsHold (P h2)
+    pub only_gets : (h2 : Hand) (l : Location) → O h2 → IsOnly k l c.object → (IsStale (sight k) (Some l) → ⊥) → Reworded k (P h2) l c.object (new_word p) → WordsRise k (P h2)
     only_gets h2 l ok only fresh r =
         let rewrites : Rewrites k (P h2) l c.object (new_word p) = record { before = begun_places; only = only; fresh = fresh; firsts = coherent.sound.words.first_at_holder; places = places k coherent s here t y at h2 ok; reworded = r } in
         let keeps : KeepsWords k (P h2) c.object (new_word p) coherent.sound.words.have_words = new_words_go_on k (P h2) l c.object (new_word p) rewrites coherent.sound.words.are_issued new coherent.sound.words.have_words in
-        record { has_words = keeps.words.after; first_at_holder = keeps.holders; dirty_alone = keeps.dirty coherent.sound.words.dirty_alone; past_words = keeps.past coherent.sound.words.past_words }
+        rise_changed k k (P h2) c.object (new_word p)
+        (record { has_words = coherent.sound.words.have_words; first_at_holder = coherent.sound.words.first_at_holder; dirty_alone = coherent.sound.words.dirty_alone; past_words = coherent.sound.words.past_words; began = coherent.sound.words.have_words; rises = λ o. inl refl })
+        keeps.words (inr new) keeps.holders (keeps.dirty coherent.sound.words.dirty_alone) (keeps.past coherent.sound.words.past_words)
 
     -- IT GOES ON
 
@@ -232,7 +235,7 @@ module _ (k : Cluster) (coherent : IsCoherent k) (few : FewEvents k) (s : Server
     pub untaken : TakesNoneHere k.code y
     untaken = subst (λ q. taking_by y.number q (slice_get k.code y.pc) ≡ None) (sym waiting) refl
 
-    pub got : (h : Hand) → O h → TakesNoneHere k.code h.thread → WordsHold (P h) → Kept (with_phase phase.Got h)
+    pub got : (h : Hand) → O h → TakesNoneHere k.code h.thread → WordsRise k (P h) → Kept (with_phase phase.Got h)
     got h ok untaken words =
         let h2 = with_phase phase.Got h in
         let ok2 : O h2 = phase_ok phase.Got h ok in (
@@ -280,7 +283,7 @@ gives_all Q (Some a) g = g tt
 pub delivered : (k : Cluster) (number i old t : ℕ) (s : Server) (c : Cell) (y : ThreadState) (coherent : IsCoherent k) (few : FewEvents k) (here : server_at k.servers number ≡ Some s) (message_there : slice_get s.rest.inbox i ≡ Some (message.Moved old c t)) (at : thread_in s.threads t ≡ Some y)
     → ((h : server_at k.servers s.rest.number ≡ Some s) → y.phase ≡ phase.WaitCell old → can_grow s.rest.partition ≡ true
     → Gives (Kept k coherent few s h t y at i old c message_there) (arrived (instr_access (before k coherent few s h t y at i old c message_there) (slice_get k.code y.pc)) old (new_word s.rest.partition) (landed k coherent few s h t y at i old c message_there)))
-    → Gives (λ (x : Cluster × EntryView). WordsHold x.0) (apply k (record { server = number; what = Deliver i }))
+    → Gives (λ (x : Cluster × EntryView). WordsRise k x.0) (apply k (record { server = number; what = Deliver i }))
 delivered k number i old t s c y coherent few here message_there at go =
-    subst (λ n. server_at k.servers n ≡ Some s → Gives (λ (x : Cluster × EntryView). WordsHold x.0) (apply k (record { server = n; what = Deliver i }))) (found_number number k.servers s here)
-    (λ h. gives_all (λ (x : Cluster × EntryView). WordsHold x.0) (apply k (record { server = s.rest.number; what = Deliver i })) (kept_at k s (Deliver i) (λ v. ⊤) coherent few h (λ on. server_so k coherent few s h t y at i old c message_there (go h)))) here
+    subst (λ n. server_at k.servers n ≡ Some s → Gives (λ (x : Cluster × EntryView). WordsRise k x.0) (apply k (record { server = n; what = Deliver i }))) (found_number number k.servers s here)
+    (λ h. gives_all (λ (x : Cluster × EntryView). WordsRise k x.0) (apply k (record { server = s.rest.number; what = Deliver i })) (kept_at k s (Deliver i) (λ v. ⊤) coherent few h (λ on. server_so k coherent few s h t y at i old c message_there (go h)))) here

@@ -12,7 +12,7 @@ use Rattle.heap_law.specs.Names.{Among, one, other, same_object}
 use Rattle.heap_law.specs.Things.{Location, at_slot, in_cell, Thing, holds, shares, borrows, lies, flies, sent, things_of}
 use Rattle.heap_law.specs.Follow.{Ground, value_in, value_behind, leads}
 use Rattle.heap_law.specs.Stale.{is_among, Reference, references, holder_of, one_star_less, is_held_at, with_place, lent_places, changed_above, stale_above, taken_above}
-use Rattle.heap_law.specs.Sight.{Pointer, pointers_of, pointers_in, taken_object, taken_pointers, sight}
+use Rattle.heap_law.specs.Sight.{Pointer, pointers_of, pointers_in, taken_object, taken_pointers, sight, issued}
 use Rattle.heap_law.specs.Placing.{is_first, other_first, standing_of, standing_in, standing_pointers}
 use Rattle.heap_law.specs.Coherent.{Holds, first_at_holder}
 use Rattle.heap_law.specs.Weights.{cells}
@@ -36,7 +36,7 @@ use Rattle.word_law.proofs.Loose.{unplaced, remains, unplaced_standing}
 use Rattle.word_law.proofs.Standing.{of_thing, standing_among, pointer_at, tells, told, told_standing, stands_in, borrow_stands}
 use Rattle.word_law.proofs.Takings.{lent_by, taken_by, lents_are, takens_are, lent_listed, lent_told, taken_listed, taken_told}
 use Rattle.word_law.proofs.Words.{above_leads, taken_nowhere}
-use Rattle.prepare_law.specs.Requests.{WordsHold}
+use Rattle.prepare_law.specs.Requests.{WordsRise}
 use Rattle.await_law.specs.TakenUp.{TakenUp, TakingKeeps}
 
 -- the words with one changed
@@ -93,7 +93,7 @@ its_object t l (value.MutSlot i) o p e q = absurd q
 its_object t l (value.Shared r) o p e q = absurd q
 its_object t l (value.Held m) o p e q = absurd q
 
-module _ (k z : Cluster) (h : Location) (o : ObjNo) (t : Taking) (c : HasPlaces k) (d : HasPlaces z) (u : TakenUp k z h o t) (sole : IsSole k h o) (fresh : IsStale (sight k) (Some h) → ⊥) (past : IsNoFirst k o t.word) (before : WordsHold k) where
+module _ (k z : Cluster) (h : Location) (o : ObjNo) (t : Taking) (c : HasPlaces k) (d : HasPlaces z) (u : TakenUp k z h o t) (sole : IsSole k h o) (fresh : IsStale (sight k) (Some h) → ⊥) (past : IsNoFirst k o t.word) (unissued : issued (sight k) t.word ≡ false) (before : WordsRise k k) where
   abbrev gk : Ground
   gk = (sight k).ground
 
@@ -406,8 +406,16 @@ module _ (k z : Cluster) (h : Location) (o : ObjNo) (t : Taking) (c : HasPlaces 
       ⊎_elim (λ (e : new ≡ p). past q (back q i) (sym (new_object p e ∙ is)) n (ap (λ (x : Pointer). x.word) e ∙ same))
       (λ (x : Among p (all_pointers (sight k))). before.past_words q (back q i) n p x (λ s. f (on_at p.at s)) is same) (every_back p m)
 
-  pub taken_holds : WordsHold z
-  taken_holds = record { has_words = words_after; first_at_holder = holders_stay; dirty_alone = dirty_stays; past_words = past_stays }
+  pub taken_holds : WordsRise k z
+  unfolding words_after
+  taken_holds = record { has_words = words_after; first_at_holder = holders_stay; dirty_alone = dirty_stays; past_words = past_stays; began = before.began; rises = rises }
+    where
+      rises : (p : ObjNo) → (word p ≡ before.began.word p) ⊎ (issued (sight k) (word p) ≡ false)
+      rises p = by (same_object p o)
+        where
+          by : (b : Bool) → ((if b then t.word else before.has_words.word p) ≡ before.began.word p) ⊎ (issued (sight k) (if b then t.word else before.has_words.word p) ≡ false)
+          by true = inr unissued
+          by false = before.rises p
 
 pub taking_keeps : TakingKeeps
-taking_keeps k z h o t c d u sole fresh past before = taken_holds k z h o t c d u sole fresh past before
+taking_keeps k z h o t c d u sole fresh past unissued before = taken_holds k z h o t c d u sole fresh past unissued before

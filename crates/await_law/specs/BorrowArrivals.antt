@@ -12,9 +12,9 @@ use Rattle.server_model.specs.Work.{thread_in}
 use Rattle.server_model.specs.Clusters.{apply}
 use Rattle.type_law.specs.ClusterTypes.{IsCoherent}
 use Rattle.event_law.specs.Laws.{Gives, FewEvents}
-use Rattle.prepare_law.specs.Requests.{WordsHold}
+use Rattle.prepare_law.specs.Requests.{WordsRise}
 
 -- the message brings an object to a thread that borrows its place mutably: the one that is borrowed, or that of a reference on the way
 abbrev pub BorrowArrivalsKeep : Type 0
 BorrowArrivalsKeep = (k : Cluster) (number i old t : ℕ) (s : Server) (c : Cell) (y : ThreadState) (w : Lval) → IsCoherent k → FewEvents k → server_at k.servers number ≡ Some s → slice_get s.rest.inbox i ≡ Some (Moved old c t)
-    → thread_in s.threads t ≡ Some y → slice_get k.code y.pc ≡ Some (instr.BorrowMut w) → Gives (λ (x : Cluster × EntryView). WordsHold x.0) (apply k (record { server = number; what = Deliver i }))
+    → thread_in s.threads t ≡ Some y → slice_get k.code y.pc ≡ Some (instr.BorrowMut w) → Gives (λ (x : Cluster × EntryView). WordsRise k x.0) (apply k (record { server = number; what = Deliver i }))

@@ -14,9 +14,9 @@ use Rattle.server_model.specs.Clusters.{apply}
 use Rattle.type_law.specs.ClusterTypes.{IsCoherent}
 use Rattle.event_law.specs.Laws.{Gives, FewEvents}
 use Rattle.read_law.specs.Reading.{Reads}
-use Rattle.prepare_law.specs.Requests.{WordsHold}
+use Rattle.prepare_law.specs.Requests.{WordsRise}
 
 -- the message brings an object to a thread that copies its place, dups, locks or borrows from it, but doesn't lend it mutably
 abbrev pub ReadArrivalsKeep : Type 0
 ReadArrivalsKeep = (k : Cluster) (number i old t : ℕ) (s : Server) (c : Cell) (y : ThreadState) (j : Instr) (w : Lval) (m : ℕ) → IsCoherent k → FewEvents k → server_at k.servers number ≡ Some s → slice_get s.rest.inbox i ≡ Some (Moved old c t)
-    → thread_in s.threads t ≡ Some y → slice_get k.code y.pc ≡ Some j → Reads j w m → ((v : Lval) → j ≡ instr.BorrowMut v → ⊥) → Gives (λ (x : Cluster × EntryView). WordsHold x.0) (apply k (record { server = number; what = Deliver i }))
+    → thread_in s.threads t ≡ Some y → slice_get k.code y.pc ≡ Some j → Reads j w m → ((v : Lval) → j ≡ instr.BorrowMut v → ⊥) → Gives (λ (x : Cluster × EntryView). WordsRise k x.0) (apply k (record { server = number; what = Deliver i }))

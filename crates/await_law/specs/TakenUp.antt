@@ -1,5 +1,5 @@
 -- A THREAD TAKES AN OBJECT from a pointer for its mutable borrow (this project's rule): nothing that stands anywhere changes, and the word stands in the thread's phase.
-use Rattle.std.specs.Prelude.{◌≡◌, ◌⊎◌, ℕ, true, Some}
+use Rattle.std.specs.Prelude.{◌≡◌, ◌⊎◌, ℕ, true, false, Some}
 use Rattle.fr_base.specs.declared.name.ObjNo.{ObjNo}
 use Rattle.heap_partition.specs.declared.value.Cell.{Cell}
 use Rattle.server_model.specs.Servers.{Cluster}
@@ -7,14 +7,14 @@ use Rattle.heap_law.specs.Names.{Among}
 use Rattle.heap_law.specs.Things.{Location, Thing, in_cell, lies, things_of}
 use Rattle.heap_law.specs.Follow.{value_in, place_at}
 use Rattle.heap_law.specs.Stale.{one_star_less}
-use Rattle.heap_law.specs.Sight.{sight}
+use Rattle.heap_law.specs.Sight.{sight, issued}
 use Rattle.heap_law.specs.Weights.{cells}
 use Rattle.heap_law.specs.Words.{IsStale, LeadsTo}
 use Rattle.word_law.specs.Reworded.{HasPlaces, LiesThere, is_loose}
 use Rattle.word_law.specs.Soles.{IsSole}
 use Rattle.word_law.specs.Unmoved.{Taking, takings}
 use Rattle.word_law.specs.WordsAfter.{IsNoFirst}
-use Rattle.prepare_law.specs.Requests.{WordsHold}
+use Rattle.prepare_law.specs.Requests.{WordsRise}
 
 pub record TakenUp (k z : Cluster) (h : Location) (o : ObjNo) (t : Taking) : Type 0 where
   pub code : z.code ≡ k.code
@@ -36,6 +36,6 @@ pub record TakenUp (k z : Cluster) (h : Location) (o : ObjNo) (t : Taking) : Typ
   pub lay : (r a : ℕ) (c : Cell) → Among (lies r a c) (things_of z) → (c.object ≡ o → ⊥) → LiesThere k r a c.object
 
 -- from a pointer through which the object is written, and that isn't stale: then the words hold, and that of the object is the one that was taken, where it is no
--- first word that was left
+-- first word that was left, and wasn't issued
 abbrev pub TakingKeeps : Type 0
-TakingKeeps = (k z : Cluster) (h : Location) (o : ObjNo) (t : Taking) → HasPlaces k → HasPlaces z → TakenUp k z h o t → IsSole k h o → (IsStale (sight k) (Some h) → ⊥) → IsNoFirst k o t.word → WordsHold k → WordsHold z
+TakingKeeps = (k z : Cluster) (h : Location) (o : ObjNo) (t : Taking) → HasPlaces k → HasPlaces z → TakenUp k z h o t → IsSole k h o → (IsStale (sight k) (Some h) → ⊥) → IsNoFirst k o t.word → issued (sight k) t.word ≡ false → WordsRise k k → WordsRise k z

@@ -12,10 +12,10 @@ use Rattle.server_model.specs.Work.{thread_in}
 use Rattle.server_model.specs.Clusters.{apply}
 use Rattle.type_law.specs.ClusterTypes.{IsCoherent}
 use Rattle.event_law.specs.Laws.{Gives, FewEvents}
-use Rattle.prepare_law.specs.Requests.{WordsHold}
+use Rattle.prepare_law.specs.Requests.{WordsRise}
 use Rattle.rewrite_law.specs.Writing.{WritesThrough}
 
 -- the message brings an object to a thread that assigns or moves out through stars, however many of them it has passed
 abbrev pub WriteArrivalsKeep : Type 0
 WriteArrivalsKeep = (k : Cluster) (number i old t : ℕ) (s : Server) (c : Cell) (y : ThreadState) (j : Instr) (w : Lval) (d : ℕ) → IsCoherent k → FewEvents k → server_at k.servers number ≡ Some s → slice_get s.rest.inbox i ≡ Some (Moved old c t)
-    → thread_in s.threads t ≡ Some y → slice_get k.code y.pc ≡ Some j → WritesThrough j w d → Gives (λ (x : Cluster × EntryView). WordsHold x.0) (apply k (record { server = number; what = Deliver i }))
+    → thread_in s.threads t ≡ Some y → slice_get k.code y.pc ≡ Some j → WritesThrough j w d → Gives (λ (x : Cluster × EntryView). WordsRise k x.0) (apply k (record { server = number; what = Deliver i }))

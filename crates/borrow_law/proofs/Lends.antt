@@ -54,7 +54,8 @@ use Rattle.stay_law.proofs.StayKinds.{borrows_leave}
 use Rattle.stay_law.specs.Laws.{mutable}
 use Rattle.turn_law.proofs.ReadWalk.{value_loaded}
 use Rattle.turn_law.proofs.StarLines.{shows}
-use Rattle.prepare_law.specs.Requests.{WordsHold}
+use Rattle.prepare_law.specs.Requests.{WordsRise}
+use Rattle.prepare_law.proofs.Rising.{rise_itself}
 use Rattle.prepare_law.proofs.Hands.{Ok, State, Walks, put, places}
 use Rattle.prepare_law.proofs.Stars.{Spotted, asks_object, walks_loaded}
 use Rattle.prepare_law.proofs.Asking.{found_number}
@@ -271,11 +272,11 @@ module _ (k : Cluster) (coherent : IsCoherent k) (s : Server) (here : server_at 
     pushed v u src made = pushed_from v u (lendable h.thread.phase holder v u made) src made
 
     -- so words hold with its thread put back
-    left : Gives (λ (d : Stepped). WordsHold (Put d.hand) × HasPlaces (Put d.hand)) (committed (commit 0 i sp h))
+    left : Gives (λ (d : Stepped). WordsRise k (Put d.hand) × HasPlaces (Put d.hand)) (committed (commit 0 i sp h))
     left = making.left k coherent s here t y at w m deep h sp ok (λ u. Source h u ⊎ IsNone u) q.source pushed
 
   abbrev Left : Stepped → Type 0
-  Left d = WordsHold (Put d.hand) × HasPlaces (Put d.hand)
+  Left d = WordsRise k (Put d.hand) × HasPlaces (Put d.hand)
 
   -- the step of what is ready or asked for
   prepared_lend : (servers : ℕ) (p : Prepared) → Fine p → Shown h0 p → Gives Left (prepared servers i p)
@@ -298,19 +299,19 @@ module _ (k : Cluster) (coherent : IsCoherent k) (s : Server) (here : server_at 
       (over_gives Left (Kept k s) (step k.options.servers i h0) (stepped s) (stepped_lend k.options.servers) (λ d q. q)))
 
 -- of a cluster with the event's entry
-abbrev Holds : Cluster × EntryView → Type 0
-Holds d = WordsHold d.0
+abbrev Holds : Cluster → Cluster × EntryView → Type 0
+Holds k d = WordsRise k d.0
 
 -- in its cluster
 pub untaken_borrows_keep : (k : Cluster) (number t : ℕ) (s : Server) (y : ThreadState) (w : Lval) → IsCoherent k → FewEvents k → server_at k.servers number ≡ Some s → thread_in s.threads t ≡ Some y → slice_get k.code y.pc ≡ Some (instr.BorrowMut w) → ((v : ℕ) → y.phase ≡ phase.Taken v → ⊥)
-    → Gives Holds (apply k (record { server = number; what = Step t }))
+    → Gives (Holds k) (apply k (record { server = number; what = Step t }))
 untaken_borrows_keep k number t s y w coherent few here at code free = by w.depth refl
   where
-    held : WordsHold k
-    held = record { has_words = coherent.sound.words.have_words; first_at_holder = coherent.sound.words.first_at_holder; dirty_alone = coherent.sound.words.dirty_alone; past_words = coherent.sound.words.past_words }
+    held : WordsRise k k
+    held = rise_itself k coherent.sound
 
-    by : (d : ℕ) → w.depth ≡ d → Gives Holds (apply k (record { server = number; what = Step t }))
-    by zero deep = weaker (λ (d : Cluster × EntryView). LeavesWords k d.0) Holds (apply k (record { server = number; what = Step t })) (borrows_leave k number t s y (instr.BorrowMut w) coherent.sound few here at code (mutable deep) free) (λ d q. holds_on q held)
+    by : (d : ℕ) → w.depth ≡ d → Gives (Holds k) (apply k (record { server = number; what = Step t }))
+    by zero deep = weaker (λ (d : Cluster × EntryView). LeavesWords k d.0) (Holds k) (apply k (record { server = number; what = Step t })) (borrows_leave k number t s y (instr.BorrowMut w) coherent.sound few here at code (mutable deep) free) (λ d q. holds_on q held)
     by (suc m) deep =
-        subst (λ c. server_at k.servers c ≡ Some s → Gives Holds (apply k (record { server = c; what = Step t }))) (found_number number k.servers s here)
+        subst (λ c. server_at k.servers c ≡ Some s → Gives (Holds k) (apply k (record { server = c; what = Step t }))) (found_number number k.servers s here)
         (λ h. kept_where k s t coherent few h (λ on. server_lends k coherent s h t y at on w m deep code free)) here

@@ -32,7 +32,7 @@ use Rattle.stay_law.proofs.Alike.{turned}
 use Rattle.stay_law.proofs.Seen.{seen_alike}
 use Rattle.stay_law.proofs.Sites.{HandAlike}
 use Rattle.stay_law.specs.Laws.{mutable}
-use Rattle.prepare_law.specs.Requests.{WordsHold}
+use Rattle.prepare_law.specs.Requests.{WordsRise}
 use Rattle.prepare_law.proofs.Hands.{Ok, put, places}
 use Rattle.carry_law.proofs.Locks.{holds_on}
 use Rattle.borrow_law.proofs.Pushed.{hands_alike}
@@ -93,7 +93,7 @@ module _ (k : Cluster) (coherent : IsCoherent k) (s : Server) (here : server_at 
   pub record Ended (h2 : Hand) : Type 0 where
     pub middle : Hand
     pub ok : IsOk middle
-    pub words : WordsHold (Put middle)
+    pub words : WordsRise k (Put middle)
     pub alike : HandAlike k.code n [] middle h2
 
   abbrev pub Ends : Stepped → Type 0
@@ -123,9 +123,9 @@ module _ (k : Cluster) (coherent : IsCoherent k) (s : Server) (here : server_at 
         subst (λ d. CommittedOk IsOk (goes_on (borrow_mut_from w d sp h)) → Gives Ends (committed (goes_on (borrow_mut_from w d sp h)))) (sym deep) (by_value (value_at h sp) refl) all_ok
 
     -- with its thread put back
-    pub left : Gives (λ (d : Stepped). WordsHold (Put d.hand) × HasPlaces (Put d.hand)) (committed (commit 0 i sp h))
+    pub left : Gives (λ (d : Stepped). WordsRise k (Put d.hand) × HasPlaces (Put d.hand)) (committed (commit 0 i sp h))
     left =
-        both_give (SteppedOk sums_kept n s.events t b) Ends (λ (d : Stepped). WordsHold (Put d.hand) × HasPlaces (Put d.hand)) (committed (goes_on (borrow_mut w sp h)))
+        both_give (SteppedOk sums_kept n s.events t b) Ends (λ (d : Stepped). WordsRise k (Put d.hand) × HasPlaces (Put d.hand)) (committed (goes_on (borrow_mut w sp h)))
         (committed_keeps sums_kept n s.events t b (goes_on (borrow_mut w sp h)) all_ok) ended
         (λ d after x. (
           holds_on

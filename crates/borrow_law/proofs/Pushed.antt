@@ -28,7 +28,7 @@ use Rattle.stay_law.proofs.Lists.{thread_set, taken_alike}
 use Rattle.stay_law.proofs.Threads.{slots_of, temps_of, stands_alike, value_alike}
 use Rattle.stay_law.proofs.Sites.{HandAlike, ends_alike, replaced}
 use Rattle.stay_law.proofs.Steps.{last_points}
-use Rattle.prepare_law.specs.Requests.{WordsHold}
+use Rattle.prepare_law.specs.Requests.{WordsRise}
 use Rattle.prepare_law.proofs.Copying.{end_things}
 use Rattle.prepare_law.proofs.Hands.{Ok, put}
 use Rattle.borrow_law.proofs.OneShare.{shared_pointer, clean_shared, clean_placed}
@@ -44,7 +44,7 @@ pub data May (z : Cluster) : Value → Type 0 where
 no_own : (v : Value) → shared_from v ≡ None → (u : Value) → shared_from v ≡ Some u → ⊥
 no_own v f u e = let q : None ≡ Some u = sym f ∙ e in absurd cc
 
-module _ (z : Cluster) (c : HasPlaces z) (words : WordsHold z) (l : Location) (fresh : IsStale (sight z) (Some l) → ⊥) where
+module _ {k : Cluster} (z : Cluster) (c : HasPlaces z) (words : WordsRise k z) (l : Location) (fresh : IsStale (sight z) (Some l) → ⊥) where
   -- what stands is a pointer
   counts : (p : Pointer) → Among p (standing_in (things_of z)) → Among p (all_pointers (sight z))
   counts p h = among_first p (pointers_in (things_of z)) (taken_pointers (sight z).code (sight z).ground (sight z).ground.threads) (stands_in p (things_of z) h)

@@ -1,5 +1,5 @@
 -- A dirty reference in a slot gets a new word at a new address: the words hold, and it isn't stale.
-use Rattle.std.proofs.Common.{◌≡◌, ◌≢◌, ℕ, zero, suc, ◌+◌, ◌<◌, ◌≤◌, ◌==◌, ◌&&◌, nat_lt, Bool, true, false, if◌then◌else◌, List, [], ◌∷◌, ◌++◌, Option, Some, None, is_some, refl, sym, ap, ap₂, subst, ◌∙◌, arith}
+use Rattle.std.proofs.Common.{◌≡◌, ◌≢◌, inr, ℕ, zero, suc, ◌+◌, ◌<◌, ◌≤◌, ◌==◌, ◌&&◌, nat_lt, Bool, true, false, if◌then◌else◌, List, [], ◌∷◌, ◌++◌, Option, Some, None, is_some, refl, sym, ap, ap₂, subst, ◌∙◌, arith}
 use Rattle.std.specs.Prelude.{slice_get, slice_set, slice_index_or, length}
 use Rattle.std.proofs.lemmas.Bool.{eq-eqb}
 use Rattle.std.proofs.lemmas.Bool.Decides.{nat_tests}
@@ -51,7 +51,8 @@ use Rattle.word_law.proofs.Slots.{set_same}
 use Rattle.word_law.proofs.Grounds.{of_borrows}
 use Rattle.move_law.specs.Relaid.{NextIsVacant, Renewal}
 use Rattle.move_law.proofs.Relaid.{at_lies, put_here, renewals_reword}
-use Rattle.prepare_law.specs.Requests.{WordsHold}
+use Rattle.prepare_law.specs.Requests.{WordsRise}
+use Rattle.prepare_law.proofs.Rising.{rise_changed}
 use Rattle.prepare_law.proofs.Along.{no_first, dirty_changed}
 use Rattle.prepare_law.proofs.Hands.{Ok, put, places, stands, Walks}
 use Rattle.made_law.proofs.Listed.{of_server, of_placed, of_partition}
@@ -119,7 +120,7 @@ module _ (k : Cluster) (coherent : IsCoherent k) (few : FewEvents k) (s : Server
 
   -- the reference has the word, and the words hold
   pub record Renewed (h h2 : Hand) (l : Location) (r : MutRef) (w : ℕ) : Type 0 where
-    pub words : WordsHold (Put h2)
+    pub words : WordsRise k (Put h2)
     pub fresh : IsStale (sight (Put h2)) (Some l) → ⊥
     pub now : value_in (sight (Put h2)).ground l ≡ Some (value.Mut (took r w))
     pub reworded : Reworded (Put h) (Put h2) l r.object w
@@ -325,12 +326,10 @@ module _ (k : Cluster) (coherent : IsCoherent k) (few : FewEvents k) (s : Server
     -- so the words hold
     pub renewed_at : Renewed h h2 l r nw.word
     renewed_at = record {
-      words = record {
-        has_words = (words_go_on (Put h) (Put h2) l r.object nw.word rewrites walks.state.along.words.has_words).after;
-        first_at_holder = holders_go_on (Put h) (Put h2) l r.object nw.word rewrites;
-        dirty_alone = dirty_goes_on (Put h) (Put h2) l r.object nw.word rewrites walks.state.along.words.dirty_alone;
-        past_words = past_goes_on (Put h) (Put h2) l r.object nw.word rewrites (no_first k (Put h) nw.word r.object issued_all new place_h walks.state.along) walks.state.along.words.past_words;
-      };
+      words =
+          rise_changed k (Put h) (Put h2) r.object nw.word walks.state.along.words (words_go_on (Put h) (Put h2) l r.object nw.word rewrites walks.state.along.words.has_words) (inr new) (holders_go_on (Put h) (Put h2) l r.object nw.word rewrites)
+          (dirty_goes_on (Put h) (Put h2) l r.object nw.word rewrites walks.state.along.words.dirty_alone)
+          (past_goes_on (Put h) (Put h2) l r.object nw.word rewrites (no_first k (Put h) nw.word r.object issued_all new place_h walks.state.along) walks.state.along.words.past_words);
       fresh = λ x. fresh (walks.state.along.fresher l (changed_rewords (Put h) (Put h2) l r.object nw.word rewrites r there (dirty_changed r dirty) l x));
       now = now;
       reworded = reworded;

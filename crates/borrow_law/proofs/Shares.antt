@@ -54,7 +54,8 @@ use Rattle.stay_law.proofs.Sites.{HandAlike}
 use Rattle.stay_law.proofs.Steps.{TakesNoneHere, shared_slot_unseen, hand_itself, pushes, goes_over}
 use Rattle.stay_law.proofs.StayKinds.{borrows_leave}
 use Rattle.stay_law.specs.Laws.{shared}
-use Rattle.prepare_law.specs.Requests.{WordsHold}
+use Rattle.prepare_law.specs.Requests.{WordsRise}
+use Rattle.prepare_law.proofs.Rising.{rise_itself}
 use Rattle.prepare_law.proofs.Untaken.{not_taken}
 use Rattle.prepare_law.proofs.Hands.{Ok, State, Walks, put, places, cleans_at}
 use Rattle.prepare_law.proofs.Stars.{Spotted, a_slot, a_cell, a_copy, asks_object, walks_loaded}
@@ -133,7 +134,7 @@ module _ (k : Cluster) (coherent : IsCoherent k) (few : FewEvents k) (s : Server
   -- a hand in which a shared reference may be made from what stands at the spot
   record Lends (h : Hand) (sp : Spot) : Type 0 where
     ok : IsOk h
-    words : WordsHold (Put h)
+    words : WordsRise k (Put h)
     untaken : TakesNoneHere k.code h.thread
     may : (v u : Value) → value_at h sp ≡ Some v → shared_from v ≡ Some u → May (Put h) u
 
@@ -342,10 +343,10 @@ module _ (k : Cluster) (coherent : IsCoherent k) (few : FewEvents k) (s : Server
       by (Some v) e = made v e (shared_from v) refl
 
   abbrev Left : Stepped → Type 0
-  Left d = WordsHold (Put d.hand) × HasPlaces (Put d.hand)
+  Left d = WordsRise k (Put d.hand) × HasPlaces (Put d.hand)
 
   -- so the words hold
-  words_on : (h h2 : Hand) → IsOk h → IsOk h2 → Over h h2 → WordsHold (Put h) → WordsHold (Put h2)
+  words_on : (h h2 : Hand) → IsOk h → IsOk h2 → Over h h2 → WordsRise k (Put h) → WordsRise k (Put h2)
   words_on h h2 q q2 (unseen a) words =
       holds_on (untouched_stays (Put h) (Put h2) (placed h q) (placed h2 q2) (seen_alike (Put h) (Put h2) (placed h q) (placed h2 q2) refl (turned (hands_alike k coherent s here t y at [] h h2 q q2 a)))) words
   words_on h h2 q q2 (one_more l r beside clean a) words =
@@ -377,8 +378,8 @@ module _ (k : Cluster) (coherent : IsCoherent k) (few : FewEvents k) (s : Server
       (over_gives Left (Kept k s) (step k.options.servers i h0) (stepped s) (stepped_share k.options.servers) (λ d q. q)))
 
 -- of a cluster with the event's entry
-abbrev Holds : Cluster × EntryView → Type 0
-Holds d = WordsHold d.0
+abbrev Holds : Cluster → Cluster × EntryView → Type 0
+Holds k d = WordsRise k d.0
 
 -- in its cluster
 pub shared_borrows_keep : SharedBorrowsKeep
@@ -387,11 +388,11 @@ shared_borrows_keep k number t s y w coherent few here at code = by w.depth refl
     free : (v : ℕ) → y.phase ≡ phase.Taken v → ⊥
     free = not_taken k coherent.sound number s here t y at (instr.Borrow w) code refl
 
-    held : WordsHold k
-    held = record { has_words = coherent.sound.words.have_words; first_at_holder = coherent.sound.words.first_at_holder; dirty_alone = coherent.sound.words.dirty_alone; past_words = coherent.sound.words.past_words }
+    held : WordsRise k k
+    held = rise_itself k coherent.sound
 
-    by : (d : ℕ) → w.depth ≡ d → Gives Holds (apply k (record { server = number; what = Step t }))
-    by zero deep = weaker (λ (d : Cluster × EntryView). LeavesWords k d.0) Holds (apply k (record { server = number; what = Step t })) (borrows_leave k number t s y (instr.Borrow w) coherent.sound few here at code (shared deep) free) (λ d q. holds_on q held)
+    by : (d : ℕ) → w.depth ≡ d → Gives (Holds k) (apply k (record { server = number; what = Step t }))
+    by zero deep = weaker (λ (d : Cluster × EntryView). LeavesWords k d.0) (Holds k) (apply k (record { server = number; what = Step t })) (borrows_leave k number t s y (instr.Borrow w) coherent.sound few here at code (shared deep) free) (λ d q. holds_on q held)
     by (suc m) deep =
-        subst (λ c. server_at k.servers c ≡ Some s → Gives Holds (apply k (record { server = c; what = Step t }))) (found_number number k.servers s here)
+        subst (λ c. server_at k.servers c ≡ Some s → Gives (Holds k) (apply k (record { server = c; what = Step t }))) (found_number number k.servers s here)
         (λ h. kept_where k s t coherent few h (λ on. server_shares k coherent few s h t y at on w m deep code free)) here

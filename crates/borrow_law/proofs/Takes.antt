@@ -54,7 +54,7 @@ use Rattle.stay_law.proofs.Sites.{HandAlike}
 use Rattle.stay_law.proofs.Steps.{settles}
 use Rattle.turn_law.proofs.ReadWalk.{value_loaded}
 use Rattle.turn_law.proofs.StarLines.{shows}
-use Rattle.prepare_law.specs.Requests.{WordsHold}
+use Rattle.prepare_law.specs.Requests.{WordsRise}
 use Rattle.prepare_law.proofs.Hands.{Ok, Walks, put, places}
 use Rattle.prepare_law.proofs.Stars.{Spotted, walks_loaded}
 use Rattle.prepare_law.proofs.Asking.{found_number}
@@ -322,11 +322,11 @@ module _ (k : Cluster) (coherent : IsCoherent k) (few : FewEvents k) (s : Server
     pushed u z src made = pushed_from u z (lendable h.thread.phase holder u z made) src made
 
     -- so words hold with its thread put back
-    left : Gives (λ (d : Stepped). WordsHold (Put d.hand) × HasPlaces (Put d.hand)) (committed (commit 0 i sp h))
+    left : Gives (λ (d : Stepped). WordsRise k (Put d.hand) × HasPlaces (Put d.hand)) (committed (commit 0 i sp h))
     left = making.left k coherent s here t y at w m deep h sp ok (λ u. Source h u ⊎ IsNone u) q.source pushed
 
   abbrev Left : Stepped → Type 0
-  Left d = WordsHold (Put d.hand) × HasPlaces (Put d.hand)
+  Left d = WordsRise k (Put d.hand) × HasPlaces (Put d.hand)
 
   -- the step of what is ready
   prepared_lend : (servers : ℕ) (p : Prepared) → Fine p → Shown h0 p → Gives Left (prepared servers i p)
@@ -351,12 +351,12 @@ module _ (k : Cluster) (coherent : IsCoherent k) (few : FewEvents k) (s : Server
       (over_gives Left (Kept k s) (step k.options.servers i h0) (stepped s) (stepped_lend k.options.servers) (λ d q. q)))
 
 -- of a cluster with the event's entry
-abbrev Holds : Cluster × EntryView → Type 0
-Holds d = WordsHold d.0
+abbrev Holds : Cluster → Cluster × EntryView → Type 0
+Holds k d = WordsRise k d.0
 
 -- in its cluster
 taken_borrows_keep : (k : Cluster) (number t : ℕ) (s : Server) (y : ThreadState) (w : Lval) (v : ℕ) → IsCoherent k → FewEvents k → server_at k.servers number ≡ Some s → thread_in s.threads t ≡ Some y → slice_get k.code y.pc ≡ Some (instr.BorrowMut w) → y.phase ≡ phase.Taken v
-    → Gives Holds (apply k (record { server = number; what = Step t }))
+    → Gives (Holds k) (apply k (record { server = number; what = Step t }))
 taken_borrows_keep k number t s y w v coherent few here at code has = by w.depth refl
   where
     -- a variable isn't taken
@@ -368,17 +368,17 @@ taken_borrows_keep k number t s y w v coherent few here at code has = by w.depth
         let its : taken_there (sight k) x v (Some w) ≡ 0 = subst (λ j. taken_there (sight k) x v (lent_place j) ≡ 0) code there in
         lies_in_cell k s.rest.number v (place_at (sight k).ground y.number w) y.number w.slot (counted_all (lies_here (sight k) s.rest.number v (place_at (sight k).ground y.number w)) its) (ap (locate (sight k).ground y.number w.slot) flat)
 
-    by : (d : ℕ) → w.depth ≡ d → Gives Holds (apply k (record { server = number; what = Step t }))
+    by : (d : ℕ) → w.depth ≡ d → Gives (Holds k) (apply k (record { server = number; what = Step t }))
     by zero deep = absurd (no_variable deep)
     by (suc m) deep =
-        subst (λ c. server_at k.servers c ≡ Some s → Gives Holds (apply k (record { server = c; what = Step t }))) (found_number number k.servers s here)
+        subst (λ c. server_at k.servers c ≡ Some s → Gives (Holds k) (apply k (record { server = c; what = Step t }))) (found_number number k.servers s here)
         (λ h. kept_where k s t coherent few h (λ on. server_takes k coherent few s h t y at on w m deep code v has)) here
 
 -- in each phase
 pub mutable_borrows_keep : MutableBorrowsKeep
 mutable_borrows_keep k number t s y w coherent few here at code = by y.phase refl
   where
-    by : (p : Phase) → y.phase ≡ p → Gives Holds (apply k (record { server = number; what = Step t }))
+    by : (p : Phase) → y.phase ≡ p → Gives (Holds k) (apply k (record { server = number; what = Step t }))
     by (phase.Taken v) e = taken_borrows_keep k number t s y w v coherent few here at code e
     by phase.Ready e = untaken_borrows_keep k number t s y w coherent few here at code (λ v f. let no : phase.Ready ≡ phase.Taken v = sym e ∙ f in absurd cc)
     by phase.Got e = untaken_borrows_keep k number t s y w coherent few here at code (λ v f. let no : phase.Got ≡ phase.Taken v = sym e ∙ f in absurd cc)

@@ -48,7 +48,8 @@ use Rattle.stay_law.proofs.Alike.{Alike, itself}
 use Rattle.stay_law.proofs.Sites.{handed_over}
 use Rattle.stay_law.proofs.Seen.{seen_alike}
 use Rattle.stay_law.proofs.Steps.{TakesNoneHere, untaken_here}
-use Rattle.prepare_law.specs.Requests.{WordsHold}
+use Rattle.prepare_law.specs.Requests.{WordsRise}
+use Rattle.prepare_law.proofs.Rising.{rise_left}
 use Rattle.prepare_law.proofs.Along.{Along}
 use Rattle.prepare_law.proofs.Untaken.{not_taken}
 use Rattle.prepare_law.proofs.Hands.{Ok, State, Walks, places, put, first_hand, requests}
@@ -64,16 +65,16 @@ use Rattle.carry_law.proofs.Gives.{held_unseen}
 
 -- WORDS THAT HOLD
 
-pub holds_on : {a b : Cluster} → LeavesWords a b → WordsHold a → WordsHold b
-holds_on p w = record { has_words = (p.words w.has_words).after; first_at_holder = p.holders w.first_at_holder; dirty_alone = p.dirty w.dirty_alone; past_words = p.past w.past_words }
+pub holds_on : {k a b : Cluster} → LeavesWords a b → WordsRise k a → WordsRise k b
+holds_on p w = rise_left p w
 
 -- with the server put back
 abbrev pub Kept : Cluster → Server → Server × EntryView → Type 0
-Kept k s r = WordsHold (record k { servers = with_server k.servers s.rest.number r.0 }) × HasPlaces (record k { servers = with_server k.servers s.rest.number r.0 })
+Kept k s r = WordsRise k (record k { servers = with_server k.servers s.rest.number r.0 }) × HasPlaces (record k { servers = with_server k.servers s.rest.number r.0 })
 
 handed : (k : Cluster) (s : Server) → server_at k.servers s.rest.number ≡ Some s → (o : Option (Server × EntryView)) → Gives (Kept k s) o
     → Gives (λ (r : Server × EntryView). GoTo (with_server k.servers s.rest.number r.0) (drop_first (length s.rest.outbox) r.0.rest.outbox)) o
-    → Gives (λ (d : Cluster × EntryView). HasPlaces d.0 → WordsHold d.0) (option_map (λ r. (record k { servers = hand_over_newer s.rest.number (length s.rest.outbox) r.0 k.servers }, r.1)) o)
+    → Gives (λ (d : Cluster × EntryView). HasPlaces d.0 → WordsRise k d.0) (option_map (λ r. (record k { servers = hand_over_newer s.rest.number (length s.rest.outbox) r.0 k.servers }, r.1)) o)
 handed k s here None a g = tt
 handed k s here (Some r) a g = λ q.
     let n = s.rest.number in
@@ -84,10 +85,10 @@ handed k s here (Some r) a g = λ q.
     holds_on (untouched_stays mid end a.1 q (seen_alike mid end a.1 q refl alike)) a.0
 
 pub kept_where : (k : Cluster) (s : Server) (t : ℕ) → IsCoherent k → FewEvents k → server_at k.servers s.rest.number ≡ Some s → (enabled k.options s (Step t) ≡ true → Gives (Kept k s) (does k.code k.options s (Step t)))
-    → Gives (λ (d : Cluster × EntryView). WordsHold d.0) (apply k (record { server = s.rest.number; what = Step t }))
+    → Gives (λ (d : Cluster × EntryView). WordsRise k d.0) (apply k (record { server = s.rest.number; what = Step t }))
 kept_where k s t coherent few h go =
-    both_give (λ (d : Cluster × EntryView). HasPlaces d.0 → WordsHold d.0) (λ (d : Cluster × EntryView). HasPlaces d.0) (λ (d : Cluster × EntryView). WordsHold d.0) (apply k (record { server = s.rest.number; what = Step t }))
-    (subst (λ o. Gives (λ (d : Cluster × EntryView). HasPlaces d.0 → WordsHold d.0) (then_some o (λ x. option_map (λ d. (record k { servers = hand_over_newer s.rest.number (length x.rest.outbox) d.0 k.servers }, d.1)) (done_at k (Step t) x)))) (sym h)
+    both_give (λ (d : Cluster × EntryView). HasPlaces d.0 → WordsRise k d.0) (λ (d : Cluster × EntryView). HasPlaces d.0) (λ (d : Cluster × EntryView). WordsRise k d.0) (apply k (record { server = s.rest.number; what = Step t }))
+    (subst (λ o. Gives (λ (d : Cluster × EntryView). HasPlaces d.0 → WordsRise k d.0) (then_some o (λ x. option_map (λ d. (record k { servers = hand_over_newer s.rest.number (length x.rest.outbox) d.0 k.servers }, d.1)) (done_at k (Step t) x)))) (sym h)
     (handed k s h (done_at k (Step t) s) (test_gives (Kept k s) (enabled k.options s (Step t)) (does k.code k.options s (Step t)) go) (each_event_sends k (record { server = s.rest.number; what = Step t }) coherent.sound few s h)))
     (applied_part HasPlaces (λ c g. record { numbers_differ = g.numbers_differ; home_of_each = g.home_of_each; owner_of_each = g.owner_of_each }) k (record { server = s.rest.number; what = Step t }) coherent.sound few)
     (λ d a c. a c)
@@ -154,9 +155,9 @@ module _ (k : Cluster) (coherent : IsCoherent k) (s : Server) (here : server_at 
   Fine = ReadsOk k coherent s here t y at on (instr.Lock w) code w w.depth (locks refl) w.depth
 
   abbrev Left : Stepped → Type 0
-  Left d = WordsHold (put k coherent s here t y at d.hand) × HasPlaces (put k coherent s here t y at d.hand)
+  Left d = WordsRise k (put k coherent s here t y at d.hand) × HasPlaces (put k coherent s here t y at d.hand)
 
-  left_by_state : (h : Hand) → S h → WordsHold (put k coherent s here t y at h) × HasPlaces (put k coherent s here t y at h)
+  left_by_state : (h : Hand) → S h → WordsRise k (put k coherent s here t y at h) × HasPlaces (put k coherent s here t y at h)
   left_by_state h g = (g.along.words, places k coherent s here t y at h g.ok)
 
   none : TakesNoneHere k.code y
@@ -200,5 +201,5 @@ module _ (k : Cluster) (coherent : IsCoherent k) (s : Server) (here : server_at 
 
 pub locks_keep : LocksKeep
 locks_keep k number t s y w coherent few here at code =
-    subst (λ c. server_at k.servers c ≡ Some s → Gives (λ (d : Cluster × EntryView). WordsHold d.0) (apply k (record { server = c; what = Step t }))) (found_number number k.servers s here)
+    subst (λ c. server_at k.servers c ≡ Some s → Gives (λ (d : Cluster × EntryView). WordsRise k d.0) (apply k (record { server = c; what = Step t }))) (found_number number k.servers s here)
     (λ h. kept_where k s t coherent few h (λ on. server_locks k coherent s h t y at on w code (not_taken k coherent.sound number s here t y at (instr.Lock w) code refl))) here

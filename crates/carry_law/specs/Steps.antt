@@ -18,7 +18,7 @@ use Rattle.heap_law.specs.Coherent.{IsSound}
 use Rattle.type_law.specs.ClusterTypes.{IsCoherent}
 use Rattle.event_law.specs.Laws.{Gives, FewEvents}
 use Rattle.word_law.specs.Unmoved.{LeavesWords}
-use Rattle.prepare_law.specs.Requests.{WordsHold}
+use Rattle.prepare_law.specs.Requests.{WordsRise}
 
 -- an instruction that carries one value of its thread at most, to or from where no place of a thread leads
 pub data CarriesOne : Instr → Type 0 where
@@ -58,7 +58,7 @@ OwnedGoes = (k : Cluster) (number t : ℕ) (s : Server) (y : ThreadState) (i : I
 -- a lock keeps the words, whether it asks for the content of its mutex or takes it
 abbrev pub LocksKeep : Type 0
 LocksKeep = (k : Cluster) (number t : ℕ) (s : Server) (y : ThreadState) (w : Lval) → IsCoherent k → FewEvents k → server_at k.servers number ≡ Some s → thread_in s.threads t ≡ Some y → slice_get k.code y.pc ≡ Some (instr.Lock w)
-    → Gives (λ (d : Cluster × EntryView). WordsHold d.0) (apply k (record { server = number; what = Step t }))
+    → Gives (λ (d : Cluster × EntryView). WordsRise k d.0) (apply k (record { server = number; what = Step t }))
 
 -- a value that owns, or none any more
 pub data IsOwnedOrGone : Value → Type 0 where

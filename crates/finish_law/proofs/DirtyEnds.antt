@@ -62,7 +62,8 @@ use Rattle.event_law.proofs.Results.{given_by, weaker}
 use Rattle.event_law.specs.Kinds.{instr_kind}
 use Rattle.event_law.proofs.Proved.{IsProvedKind}
 use Rattle.stay_law.proofs.Steps.{TakesNoneHere}
-use Rattle.prepare_law.specs.Requests.{WordsHold}
+use Rattle.prepare_law.specs.Requests.{WordsRise}
+use Rattle.prepare_law.proofs.Rising.{rise_itself}
 use Rattle.prepare_law.proofs.Hands.{Walks, first_hand, calm_waits, requests, stands, places}
 use Rattle.prepare_law.proofs.Along.{Along, along_cleaned}
 use Rattle.prepare_law.proofs.Asking.{found_number}
@@ -110,10 +111,10 @@ module _ (k : Cluster) (coherent : IsCoherent k) (few : FewEvents k) (s : Server
   -- an end of the event: the reference ended from some hand, or a request was sent
   data Left (h : Hand) : Type 0 where
     ended : (hb : Hand) → Base k coherent.sound s here_it t y at hb → Past k coherent.sound s here_it t y at hb h → Left h
-    asked : WordsHold (put h) → Left h
+    asked : WordsRise k (put h) → Left h
 
   -- either way the words hold
-  left_words : (h : Hand) → IsOk h → Left h → WordsHold (put h)
+  left_words : (h : Hand) → IsOk h → Left h → WordsRise k (put h)
   left_words h ok (ended hb base p) = holds_on (past_leaves k coherent.sound s here_it t y at hb base h ok p) base.words
   left_words h ok (asked w) = w
 
@@ -211,7 +212,7 @@ module _ (k : Cluster) (coherent : IsCoherent k) (few : FewEvents k) (s : Server
     pub record Worded (h2 : Hand) (w : ℕ) : Type 0 where
       pub ok : IsOk h2
       pub thread : h2.thread ≡ other (took r w)
-      pub words : WordsHold (put h2)
+      pub words : WordsRise k (put h2)
       pub fresh : IsStale (sight (put h2)) (Some l) → ⊥
       pub reworded : Reworded (put start) (put h2) l r.object w
       pub now : value_in (sight (put h2)).ground l ≡ Some (value.Mut (took r w))
@@ -384,7 +385,7 @@ module _ (k : Cluster) (coherent : IsCoherent k) (few : FewEvents k) (s : Server
 
   -- so the words hold with the server put back
   kept : (i : Instr) → IsProvedKind (instr_kind i) → slice_get k.code y.pc ≡ Some i → Gives (λ (d : Stepped). Left d.hand) (step k.options.servers i start) → Gives (Kept k s) (does k.code k.options s (Step t))
-  kept i kind code g = step_by (λ a b. WordsHold b) k coherent.sound s here_it t y at i code Left left_words (ok_steps k coherent s here_it t y at on i kind) g
+  kept i kind code g = step_by (λ a b. WordsRise k b) k coherent.sound s here_it t y at i code Left left_words (ok_steps k coherent s here_it t y at on i kind) g
 
   -- the newest slot goes
   drops_there : (r : MutRef) → last_of y.slots ≡ Some (value.Mut r) → r.holder.depth ≡ 0 → r.dirty ≡ true → slice_get k.code y.pc ≡ Some instr.DropSlot → Gives (Kept k s) (does k.code k.options s (Step t))
@@ -454,13 +455,13 @@ module _ (k : Cluster) (coherent : IsCoherent k) (few : FewEvents k) (s : Server
 pub flat_ends_keep : FlatEndsKeep
 flat_ends_keep k number t s y i r coherent few here_it at code ends_it flat = by r.dirty refl
   where
-    words : WordsHold k
-    words = record { has_words = coherent.sound.words.have_words; first_at_holder = coherent.sound.words.first_at_holder; dirty_alone = coherent.sound.words.dirty_alone; past_words = coherent.sound.words.past_words }
+    words : WordsRise k k
+    words = rise_itself k coherent.sound
 
-    by : (b : Bool) → r.dirty ≡ b → Gives (λ (d : Cluster × EntryView). WordsHold d.0) (apply k (record { server = number; what = Step t }))
+    by : (b : Bool) → r.dirty ≡ b → Gives (λ (d : Cluster × EntryView). WordsRise k d.0) (apply k (record { server = number; what = Step t }))
     by true dirty =
-        subst (λ c. server_at k.servers c ≡ Some s → Gives (λ (d : Cluster × EntryView). WordsHold d.0) (apply k (record { server = c; what = Step t }))) (found_number number k.servers s here_it)
+        subst (λ c. server_at k.servers c ≡ Some s → Gives (λ (d : Cluster × EntryView). WordsRise k d.0) (apply k (record { server = c; what = Step t }))) (found_number number k.servers s here_it)
         (λ h. kept_where k s t coherent few h (λ on. all_there k coherent few s h t y at on r i ends_it flat dirty code)) here_it
     by false clean =
-        weaker (λ (d : Cluster × EntryView). LeavesWords k d.0) (λ (d : Cluster × EntryView). WordsHold d.0) (apply k (record { server = number; what = Step t }))
+        weaker (λ (d : Cluster × EntryView). LeavesWords k d.0) (λ (d : Cluster × EntryView). WordsRise k d.0) (apply k (record { server = number; what = Step t }))
         (ends_at_hand_leave_words k number t s y i r coherent few here_it at code ends_it (record { clean = clean; near = inr flat })) (λ d g. holds_on g words)

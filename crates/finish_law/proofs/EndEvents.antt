@@ -64,7 +64,8 @@ use Rattle.refs_law.proofs.Unpassed.{unnamed_are_unpassed}
 use Rattle.refs_law.proofs.Fewer.{slots_lead, cells_lead, holders_lead}
 use Rattle.refs_law.proofs.Chains.{held_there, OnWay, cluster, first_seen, first_places, on_start, unpassed_at_start, firsts, with_thread}
 use Rattle.finish_law.specs.Ends.{EndsReference, drops, discards, assigns, EndsAtHand, EndsAtHandLeaveWords}
-use Rattle.prepare_law.specs.Requests.{WordsHold}
+use Rattle.prepare_law.specs.Requests.{WordsRise}
+use Rattle.prepare_law.proofs.Rising.{rise_itself}
 use Rattle.carry_law.proofs.Locks.{holds_on}
 use Rattle.finish_law.proofs.EndHands.{newest_there, SpotIs, Base, AtEnd, Past, past_leaves, slot_ends, top_ends, variable_ends, follow, ready_end}
 use Rattle.finish_law.proofs.EndTypes.{alone, fresh as fresh_there, only as only_there, untaken as untaken_there}
@@ -163,8 +164,8 @@ module _ (k : Cluster) (coherent : IsCoherent k) (s : Server) (here_it : server_
       less u i (suc d) = sym (seen_places_lead ground ga (slots_lead k first_cluster seen_first.stands) (cells_lead k first_cluster seen_first.stands) u i d)
 
   -- the words hold at the start
-  seen_words : WordsHold first_cluster
-  seen_words = holds_on started.leaves (record { has_words = coherent.sound.words.have_words; first_at_holder = coherent.sound.words.first_at_holder; dirty_alone = coherent.sound.words.dirty_alone; past_words = coherent.sound.words.past_words })
+  seen_words : WordsRise k first_cluster
+  seen_words = holds_on started.leaves (rise_itself k coherent.sound)
 
   -- so the reference ends from there
   pub base : Base k coherent.sound s here_it t y at hand

@@ -55,7 +55,7 @@ use Rattle.heap_law.specs.Words.{IsStale}
 use Rattle.word_law.specs.PutBack.{StandsHere}
 use Rattle.word_law.proofs.Put.{put_split}
 use Rattle.carry_law.proofs.Hands.{RootedIn, moved_from, places as then_places}
-use Rattle.prepare_law.specs.Requests.{WordsHold}
+use Rattle.prepare_law.specs.Requests.{WordsRise}
 
 -- a value is pushed
 pub length_end : {A : Type 0} (xs : List A) (v : A) → length (xs ++ v ∷ []) ≡ suc (length xs)
@@ -126,7 +126,7 @@ module _ (k : Cluster) (sound : IsSound k) (s : Server) (here_it : server_at k.s
     pub named : x0.number ≡ t
     pub places : HasPlaces kb
     pub rooted : RootedIn kb
-    pub words : WordsHold kb
+    pub words : WordsRise k kb
 
   -- a reference stands there that was made from the pointer at h alone, and none from it
   pub record AtEnd (l h : Location) (r : MutRef) : Type 0 where

@@ -36,7 +36,7 @@ use Rattle.word_law.proofs.Takings.{reference_at, lents_are, lent_by, lent_liste
 use Rattle.event_law.specs.Laws.{Gives}
 use Rattle.event_law.proofs.Objects.{length_set}
 use Rattle.stay_law.proofs.Steps.{TakesNoneHere}
-use Rattle.prepare_law.specs.Requests.{WordsHold}
+use Rattle.prepare_law.specs.Requests.{WordsRise}
 use Rattle.carry_law.proofs.Hands.{Ok, RootedIn, rooted, places as then_places}
 use Rattle.carry_law.proofs.Places.{end_is}
 use Rattle.refs_law.specs.Unpassed.{IsUnpassed}
@@ -108,7 +108,7 @@ module _ (k : Cluster) (coherent : IsCoherent k) (s : Server) (here_it : server_
   -- WITH ITS WORD
 
   module _ (h2 : Hand) (ok : Ok k coherent.sound s here_it t y at h2) (w : ℕ)
-      (words : WordsHold (cluster k coherent.sound s here_it t y at h2)) (fresh : IsStale (sight (cluster k coherent.sound s here_it t y at h2)) (Some l) → ⊥) (reworded : Reworded first (cluster k coherent.sound s here_it t y at h2) l r.object w)
+      (words : WordsRise k (cluster k coherent.sound s here_it t y at h2)) (fresh : IsStale (sight (cluster k coherent.sound s here_it t y at h2)) (Some l) → ⊥) (reworded : Reworded first (cluster k coherent.sound s here_it t y at h2) l r.object w)
       (now : value_in (sight (cluster k coherent.sound s here_it t y at h2)).ground l ≡ Some (value.Mut (took r w))) where
     abbrev z : Cluster
     z = cluster k coherent.sound s here_it t y at h2

@@ -15,7 +15,7 @@ use Rattle.server_model.specs.Clusters.{apply}
 use Rattle.type_law.specs.ClusterTypes.{IsCoherent}
 use Rattle.event_law.specs.Laws.{Gives, FewEvents}
 use Rattle.word_law.specs.Unmoved.{LeavesWords}
-use Rattle.prepare_law.specs.Requests.{WordsHold}
+use Rattle.prepare_law.specs.Requests.{WordsRise}
 
 -- an instruction with which the mutable reference ends
 pub data EndsReference (y : ThreadState) (r : MutRef) : Instr → Type 0 where
@@ -36,4 +36,4 @@ EndsAtHandLeaveWords = (k : Cluster) (number t : ℕ) (s : Server) (y : ThreadSt
 -- and where it was made from a variable's own pointer, the step keeps the words, whether it is clean or dirty, and ends or its object is asked for
 abbrev pub FlatEndsKeep : Type 0
 FlatEndsKeep = (k : Cluster) (number t : ℕ) (s : Server) (y : ThreadState) (i : Instr) (r : MutRef) → IsCoherent k → FewEvents k → server_at k.servers number ≡ Some s → thread_in s.threads t ≡ Some y → slice_get k.code y.pc ≡ Some i → EndsReference y r i → r.holder.depth ≡ 0
-    → Gives (λ (d : Cluster × EntryView). WordsHold d.0) (apply k (record { server = number; what = Step t }))
+    → Gives (λ (d : Cluster × EntryView). WordsRise k d.0) (apply k (record { server = number; what = Step t }))

@@ -32,11 +32,12 @@ use Rattle.word_law.proofs.Only.{are_only}
 use Rattle.word_law.proofs.Unmoved.{stale_at, untouched_stays}
 use Rattle.stay_law.proofs.Alike.{Alike}
 use Rattle.stay_law.proofs.Seen.{seen_alike}
-use Rattle.prepare_law.specs.Requests.{WordsHold}
+use Rattle.prepare_law.specs.Requests.{WordsRise}
+use Rattle.prepare_law.proofs.Rising.{rise_itself, rise_left, rise_changed}
 
 -- the words hold; slots and cells lead where they led, boxes stand where they stood, threads have taken from the same places, references were made from the same words and have their own or one that wasn't issued, nothing more is stale, what is dirty was, and what lay lies
 pub record Along (k z : Cluster) : Type 0 where
-  pub words : WordsHold z
+  pub words : WordsRise k z
   pub slots_lead : (u t i : ℕ) → leads u (value_in (sight z).ground (at_slot t i)) ≡ leads u (value_in (sight k).ground (at_slot t i))
   pub cells_lead : (u : ℕ) (o : ObjNo) → leads u (value_in (sight z).ground (in_cell o)) ≡ leads u (value_in (sight k).ground (in_cell o))
   pub boxes : (l : Location) (p : BoxPtr) → value_in (sight k).ground l ≡ Some (value.Own (owned.Box p)) → value_in (sight z).ground l ≡ Some (value.Own (owned.Box p))
@@ -50,7 +51,7 @@ pub record Along (k z : Cluster) : Type 0 where
 
 pub along_itself : (k : Cluster) → IsSound k → Along k k
 along_itself k s = record {
-  words = record { has_words = s.words.have_words; first_at_holder = s.words.first_at_holder; dirty_alone = s.words.dirty_alone; past_words = s.words.past_words };
+  words = rise_itself k s;
   slots_lead = λ u t i. refl;
   cells_lead = λ u o. refl;
   boxes = λ l p e. e;
@@ -66,7 +67,7 @@ along_itself k s = record {
 -- where words see the same
 pub along_alike : (k x z : Cluster) → HasPlaces x → HasPlaces z → z.code ≡ x.code → Alike x.code (things_of x) (things_of z) → Along k x → Along k z
 along_alike k x z c d same a t = record {
-  words = record { has_words = (stays.words t.words.has_words).after; first_at_holder = stays.holders t.words.first_at_holder; dirty_alone = stays.dirty t.words.dirty_alone; past_words = stays.past t.words.past_words };
+  words = rise_left stays t.words;
   slots_lead = λ v n i. sym (leads_pointing v (value_in (sight z).ground (at_slot n i))) ∙ ap (leads v) (u.stands (at_slot n i)) ∙ leads_pointing v (value_in (sight x).ground (at_slot n i)) ∙ t.slots_lead v n i;
   cells_lead = λ v o. sym (leads_pointing v (value_in (sight z).ground (in_cell o))) ∙ ap (leads v) (u.stands (in_cell o)) ∙ leads_pointing v (value_in (sight x).ground (in_cell o)) ∙ t.cells_lead v o;
   boxes = λ l p e. seen_pointer_at l (value_in (sight z).ground l) (value.Own (owned.Box p)) (record { at = Some l; word = p.word; object = p.object }) (u.stands l ∙ ap (seen_at l) (t.boxes l p e)) (inl refl);
@@ -102,12 +103,9 @@ dirty_changed r d = ap (λ b. b || not (r.word == r.first)) d
 pub along_cleaned : (k x z : Cluster) (l : Location) (r : MutRef) (w : ℕ) → Holds k are_issued → issued (sight k) w ≡ false → HasPlaces x → HasPlaces z → Along k x → value_in (sight x).ground l ≡ Some (value.Mut r) → r.dirty ≡ true
     → (IsStale (sight k) (Some l) → ⊥) → Reworded x z l r.object w → value_in (sight z).ground l ≡ Some (value.Mut (took r w)) → ((m a : ℕ) (o : ObjNo) → LiesThere x m a o → LiesThere z m a o) → Along k z
 along_cleaned k x z l r w all new c d t e dirty fresh reworded now still = record {
-  words = record {
-    has_words = (words_go_on x z l r.object w rewrites t.words.has_words).after;
-    first_at_holder = holders_go_on x z l r.object w rewrites;
-    dirty_alone = dirty_goes_on x z l r.object w rewrites t.words.dirty_alone;
-    past_words = past_goes_on x z l r.object w rewrites (no_first k x w r.object all new c t) t.words.past_words;
-  };
+  words =
+      rise_changed k x z r.object w t.words (words_go_on x z l r.object w rewrites t.words.has_words) (inr new) (holders_go_on x z l r.object w rewrites) (dirty_goes_on x z l r.object w rewrites t.words.dirty_alone)
+      (past_goes_on x z l r.object w rewrites (no_first k x w r.object all new c t) t.words.past_words);
   slots_lead = λ u n i. leads_on u (at_slot n i) ∙ t.slots_lead u n i;
   cells_lead = λ u o. leads_on u (in_cell o) ∙ t.cells_lead u o;
   boxes = boxes_on;

@@ -47,7 +47,7 @@ use Rattle.read_law.specs.Reading.{Reads, copies, shares, lends, dups, locks}
 use Rattle.stay_law.proofs.Alike.{Alike}
 use Rattle.stay_law.proofs.Sites.{handed_over}
 use Rattle.stay_law.proofs.Steps.{TakesNoneHere}
-use Rattle.prepare_law.specs.Requests.{WordsHold, ReadsThatAsk}
+use Rattle.prepare_law.specs.Requests.{WordsRise, ReadsThatAsk}
 use Rattle.prepare_law.proofs.Along.{Along, along_alike}
 use Rattle.prepare_law.proofs.Hands.{places, State, Walks, first_hand, requests}
 use Rattle.prepare_law.proofs.Stars.{ReadsOk, a_slot, asks_object, walks_loaded, stars_ok}
@@ -232,9 +232,9 @@ handed k s Q here (Some r) a g = λ q.
 
 -- so the words hold once messages are handed over
 pub kept_where : (k : Cluster) (s : Server) (t : ℕ) (Q : EntryView → Type 0) → IsCoherent k → FewEvents k → server_at k.servers s.rest.number ≡ Some s → (enabled k.options s (Step t) ≡ true → Gives (There Q k s) (does k.code k.options s (Step t)))
-    → Gives (λ (d : Cluster × EntryView). Q d.1 → WordsHold d.0) (apply k (record { server = s.rest.number; what = Step t }))
+    → Gives (λ (d : Cluster × EntryView). Q d.1 → WordsRise k d.0) (apply k (record { server = s.rest.number; what = Step t }))
 kept_where k s t Q coherent few h go =
-    both_give (λ (d : Cluster × EntryView). Q d.1 → Before k d.0) (λ (d : Cluster × EntryView). HasPlaces d.0) (λ (d : Cluster × EntryView). Q d.1 → WordsHold d.0) (apply k (record { server = s.rest.number; what = Step t }))
+    both_give (λ (d : Cluster × EntryView). Q d.1 → Before k d.0) (λ (d : Cluster × EntryView). HasPlaces d.0) (λ (d : Cluster × EntryView). Q d.1 → WordsRise k d.0) (apply k (record { server = s.rest.number; what = Step t }))
     (subst (λ o. Gives (λ (d : Cluster × EntryView). Q d.1 → Before k d.0) (then_some o (λ x. option_map (λ d. (record k { servers = hand_over_newer s.rest.number (length x.rest.outbox) d.0 k.servers }, d.1)) (done_at k (Step t) x)))) (sym h)
     (handed k s Q h (done_at k (Step t) s) (test_gives (There Q k s) (enabled k.options s (Step t)) (does k.code k.options s (Step t)) go) (each_event_sends k (record { server = s.rest.number; what = Step t }) coherent.sound few s h)))
     (applied_part HasPlaces (λ c g. record { numbers_differ = g.numbers_differ; home_of_each = g.home_of_each; owner_of_each = g.owner_of_each }) k (record { server = s.rest.number; what = Step t }) coherent.sound few)
@@ -250,5 +250,5 @@ found_number n (z ∷ ss) s e = by (z.rest.number == n) refl e (λ g. found_numb
 
 pub reads_that_ask : ReadsThatAsk
 reads_that_ask k number t s y i w m coherent few here at code reads free =
-    subst (λ n. server_at k.servers n ≡ Some s → Gives (λ (d : Cluster × EntryView). d.1.done ≡ None → WordsHold d.0) (apply k (record { server = n; what = Step t }))) (found_number number k.servers s here)
+    subst (λ n. server_at k.servers n ≡ Some s → Gives (λ (d : Cluster × EntryView). d.1.done ≡ None → WordsRise k d.0) (apply k (record { server = n; what = Step t }))) (found_number number k.servers s here)
     (λ h. kept_where k s t (λ v. v.done ≡ None) coherent few h (λ on. server_asks k coherent s h t y at on i code w m reads free)) here

@@ -37,7 +37,7 @@ use Rattle.stay_law.proofs.Alike.{Alike, Within, Seen, itself, turned, chain, be
 use Rattle.stay_law.proofs.Threads.{slots_of, temps_of, values_alike}
 use Rattle.stay_law.proofs.Sites.{HandAlike}
 use Rattle.stay_law.proofs.Steps.{IsUnseen, shared_slot_unseen, owned_unseen, last_points, TakesNoneHere, Goes, pushes, goes_over, untaken_here}
-use Rattle.prepare_law.specs.Requests.{WordsHold, CopiesKeep}
+use Rattle.prepare_law.specs.Requests.{WordsRise, CopiesKeep}
 use Rattle.prepare_law.proofs.Untaken.{not_taken}
 use Rattle.prepare_law.proofs.Hands.{State, Walks, places, first_hand, unseen}
 use Rattle.prepare_law.proofs.Stars.{ReadsOk, Spotted, a_slot, a_cell, a_copy, stars_ok}
@@ -177,7 +177,7 @@ module _ (k : Cluster) (coherent : IsCoherent k) (s : Server) (here : server_at 
 
 pub copies_keep : CopiesKeep
 copies_keep k number t s y w coherent few here at code =
-    subst (λ c. server_at k.servers c ≡ Some s → Gives (λ (d : Cluster × EntryView). WordsHold d.0) (apply k (record { server = c; what = Step t }))) (found_number number k.servers s here)
+    subst (λ c. server_at k.servers c ≡ Some s → Gives (λ (d : Cluster × EntryView). WordsRise k d.0) (apply k (record { server = c; what = Step t }))) (found_number number k.servers s here)
     (λ h.
-    weaker (λ (d : Cluster × EntryView). ⊤ → WordsHold d.0) (λ (d : Cluster × EntryView). WordsHold d.0) (apply k (record { server = s.rest.number; what = Step t }))
+    weaker (λ (d : Cluster × EntryView). ⊤ → WordsRise k d.0) (λ (d : Cluster × EntryView). WordsRise k d.0) (apply k (record { server = s.rest.number; what = Step t }))
     (kept_where k s t (λ v. ⊤) coherent few h (λ on. server_copies k coherent s h t y at on w code (not_taken k coherent.sound number s here t y at (instr.Read w false) code refl))) (λ d a. a tt)) here

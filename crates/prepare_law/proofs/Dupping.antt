@@ -43,7 +43,7 @@ use Rattle.stay_law.proofs.Servers.{held_if}
 use Rattle.stay_law.proofs.Threads.{slots_of, temps_of, thread_alike}
 use Rattle.stay_law.proofs.Sites.{HandAlike}
 use Rattle.stay_law.proofs.Steps.{IsUnseen, TakesNoneHere, Goes, hand_chain, pushes, goes_over, untaken_here}
-use Rattle.prepare_law.specs.Requests.{WordsHold, DupsKeep}
+use Rattle.prepare_law.specs.Requests.{WordsRise, DupsKeep}
 use Rattle.prepare_law.proofs.Untaken.{not_taken}
 use Rattle.prepare_law.proofs.Hands.{Ok, State, Walks, places, first_hand, unseen, requests}
 use Rattle.prepare_law.proofs.Stars.{ReadsOk, a_slot, stars_ok}
@@ -144,7 +144,7 @@ module _ (k : Cluster) (coherent : IsCoherent k) (s : Server) (here : server_at 
 
 pub dups_keep : DupsKeep
 dups_keep k number t s y w coherent few here at code =
-    subst (λ c. server_at k.servers c ≡ Some s → Gives (λ (d : Cluster × EntryView). WordsHold d.0) (apply k (record { server = c; what = Step t }))) (found_number number k.servers s here)
+    subst (λ c. server_at k.servers c ≡ Some s → Gives (λ (d : Cluster × EntryView). WordsRise k d.0) (apply k (record { server = c; what = Step t }))) (found_number number k.servers s here)
     (λ h.
-    weaker (λ (d : Cluster × EntryView). ⊤ → WordsHold d.0) (λ (d : Cluster × EntryView). WordsHold d.0) (apply k (record { server = s.rest.number; what = Step t }))
+    weaker (λ (d : Cluster × EntryView). ⊤ → WordsRise k d.0) (λ (d : Cluster × EntryView). WordsRise k d.0) (apply k (record { server = s.rest.number; what = Step t }))
     (kept_where k s t (λ v. ⊤) coherent few h (λ on. server_dups k coherent s h t y at on w code (not_taken k coherent.sound number s here t y at (instr.Dup w) code refl))) (λ d a. a tt)) here

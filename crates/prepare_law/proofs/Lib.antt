@@ -1,3 +1,4 @@
+pub mod Rising
 pub mod Along
 pub mod Hands
 pub mod Stars

@@ -1,5 +1,6 @@
 -- A STEP THAT READS keeps the words (this project's rules): where it ends in a request, and where it copies.
-use Rattle.std.specs.Prelude.{◌≡◌, ℕ, false, Some, None, slice_get}
+use Rattle.std.specs.Prelude.{◌≡◌, ◌⊎◌, ℕ, false, Some, None, slice_get}
+use Rattle.fr_base.specs.declared.name.ObjNo.{ObjNo}
 use Rattle.fr_base.specs.declared.instruction.Instr.{Instr}
 use Rattle.fr_base.specs.declared.instruction.Instr.TheVariants as instr
 use Rattle.fr_base.specs.declared.place.Lval.{Lval}
@@ -10,7 +11,7 @@ use Rattle.server_model.specs.declared.event.What.TheVariants.{Step}
 use Rattle.server_model.specs.Servers.{Server, Cluster, server_at}
 use Rattle.server_model.specs.Work.{thread_in}
 use Rattle.server_model.specs.Clusters.{apply}
-use Rattle.heap_law.specs.Sight.{sight}
+use Rattle.heap_law.specs.Sight.{sight, issued}
 use Rattle.heap_law.specs.Words.{HasWords}
 use Rattle.heap_law.specs.Dirty.{DirtyAlone, PastWords}
 use Rattle.heap_law.specs.Coherent.{Holds, first_at_holder}
@@ -25,18 +26,29 @@ pub record WordsHold (k : Cluster) : Type 0 where
   pub dirty_alone : DirtyAlone (sight k)
   pub past_words : PastWords (sight k)
 
+-- the same of a cluster in an event or after it, beside the one from which it began: and words rise, as the word of each object is the one that it had then, or
+-- wasn't issued then
+pub record WordsRise (k z : Cluster) : Type 0 where
+  pub has_words : HasWords (sight z)
+  pub first_at_holder : Holds z first_at_holder
+  pub dirty_alone : DirtyAlone (sight z)
+  pub past_words : PastWords (sight z)
+  -- the words at the start
+  pub began : HasWords (sight k)
+  pub rises : (o : ObjNo) → (has_words.word o ≡ began.word o) ⊎ (issued (sight k) (has_words.word o) ≡ false)
+
 -- the step of a thread that reads its place, or borrows from it, and hasn't taken an object: where it does no plain step, the words hold once its messages are
 -- handed over
 abbrev pub ReadsThatAsk : Type 0
 ReadsThatAsk = (k : Cluster) (number t : ℕ) (s : Server) (y : ThreadState) (i : Instr) (w : Lval) (m : ℕ) → IsCoherent k → FewEvents k → server_at k.servers number ≡ Some s → thread_in s.threads t ≡ Some y → slice_get k.code y.pc ≡ Some i → Reads i w m
-    → ((v : ℕ) → y.phase ≡ phase.Taken v → ⊥) → Gives (λ (d : Cluster × EntryView). d.1.done ≡ None → WordsHold d.0) (apply k (record { server = number; what = Step t }))
+    → ((v : ℕ) → y.phase ≡ phase.Taken v → ⊥) → Gives (λ (d : Cluster × EntryView). d.1.done ≡ None → WordsRise k d.0) (apply k (record { server = number; what = Step t }))
 
 -- the step of a thread that copies a place, whether it does its plain step or asks
 abbrev pub CopiesKeep : Type 0
 CopiesKeep = (k : Cluster) (number t : ℕ) (s : Server) (y : ThreadState) (w : Lval) → IsCoherent k → FewEvents k → server_at k.servers number ≡ Some s → thread_in s.threads t ≡ Some y → slice_get k.code y.pc ≡ Some (instr.Read w false)
-    → Gives (λ (d : Cluster × EntryView). WordsHold d.0) (apply k (record { server = number; what = Step t }))
+    → Gives (λ (d : Cluster × EntryView). WordsRise k d.0) (apply k (record { server = number; what = Step t }))
 
 -- that of a thread at a dup
 abbrev pub DupsKeep : Type 0
 DupsKeep = (k : Cluster) (number t : ℕ) (s : Server) (y : ThreadState) (w : Lval) → IsCoherent k → FewEvents k → server_at k.servers number ≡ Some s → thread_in s.threads t ≡ Some y → slice_get k.code y.pc ≡ Some (instr.Dup w)
-    → Gives (λ (d : Cluster × EntryView). WordsHold d.0) (apply k (record { server = number; what = Step t }))
+    → Gives (λ (d : Cluster × EntryView). WordsRise k d.0) (apply k (record { server = number; what = Step t }))

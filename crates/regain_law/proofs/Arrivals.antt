@@ -31,7 +31,7 @@ use Rattle.type_law.specs.ClusterTypes.{IsCoherent}
 use Rattle.event_law.specs.Laws.{Gives, FewEvents}
 use Rattle.event_law.proofs.Results.{over_gives, test_gives}
 use Rattle.read_law.specs.Reading.{copies, shares, dups, locks}
-use Rattle.prepare_law.specs.Requests.{WordsHold}
+use Rattle.prepare_law.specs.Requests.{WordsRise}
 use Rattle.rewrite_law.specs.Writing.{assigns as assigns_through, moves as moves_through}
 use Rattle.arrive_law.specs.Awaited.{Awaits}
 use Rattle.await_law.proofs.BorrowArrivals.{borrow_arrivals_keep}
@@ -83,12 +83,12 @@ mutable_or_none (Some (value.Held m)) = inr (λ sp. refl)
 
 module _ (k : Cluster) (coherent : IsCoherent k) (few : FewEvents k) (number : ℕ) (s : Server) (here : server_at k.servers number ≡ Some s) (i old t : ℕ) (c : Cell) (message_there : slice_get s.rest.inbox i ≡ Some (message.Moved old c t)) where
   abbrev Goal : Type 0
-  Goal = Gives (λ (x : Cluster × EntryView). WordsHold x.0) (apply k (record { server = number; what = Deliver i }))
+  Goal = Gives (λ (x : Cluster × EntryView). WordsRise k x.0) (apply k (record { server = number; what = Deliver i }))
 
   -- its thread isn't here
   no_thread : thread_in s.threads t ≡ None → Goal
   no_thread none =
-      none_done k number (Deliver i) s (λ (x : Cluster × EntryView). WordsHold x.0) here
+      none_done k number (Deliver i) s (λ (x : Cluster × EntryView). WordsRise k x.0) here
       (subst (λ o. Gives (λ (r : Server × EntryView). ⊥) (option_map (left_by s.events None None) (then_some o (λ m. deliver_message k.code m (received i s))))) (sym message_there)
       (subst (λ o. Gives (λ (r : Server × EntryView). ⊥) (option_map (left_by s.events None None) (then_some (option_map (λ v. record { work = (received i s).work; thread = v }) o) (λ h. option_map (put_back s.threads) (deliver_moved k.code old c h))))) (sym none) tt))
 
@@ -173,4 +173,4 @@ module _ (k : Cluster) (coherent : IsCoherent k) (few : FewEvents k) (number : �
 
 pub arrivals_keep : ArrivalsKeep
 arrivals_keep k e old c t d coherent few =
-    subst (λ w. Gives (λ (x : Cluster × EntryView). WordsHold x.0) (apply k (record { server = e.server; what = w }))) (sym d.what) (arrival_keeps k coherent few e.server d.server d.there d.place old t c d.message)
+    subst (λ w. Gives (λ (x : Cluster × EntryView). WordsRise k x.0) (apply k (record { server = e.server; what = w }))) (sym d.what) (arrival_keeps k coherent few e.server d.server d.there d.place old t c d.message)

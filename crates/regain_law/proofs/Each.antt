@@ -1,5 +1,5 @@
 -- Each event keeps the words, kind by kind.
-use Rattle.std.proofs.Common.{◌≡◌, ℕ, true, false, Option, Some, None, option_map, refl, sym, ap, subst, ◌∙◌}
+use Rattle.std.proofs.Common.{◌≡◌, inl, inr, ℕ, true, false, Option, Some, None, option_map, refl, sym, ap, subst, ◌∙◌}
 use Rattle.std.specs.Prelude.{slice_get, length}
 use Rattle.fr_base.specs.declared.instruction.Instr.{Instr}
 use Rattle.fr_base.specs.declared.instruction.Instr.TheVariants as instr
@@ -20,7 +20,8 @@ use Rattle.event_law.proofs.Results.{weaker}
 use Rattle.word_law.specs.Unmoved.{Delivers, LeavesWords}
 use Rattle.stay_law.specs.Laws.{LeaveWords}
 use Rattle.stay_law.proofs.StayKinds.{kind_stays}
-use Rattle.prepare_law.specs.Requests.{WordsHold}
+use Rattle.prepare_law.specs.Requests.{WordsHold, WordsRise}
+use Rattle.prepare_law.proofs.Rising.{rise_itself, rise_changed, holds_so}
 use Rattle.prepare_law.proofs.Copying.{copies_keep}
 use Rattle.prepare_law.proofs.Dupping.{dups_keep}
 use Rattle.carry_law.specs.Steps.{a_let, a_mutex, a_join, an_end, puts_back}
@@ -36,25 +37,20 @@ use Rattle.refs_law.specs.Starts.{a_thread, a_pair}
 use Rattle.refs_law.proofs.StartEvents.{starts_leave_words}
 use Rattle.return_law.proofs.Each.{discards_keep_words, drops_keep_words, assignments_keep_words, moves_keep_words}
 use Rattle.free_law.proofs.Drops.{drops_leave}
-use Rattle.regain_law.specs.Events.{EventsKeepWords}
+use Rattle.regain_law.specs.Events.{EventsKeepWords, WordsRiseAlways}
 use Rattle.regain_law.proofs.Arrivals.{none_done, arrivals_keep}
 
 -- what holds at the start
-pub words_now : (k : Cluster) → IsCoherent k → WordsHold k
-words_now k coherent = record {
-  has_words = coherent.sound.words.have_words;
-  first_at_holder = coherent.sound.words.first_at_holder;
-  dirty_alone = coherent.sound.words.dirty_alone;
-  past_words = coherent.sound.words.past_words;
-}
+pub words_now : (k : Cluster) → IsCoherent k → WordsRise k k
+words_now k coherent = rise_itself k coherent.sound
 
 module _ (k : Cluster) (number : ℕ) (s : Server) (coherent : IsCoherent k) (few : FewEvents k) (here : server_at k.servers number ≡ Some s) where
   abbrev Keeps : What → Type 0
-  Keeps w = Gives (λ (d : Cluster × EntryView). WordsHold d.0) (apply k (record { server = number; what = w }))
+  Keeps w = Gives (λ (d : Cluster × EntryView). WordsRise k d.0) (apply k (record { server = number; what = w }))
 
   -- what leaves the words keeps them
   left : (w : What) → Gives (λ (d : Cluster × EntryView). LeavesWords k d.0) (apply k (record { server = number; what = w })) → Keeps w
-  left w g = weaker (λ (d : Cluster × EntryView). LeavesWords k d.0) (λ (d : Cluster × EntryView). WordsHold d.0) (apply k (record { server = number; what = w })) g (λ d l. holds_on l (words_now k coherent))
+  left w g = weaker (λ (d : Cluster × EntryView). LeavesWords k d.0) (λ (d : Cluster × EntryView). WordsRise k d.0) (apply k (record { server = number; what = w })) g (λ d l. holds_on l (words_now k coherent))
 
   -- by its kind
   of_kind : (kind : Kind) (w : What) → kind_at k w s ≡ Some kind → LeaveWords kind → Keeps w
@@ -86,7 +82,7 @@ module _ (k : Cluster) (number : ℕ) (s : Server) (coherent : IsCoherent k) (fe
 
     of_delivery : (o : Option Message) → slice_get s.rest.inbox i ≡ o → Keeps (Deliver i)
     of_delivery None e =
-        none_done k number (Deliver i) s (λ (d : Cluster × EntryView). WordsHold d.0) here
+        none_done k number (Deliver i) s (λ (d : Cluster × EntryView). WordsRise k d.0) here
         (subst (λ o. Gives (λ (r : Server × EntryView). ⊥) (option_map (left_by s.events None None) (then_some o (λ m. deliver_message k.code m (received i s))))) (sym e) tt)
     of_delivery (Some m) e = of_message m e
 
@@ -105,9 +101,9 @@ module _ (k : Cluster) (number : ℕ) (s : Server) (coherent : IsCoherent k) (fe
     of_instruction y at (instr.BorrowMut w) e = mutable_borrows_keep k number t s y w coherent few here at e
     of_instruction y at (instr.Box o) e =
         let words = coherent.sound.words.have_words in
-        weaker (λ (d : Cluster × EntryView). HasNewWord k d.0 (record { thread = y.number; count = y.made }) words) (λ (d : Cluster × EntryView). WordsHold d.0) (apply k (record { server = number; what = Step t }))
+        weaker (λ (d : Cluster × EntryView). HasNewWord k d.0 (record { thread = y.number; count = y.made }) words) (λ (d : Cluster × EntryView). WordsRise k d.0) (apply k (record { server = number; what = Step t }))
         (boxes_keep k number t s y o words coherent few here at e)
-        (λ d n. record { has_words = n.keeps.words.after; first_at_holder = n.keeps.holders; dirty_alone = n.keeps.dirty coherent.sound.words.dirty_alone; past_words = n.keeps.past coherent.sound.words.past_words })
+        (λ d n. rise_changed k k d.0 (record { thread = y.number; count = y.made }) n.word (record { has_words = coherent.sound.words.have_words; first_at_holder = coherent.sound.words.first_at_holder; dirty_alone = coherent.sound.words.dirty_alone; past_words = coherent.sound.words.past_words; began = coherent.sound.words.have_words; rises = λ q. inl refl }) n.keeps.words (inr n.new) n.keeps.holders (n.keeps.dirty coherent.sound.words.dirty_alone) (n.keeps.past coherent.sound.words.past_words))
     of_instruction y at (instr.Arith f a b) e = of_kind step_arith (Step t) (step_kind y at (instr.Arith f a b) e) (kind_stays step_arith tt)
     of_instruction y at (instr.Print o) e = of_kind step_print (Step t) (step_kind y at (instr.Print o) e) (kind_stays step_print tt)
     of_instruction y at instr.Discard e = discards_keep_words k number t s y coherent few here at e
@@ -124,13 +120,13 @@ module _ (k : Cluster) (number : ℕ) (s : Server) (coherent : IsCoherent k) (fe
 
     of_step : (o : Option ThreadState) → thread_in s.threads t ≡ o → Keeps (Step t)
     of_step None e =
-        none_done k number (Step t) s (λ (d : Cluster × EntryView). WordsHold d.0) here
+        none_done k number (Step t) s (λ (d : Cluster × EntryView). WordsRise k d.0) here
         (subst (λ o. Gives (λ (r : Server × EntryView). ⊥) (option_map (stepped s) (then_some (option_map (λ x. record { work = begin_work s.rest; thread = x }) o) (step_in k.code k.options.servers)))) (sym e) tt)
     of_step (Some y) e = by (slice_get k.code y.pc) refl
       where
         by : (o : Option Instr) → slice_get k.code y.pc ≡ o → Keeps (Step t)
         by None f =
-            none_done k number (Step t) s (λ (d : Cluster × EntryView). WordsHold d.0) here
+            none_done k number (Step t) s (λ (d : Cluster × EntryView). WordsRise k d.0) here
             (subst (λ o. Gives (λ (r : Server × EntryView). ⊥) (option_map (stepped s) (then_some (option_map (λ x. record { work = begin_work s.rest; thread = x }) o) (step_in k.code k.options.servers)))) (sym e)
             (subst (λ o. Gives (λ (r : Server × EntryView). ⊥) (option_map (stepped s) (then_some o (λ i. step k.options.servers i (record { work = begin_work s.rest; thread = y }))))) (sym f) tt))
         by (Some i) f = of_instruction y e i f
@@ -141,9 +137,12 @@ module _ (k : Cluster) (number : ℕ) (s : Server) (coherent : IsCoherent k) (fe
   of_event (Evict w) = of_kind evicts (Evict w) refl (kind_stays evicts tt)
   of_event (Migrate t target) = of_kind migrates (Migrate t target) refl (kind_stays migrates tt)
 
-pub events_keep_words : EventsKeepWords
-events_keep_words k e coherent few = by (server_at k.servers e.server) refl
+pub words_rise : WordsRiseAlways
+words_rise k e coherent few = by (server_at k.servers e.server) refl
   where
-    by : (o : Option Server) → server_at k.servers e.server ≡ o → Gives (λ (d : Cluster × EntryView). WordsHold d.0) (apply k e)
-    by None none = subst (λ o. Gives (λ (d : Cluster × EntryView). WordsHold d.0) (then_some o (λ s. option_map (λ d. (record k { servers = hand_over_newer e.server (length s.rest.outbox) d.0 k.servers }, d.1)) (done_at k e.what s)))) (sym none) tt
+    by : (o : Option Server) → server_at k.servers e.server ≡ o → Gives (λ (d : Cluster × EntryView). WordsRise k d.0) (apply k e)
+    by None none = subst (λ o. Gives (λ (d : Cluster × EntryView). WordsRise k d.0) (then_some o (λ s. option_map (λ d. (record k { servers = hand_over_newer e.server (length s.rest.outbox) d.0 k.servers }, d.1)) (done_at k e.what s)))) (sym none) tt
     by (Some s) here = of_event k e.server s coherent few here e.what
+
+pub events_keep_words : EventsKeepWords
+events_keep_words k e coherent few = weaker (λ (d : Cluster × EntryView). WordsRise k d.0) (λ (d : Cluster × EntryView). WordsHold d.0) (apply k e) (words_rise k e coherent few) (λ d w. holds_so w)

@@ -31,7 +31,7 @@ use Rattle.event_law.specs.Laws.{Gives, FewEvents}
 use Rattle.path_law.specs.HeapStore.{GoesOn, HasPaths}
 use Rattle.path_law.specs.Pointing as given
 use Rattle.end_law.proofs.Ends.{ends_at}
-use Rattle.prepare_law.specs.Requests.{WordsHold}
+use Rattle.prepare_law.specs.Requests.{WordsRise}
 use Rattle.arrive_law.specs.Awaited.{Awaits}
 use Rattle.await_law.proofs.Behind.{write_arrives}
 use Rattle.await_law.proofs.EndArrivals.{end_arrivals_keep}
@@ -110,7 +110,7 @@ pub ends_regain : EndsRegain
 ends_regain k number i old t s c y j r coherent few here message_there at code ends_it = by (r.word == old) refl
   where
     -- its own object
-    own : (q : Instr) → EndsReference y r q → slice_get k.code y.pc ≡ Some q → r.word ≡ old → Gives (λ (x : Cluster × EntryView). WordsHold x.0) (apply k (record { server = number; what = Deliver i }))
+    own : (q : Instr) → EndsReference y r q → slice_get k.code y.pc ≡ Some q → r.word ≡ old → Gives (λ (x : Cluster × EntryView). WordsRise k x.0) (apply k (record { server = number; what = Deliver i }))
     own _ (drops e) there word =
         let new = newest_there y.slots (value.Mut r) e in
         end_arrivals_keep k number i old t s c y instr.DropSlot (length (front_of y.slots)) r coherent few here message_there at there (given.dropped new.1) new.0 (inl word)
@@ -118,7 +118,7 @@ ends_regain k number i old t s c y j r coherent few here message_there at code e
     own _ (discards e) there word =
         delivered k number i old t s c y coherent few here message_there at (λ h waiting grows. by_hand.arrives k coherent few s h t y at i old c message_there waiting grows there r e word)
 
-    by : (b : Bool) → (r.word == old) ≡ b → Gives (λ (x : Cluster × EntryView). WordsHold x.0) (apply k (record { server = number; what = Deliver i }))
+    by : (b : Bool) → (r.word == old) ≡ b → Gives (λ (x : Cluster × EntryView). WordsRise k x.0) (apply k (record { server = number; what = Deliver i }))
     by true e = own j ends_it code (eqb-true r.word old e)
     by false e =
         delivered k number i old t s c y coherent few here message_there at (λ h waiting grows. holder_arrives k coherent few s h t y at i old c message_there waiting grows j code r ends_it e)

@@ -5,9 +5,13 @@ use Rattle.server_model.specs.Servers.{Cluster}
 use Rattle.server_model.specs.Clusters.{apply}
 use Rattle.type_law.specs.ClusterTypes.{IsCoherent}
 use Rattle.event_law.specs.Laws.{Gives, FewEvents}
-use Rattle.prepare_law.specs.Requests.{WordsHold}
+use Rattle.prepare_law.specs.Requests.{WordsHold, WordsRise}
 
 -- from a coherent cluster in which few events were done: after each event that has a result, its messages handed over, each object has a word, references know the words at
 -- their holders, dirty references are alone, and first words that were left are no words of today
 abbrev pub EventsKeepWords : Type 0
 EventsKeepWords = (k : Cluster) (e : Event) → IsCoherent k → FewEvents k → Gives (λ (d : Cluster × EntryView). WordsHold d.0) (apply k e)
+
+-- and words rise: each object's word is the one that it had, or wasn't issued before the event
+abbrev pub WordsRiseAlways : Type 0
+WordsRiseAlways = (k : Cluster) (e : Event) → IsCoherent k → FewEvents k → Gives (λ (d : Cluster × EntryView). WordsRise k d.0) (apply k e)

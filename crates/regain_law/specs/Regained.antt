@@ -14,15 +14,15 @@ use Rattle.server_model.specs.Clusters.{apply}
 use Rattle.type_law.specs.ClusterTypes.{IsCoherent}
 use Rattle.event_law.specs.Laws.{Gives, FewEvents}
 use Rattle.word_law.specs.Unmoved.{Delivers}
-use Rattle.prepare_law.specs.Requests.{WordsHold}
+use Rattle.prepare_law.specs.Requests.{WordsRise}
 use Rattle.finish_law.specs.Ends.{EndsReference}
 
 -- the message brings an object to a thread at an instruction that ends the reference, with its slot, from the hand, or where it is assigned over: its own, or one to which
 -- the place of its holder leads
 abbrev pub EndsRegain : Type 0
 EndsRegain = (k : Cluster) (number i old t : ℕ) (s : Server) (c : Cell) (y : ThreadState) (j : Instr) (r : MutRef) → IsCoherent k → FewEvents k → server_at k.servers number ≡ Some s → slice_get s.rest.inbox i ≡ Some (Moved old c t)
-    → thread_in s.threads t ≡ Some y → slice_get k.code y.pc ≡ Some j → EndsReference y r j → Gives (λ (x : Cluster × EntryView). WordsHold x.0) (apply k (record { server = number; what = Deliver i }))
+    → thread_in s.threads t ≡ Some y → slice_get k.code y.pc ≡ Some j → EndsReference y r j → Gives (λ (x : Cluster × EntryView). WordsRise k x.0) (apply k (record { server = number; what = Deliver i }))
 
 -- to whatever instruction a message brings an object
 abbrev pub ArrivalsKeep : Type 0
-ArrivalsKeep = (k : Cluster) (e : Event) (old : ℕ) (c : Cell) (t : ℕ) → Delivers k e (Moved old c t) → IsCoherent k → FewEvents k → Gives (λ (x : Cluster × EntryView). WordsHold x.0) (apply k e)
+ArrivalsKeep = (k : Cluster) (e : Event) (old : ℕ) (c : Cell) (t : ℕ) → Delivers k e (Moved old c t) → IsCoherent k → FewEvents k → Gives (λ (x : Cluster × EntryView). WordsRise k x.0) (apply k e)

@@ -1,6 +1,6 @@
 //! Laws of words where an object comes to the end of a mutable reference, and of each event.
 
-ghost use Rattle.regain_law.specs.Events.{EventsKeepWords};
+ghost use Rattle.regain_law.specs.Events.{EventsKeepWords, WordsRiseAlways};
 ghost use Rattle.regain_law.specs.Regained.{ArrivalsKeep, EndsRegain};
 
 /// Where the object comes of a mutable reference that ends, or one to which the place of its holder leads, each object has a word afterwards, references know the words at
@@ -15,4 +15,9 @@ pub fn arrivals_keep_words()
 /// that leaves for another server.
 pub fn events_keep_words()
     ensures { EventsKeepWords }
+{}
+
+/// And words rise: after each event the word of each object is the one that it had before it, or wasn't issued then.
+pub fn words_rise()
+    ensures { WordsRiseAlways }
 {}

@@ -3,4 +3,4 @@
 
 mod laws;
 
-pub use laws::{arrivals_keep_words, events_keep_words};
+pub use laws::{arrivals_keep_words, events_keep_words, words_rise};

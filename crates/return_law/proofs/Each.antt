@@ -28,7 +28,8 @@ use Rattle.event_law.specs.Laws.{Gives, FewEvents}
 use Rattle.event_law.proofs.Proved.{IsProvedKind}
 use Rattle.event_law.proofs.Results.{weaker}
 use Rattle.word_law.specs.Unmoved.{LeavesWords}
-use Rattle.prepare_law.specs.Requests.{WordsHold}
+use Rattle.prepare_law.specs.Requests.{WordsRise}
+use Rattle.prepare_law.proofs.Rising.{rise_itself}
 use Rattle.prepare_law.proofs.Asking.{found_number}
 use Rattle.carry_law.specs.Steps.{drops as drops_owned, drops_none, owns, gone}
 use Rattle.carry_law.proofs.Assigns.{assigns_over}
@@ -48,7 +49,7 @@ use Rattle.return_law.proofs.Ends.{ends_keep_words}
 
 module _ (k : Cluster) (number t : ℕ) (s : Server) (y : ThreadState) (coherent : IsCoherent k) (few : FewEvents k) (here_it : server_at k.servers number ≡ Some s) (at : thread_in s.threads t ≡ Some y) where
   abbrev Goal : Type 0
-  Goal = Gives (λ (d : Cluster × EntryView). WordsHold d.0) (apply k (record { server = number; what = Step t }))
+  Goal = Gives (λ (d : Cluster × EntryView). WordsRise k d.0) (apply k (record { server = number; what = Step t }))
 
   abbrev start : Hand
   start = record { work = begin_work s.rest; thread = y }
@@ -56,14 +57,14 @@ module _ (k : Cluster) (number t : ℕ) (s : Server) (y : ThreadState) (coherent
   -- what leaves the words keeps them
   left : Gives (λ (d : Cluster × EntryView). LeavesWords k d.0) (apply k (record { server = number; what = Step t })) → Goal
   left g =
-      weaker (λ (d : Cluster × EntryView). LeavesWords k d.0) (λ (d : Cluster × EntryView). WordsHold d.0) (apply k (record { server = number; what = Step t })) g
-      (λ d w. holds_on w (record { has_words = coherent.sound.words.have_words; first_at_holder = coherent.sound.words.first_at_holder; dirty_alone = coherent.sound.words.dirty_alone; past_words = coherent.sound.words.past_words }))
+      weaker (λ (d : Cluster × EntryView). LeavesWords k d.0) (λ (d : Cluster × EntryView). WordsRise k d.0) (apply k (record { server = number; what = Step t })) g
+      (λ d w. holds_on w (rise_itself k coherent.sound))
 
   -- what can't be done, or can't be by its types
   refused : (i : Instr) → IsProvedKind (instr_kind i) → slice_get k.code y.pc ≡ Some i → ((server : server_at k.servers s.rest.number ≡ Some s) (on : enabled k.options s (Step t) ≡ true) → Gives (λ (d : Stepped). ⊥) (step k.options.servers i (record { work = begin_work s.rest; thread = y }))) → Goal
   refused i kind code none =
-      subst (λ m. server_at k.servers m ≡ Some s → Gives (λ (d : Cluster × EntryView). WordsHold d.0) (apply k (record { server = m; what = Step t }))) (found_number number k.servers s here_it)
-      (λ h. kept_where k s t coherent few h (λ on. step_by (λ a b. WordsHold b) k coherent.sound s h t y at i code (λ h2. ⊥) (λ h2 ok f. absurd f) (ok_steps k coherent s h t y at on i kind) (none h on))) here_it
+      subst (λ m. server_at k.servers m ≡ Some s → Gives (λ (d : Cluster × EntryView). WordsRise k d.0) (apply k (record { server = m; what = Step t }))) (found_number number k.servers s here_it)
+      (λ h. kept_where k s t coherent few h (λ on. step_by (λ a b. WordsRise k b) k coherent.sound s h t y at i code (λ h2. ⊥) (λ h2 ok f. absurd f) (ok_steps k coherent s h t y at on i kind) (none h on))) here_it
 
   -- where nothing comes of a step
   abbrev None_of : Option Stepped → Type 0

@@ -45,7 +45,7 @@ use Rattle.event_law.proofs.Proved.{IsProvedKind}
 use Rattle.event_law.proofs.Results.{weaker}
 use Rattle.event_law.proofs.Values.{last_split}
 use Rattle.stay_law.proofs.Steps.{TakesNoneHere}
-use Rattle.prepare_law.specs.Requests.{WordsHold}
+use Rattle.prepare_law.specs.Requests.{WordsRise}
 use Rattle.prepare_law.proofs.Hands.{put, places, stands}
 use Rattle.prepare_law.proofs.Asking.{found_number}
 use Rattle.carry_law.proofs.Hands.{Ok, step_by}
@@ -92,7 +92,7 @@ module _ (k : Cluster) (coherent : IsCoherent k) (few : FewEvents k) (s : Server
 
   -- an end of the event: the words hold there
   abbrev Left : Hand → Type 0
-  Left h = IsOk h → WordsHold (P h)
+  Left h = IsOk h → WordsRise k (P h)
 
   -- what stands in the hand stands there in its cluster
   here_now : (h : Hand) → IsOk h → (from : Here) (l : Location) (v : Value) → located h.thread.number from ≡ Some l → here h.thread from ≡ Some v → value_in (sight (P h)).ground l ≡ Some v
@@ -295,7 +295,7 @@ module _ (k : Cluster) (coherent : IsCoherent k) (few : FewEvents k) (s : Server
 
   -- so the words hold with the server put back
   kept : (i : Instr) → IsProvedKind (instr_kind i) → slice_get k.code y.pc ≡ Some i → Gives (λ (d : Stepped). Left d.hand) (step k.options.servers i start) → Gives (Kept k s) (does k.code k.options s (Step t))
-  kept i kind code m = step_by (λ a b. WordsHold b) k coherent.sound s here_it t y at i code Left (λ h ok w. w ok) (ok_steps k coherent s here_it t y at on i kind) m
+  kept i kind code m = step_by (λ a b. WordsRise k b) k coherent.sound s here_it t y at i code Left (λ h ok w. w ok) (ok_steps k coherent s here_it t y at on i kind) m
 
   -- the newest slot goes
   drops_there : (r : MutRef) → last_of y.slots ≡ Some (value.Mut r) → slice_get k.code y.pc ≡ Some instr.DropSlot → Gives (Kept k s) (does k.code k.options s (Step t))
@@ -367,5 +367,5 @@ module _ (k : Cluster) (coherent : IsCoherent k) (few : FewEvents k) (s : Server
 -- THE LAW
 pub ends_keep_words : EndsKeepWords
 ends_keep_words k number t s y i r coherent few here_it at code ends_it =
-    subst (λ m. server_at k.servers m ≡ Some s → Gives (λ (d : Cluster × EntryView). WordsHold d.0) (apply k (record { server = m; what = Step t }))) (found_number number k.servers s here_it)
+    subst (λ m. server_at k.servers m ≡ Some s → Gives (λ (d : Cluster × EntryView). WordsRise k d.0) (apply k (record { server = m; what = Step t }))) (found_number number k.servers s here_it)
     (λ h. kept_where k s t coherent few h (λ on. all_there k coherent few s h t y at on r i ends_it code)) here_it

@@ -12,12 +12,12 @@ use Rattle.server_model.specs.Work.{thread_in}
 use Rattle.server_model.specs.Clusters.{apply}
 use Rattle.type_law.specs.ClusterTypes.{IsCoherent}
 use Rattle.event_law.specs.Laws.{Gives, FewEvents}
-use Rattle.prepare_law.specs.Requests.{WordsHold}
+use Rattle.prepare_law.specs.Requests.{WordsRise}
 
 -- from a coherent cluster the words hold once the messages of a step at that instruction are handed over, whether it does its plain step or asks
 abbrev pub StepsKeepWords : Instr → Type 0
 StepsKeepWords i = (k : Cluster) (number t : ℕ) (s : Server) (y : ThreadState) → IsCoherent k → FewEvents k → server_at k.servers number ≡ Some s → thread_in s.threads t ≡ Some y → slice_get k.code y.pc ≡ Some i
-    → Gives (λ (d : Cluster × EntryView). WordsHold d.0) (apply k (record { server = number; what = Step t }))
+    → Gives (λ (d : Cluster × EntryView). WordsRise k d.0) (apply k (record { server = number; what = Step t }))
 
 -- a discard, and the drop of the newest slot
 abbrev pub DiscardsKeepWords : Type 0

@@ -10,10 +10,10 @@ use Rattle.server_model.specs.Work.{thread_in}
 use Rattle.server_model.specs.Clusters.{apply}
 use Rattle.type_law.specs.ClusterTypes.{IsCoherent}
 use Rattle.event_law.specs.Laws.{Gives, FewEvents}
-use Rattle.prepare_law.specs.Requests.{WordsHold}
+use Rattle.prepare_law.specs.Requests.{WordsRise}
 use Rattle.finish_law.specs.Ends.{EndsReference}
 
 -- the step of a thread that ends the reference, whether it does its plain step or asks: the words hold once its messages are handed over
 abbrev pub EndsKeepWords : Type 0
 EndsKeepWords = (k : Cluster) (number t : ℕ) (s : Server) (y : ThreadState) (i : Instr) (r : MutRef) → IsCoherent k → FewEvents k → server_at k.servers number ≡ Some s → thread_in s.threads t ≡ Some y → slice_get k.code y.pc ≡ Some i → EndsReference y r i
-    → Gives (λ (d : Cluster × EntryView). WordsHold d.0) (apply k (record { server = number; what = Step t }))
+    → Gives (λ (d : Cluster × EntryView). WordsRise k d.0) (apply k (record { server = number; what = Step t }))

@@ -29,7 +29,7 @@ use Rattle.stay_law.proofs.Alike.{Alike}
 use Rattle.stay_law.proofs.Sites.{handed_over}
 use Rattle.stay_law.proofs.Steps.{TakesNoneHere}
 use Rattle.write_law.proofs.Route.{a_slot, begins}
-use Rattle.prepare_law.specs.Requests.{WordsHold}
+use Rattle.prepare_law.specs.Requests.{WordsRise}
 use Rattle.prepare_law.proofs.Hands.{places}
 use Rattle.prepare_law.proofs.Asking.{found_number}
 use Rattle.rewrite_law.specs.Writing.{WritesThrough, assigns, moves, WritesThatAsk}
@@ -42,7 +42,7 @@ use Rattle.rewrite_law.proofs.Ways.{takes_none, cell_there, place, route, writte
 
 -- the words hold with the server put back, where the entry is such
 abbrev pub There : (EntryView → Type 0) → Cluster → Server → Server × EntryView → Type 0
-There Q k s r = Q r.1 → WordsHold (record k { servers = with_server k.servers s.rest.number r.0 }) × HasPlaces (record k { servers = with_server k.servers s.rest.number r.0 })
+There Q k s r = Q r.1 → WordsRise k (record k { servers = with_server k.servers s.rest.number r.0 }) × HasPlaces (record k { servers = with_server k.servers s.rest.number r.0 })
 
 module _ (k : Cluster) (coherent : IsCoherent k) (few : FewEvents k) (s : Server) (here : server_at k.servers s.rest.number ≡ Some s) (t : ℕ) (y : ThreadState) (at : thread_in s.threads t ≡ Some y)
     (on : enabled k.options s (Step t) ≡ true) (i : Instr) (code : slice_get k.code y.pc ≡ Some i) (w : Lval) (d : ℕ) (through : WritesThrough i w d) where
@@ -105,16 +105,16 @@ module _ (k : Cluster) (coherent : IsCoherent k) (few : FewEvents k) (s : Server
 -- IN ITS CLUSTER
 
 -- what is shown of a cluster before messages are handed over
-record Before (c : Cluster) : Type 0 where
+record Before (k c : Cluster) : Type 0 where
   cluster : Cluster
-  words : WordsHold cluster
+  words : WordsRise k cluster
   places : HasPlaces cluster
   same : c.code ≡ cluster.code
   alike : Alike cluster.code (things_of cluster) (things_of c)
 
 handed : (k : Cluster) (s : Server) (Q : EntryView → Type 0) → server_at k.servers s.rest.number ≡ Some s → (o : Option (Server × EntryView)) → Gives (There Q k s) o
     → Gives (λ (r : Server × EntryView). GoTo (with_server k.servers s.rest.number r.0) (drop_first (length s.rest.outbox) r.0.rest.outbox)) o
-    → Gives (λ (d : Cluster × EntryView). Q d.1 → Before d.0) (option_map (λ r. (record k { servers = hand_over_newer s.rest.number (length s.rest.outbox) r.0 k.servers }, r.1)) o)
+    → Gives (λ (d : Cluster × EntryView). Q d.1 → Before k d.0) (option_map (λ r. (record k { servers = hand_over_newer s.rest.number (length s.rest.outbox) r.0 k.servers }, r.1)) o)
 handed k s Q here None a g = tt
 handed k s Q here (Some r) a g = λ q.
     let n = s.rest.number in
@@ -129,19 +129,19 @@ handed k s Q here (Some r) a g = λ q.
 
 -- so the words hold once messages are handed over
 pub kept_at : (k : Cluster) (s : Server) (a : What) (Q : EntryView → Type 0) → IsCoherent k → FewEvents k → server_at k.servers s.rest.number ≡ Some s → (enabled k.options s a ≡ true → Gives (There Q k s) (does k.code k.options s a))
-    → Gives (λ (d : Cluster × EntryView). Q d.1 → WordsHold d.0) (apply k (record { server = s.rest.number; what = a }))
+    → Gives (λ (d : Cluster × EntryView). Q d.1 → WordsRise k d.0) (apply k (record { server = s.rest.number; what = a }))
 kept_at k s a Q coherent few h go =
-    both_give (λ (d : Cluster × EntryView). Q d.1 → Before d.0) (λ (d : Cluster × EntryView). HasPlaces d.0) (λ (d : Cluster × EntryView). Q d.1 → WordsHold d.0) (apply k (record { server = s.rest.number; what = a }))
-    (subst (λ o. Gives (λ (d : Cluster × EntryView). Q d.1 → Before d.0) (then_some o (λ x. option_map (λ d. (record k { servers = hand_over_newer s.rest.number (length x.rest.outbox) d.0 k.servers }, d.1)) (done_at k a x)))) (sym h)
+    both_give (λ (d : Cluster × EntryView). Q d.1 → Before k d.0) (λ (d : Cluster × EntryView). HasPlaces d.0) (λ (d : Cluster × EntryView). Q d.1 → WordsRise k d.0) (apply k (record { server = s.rest.number; what = a }))
+    (subst (λ o. Gives (λ (d : Cluster × EntryView). Q d.1 → Before k d.0) (then_some o (λ x. option_map (λ d. (record k { servers = hand_over_newer s.rest.number (length x.rest.outbox) d.0 k.servers }, d.1)) (done_at k a x)))) (sym h)
     (handed k s Q h (done_at k a s) (test_gives (There Q k s) (enabled k.options s a) (does k.code k.options s a) go) (each_event_sends k (record { server = s.rest.number; what = a }) coherent.sound few s h)))
     (applied_part HasPlaces (λ c g. record { numbers_differ = g.numbers_differ; home_of_each = g.home_of_each; owner_of_each = g.owner_of_each }) k (record { server = s.rest.number; what = a }) coherent.sound few)
     (λ d b c q. (let m = b q in holds_alike m.cluster d.0 m.places c m.same m.alike m.words))
 
 pub kept_where : (k : Cluster) (s : Server) (t : ℕ) (Q : EntryView → Type 0) → IsCoherent k → FewEvents k → server_at k.servers s.rest.number ≡ Some s → (enabled k.options s (Step t) ≡ true → Gives (There Q k s) (does k.code k.options s (Step t)))
-    → Gives (λ (d : Cluster × EntryView). Q d.1 → WordsHold d.0) (apply k (record { server = s.rest.number; what = Step t }))
+    → Gives (λ (d : Cluster × EntryView). Q d.1 → WordsRise k d.0) (apply k (record { server = s.rest.number; what = Step t }))
 kept_where k s t Q coherent few h go = kept_at k s (Step t) Q coherent few h go
 
 pub writes_that_ask : WritesThatAsk
 writes_that_ask k number t s y i w d coherent few here at code through =
-    subst (λ n. server_at k.servers n ≡ Some s → Gives (λ (x : Cluster × EntryView). x.1.done ≡ None → WordsHold x.0) (apply k (record { server = n; what = Step t }))) (found_number number k.servers s here)
+    subst (λ n. server_at k.servers n ≡ Some s → Gives (λ (x : Cluster × EntryView). x.1.done ≡ None → WordsRise k x.0) (apply k (record { server = n; what = Step t }))) (found_number number k.servers s here)
     (λ h. kept_where k s t (λ v. v.done ≡ None) coherent few h (λ on. server_asks k coherent few s h t y at on i code w d through)) here

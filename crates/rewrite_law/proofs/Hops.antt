@@ -1,5 +1,5 @@
 -- One hop of a write that is made ready: a box gets the next colour, or its object another address, and the reference that led there is marked.
-use Rattle.std.proofs.Common.{◌≡◌, inl, ℕ, ◌+◌, ◌<◌, ◌≤◌, ◌^◌, ◌&&◌, nat_lt, Bool, true, false, if◌then◌else◌, List, ◌++◌, Option, Some, None, option_map, refl, sym, ap, subst, ◌∙◌, arith, length}
+use Rattle.std.proofs.Common.{◌≡◌, inl, inr, ⊎_elim, ℕ, ◌+◌, ◌<◌, ◌≤◌, ◌^◌, ◌&&◌, nat_lt, Bool, true, false, if◌then◌else◌, List, ◌++◌, Option, Some, None, option_map, refl, sym, ap, subst, ◌∙◌, arith, length}
 use Rattle.std.specs.Prelude.{⊤, slice_get}
 use Rattle.std.proofs.lemmas.Bool.Decides.{nat_tests}
 use Rattle.fr_base.specs.declared.name.ObjNo.{ObjNo}
@@ -24,7 +24,7 @@ use Rattle.heap_law.specs.Things.{Location, at_slot, in_cell as in_object, lies,
 use Rattle.heap_law.specs.Follow.{value_in, value_of}
 use Rattle.heap_law.specs.Sight.{Pointer, pointers_in, taken_pointers, sight, issued}
 use Rattle.heap_law.specs.Weights.{cells}
-use Rattle.heap_law.specs.Words.{HasWords, LeadsTo}
+use Rattle.heap_law.specs.Words.{all_pointers, IsStale, HasWords, LeadsTo}
 use Rattle.heap_law.proofs.Words.{itself}
 use Rattle.type_law.specs.ClusterTypes.{IsCoherent}
 use Rattle.path_law.proofs.InState.{only_one}
@@ -178,7 +178,7 @@ module _ (k : Cluster) (coherent : IsCoherent k) (s : Server) (here : server_at 
   -- a word of the object, which wasn't issued when the event began, put in the pointer through which it is written
   worded : (h h2 : Hand) (st : St h) (g2 : O h2) (l : Location) (o : ObjNo) (w : ℕ) → IsWritten k l o → issued (sight k) w ≡ false → h2.thread.number ≡ h.thread.number → Reworded (P h) (P h2) l o w → Onward k (P h2)
   worded h h2 st g2 l o w written new named r =
-      onward_reworded k (P h) (P h2) l o w begun (spread h st.ok) (spread h2 g2) st.onward written (no_first k (P h) w o coherent.sound.words.are_issued new (spread h st.ok) st.onward) r
+      onward_reworded k (P h) (P h2) l o w begun (spread h st.ok) (spread h2 g2) st.onward written (inr new) (no_first k (P h) w o coherent.sound.words.are_issued new (spread h st.ok) st.onward) r
 
   -- the next colour of the object's first word wasn't issued
   tint_unissued : (p : BoxPtr) → p.word ≡ first_words.word p.object → Lies k p.object → issued (sight k) (next_word p.word) ≡ false
@@ -187,7 +187,7 @@ module _ (k : Cluster) (coherent : IsCoherent k) (s : Server) (here : server_at 
   -- the mark of the reference that led there
   pub marked : (h : Hand) (v : ℕ) (q : Option ℕ) → St h → Later s.rest.partition h.work.rest.partition → Through h.thread q → O (note_write q h) → Walk (note_write q h) (in_cell v None)
   marked h v None st l through ok = record { state = st; later = l; through = tt }
-  marked h v (Some i) st l through ok = record { state = record { ok = ok; onward = onward_reworded k (P h) (P h2) m r.object r.word begun (spread h st.ok) (spread h2 ok) st.onward written no_past reworded; untaken = st.untaken }; later = l; through = tt }
+  marked h v (Some i) st l through ok = record { state = record { ok = ok; onward = onward_reworded k (P h) (P h2) m r.object r.word begun (spread h st.ok) (spread h2 ok) st.onward written (inl now_its) no_past reworded; untaken = st.untaken }; later = l; through = tt }
     where
       h2 : Hand
       h2 = note_write (Some i) h
@@ -213,11 +213,18 @@ module _ (k : Cluster) (coherent : IsCoherent k) (s : Server) (here : server_at 
       pointer : Pointer
       pointer = record { at = Some m; word = r.word; object = r.object }
 
+      among : Among pointer (all_pointers (sight (P h)))
+      among = among_first pointer (pointers_in (things_of (P h))) (taken_pointers (sight (P h)).code (sight (P h)).ground (sight (P h)).ground.threads) (told (P h) m (value.Mut r) pointer there (inl refl))
+
+      fresh : IsStale (sight (P h)) (Some m) → ⊥
+      fresh = st.onward.fresh m r.object written.sole written.fresh
+
+      -- it has its object's word
+      now_its : r.word ≡ st.onward.words.has_words.word r.object
+      now_its = ⊎_elim (λ (s2 : IsStale (sight (P h)) (Some m)). absurd (fresh s2)) (λ (f : r.word ≡ st.onward.words.has_words.word r.object). f) (st.onward.words.has_words.same pointer among)
+
       no_past : IsNoFirst (P h) r.object r.word
-      no_past =
-          are_no_firsts.present (P h) pointer st.onward.words.past_words
-          (among_first pointer (pointers_in (things_of (P h))) (taken_pointers (sight (P h)).code (sight (P h)).ground (sight (P h)).ground.threads) (told (P h) m (value.Mut r) pointer there (inl refl)))
-          (st.onward.fresh m r.object written.sole written.fresh)
+      no_past = are_no_firsts.present (P h) pointer st.onward.words.past_words among fresh
 
   -- A BOX
 

@@ -1,5 +1,5 @@
 -- What each small step of a write hands on, beside the cluster from which its event began.
-use Rattle.std.proofs.Common.{◌≡◌, ◌≤◌, ⊎_elim, ℕ, false, true, Option, Some, None, refl, sym, ap, ◌∙◌, arith}
+use Rattle.std.proofs.Common.{◌≡◌, ◌≤◌, ◌⊎◌, ⊎_elim, ℕ, false, true, Option, Some, None, refl, sym, ap, ◌∙◌, arith}
 use Rattle.fr_base.specs.declared.name.ObjNo.{ObjNo}
 use Rattle.heap_partition.specs.declared.value.Cell.{Cell}
 use Rattle.mut_borrow.specs.declared.mutable.MutRef.{MutRef}
@@ -31,7 +31,8 @@ use Rattle.word_law.proofs.Only.{are_only}
 use Rattle.word_law.proofs.Unmoved.{stale_at, untouched_stays}
 use Rattle.stay_law.proofs.Alike.{Alike}
 use Rattle.stay_law.proofs.Seen.{seen_alike}
-use Rattle.prepare_law.specs.Requests.{WordsHold}
+use Rattle.prepare_law.specs.Requests.{WordsRise}
+use Rattle.prepare_law.proofs.Rising.{rise_itself, rise_left, rise_changed}
 
 -- the object lies at some address
 pub record Lies (k : Cluster) (o : ObjNo) : Type 0 where
@@ -47,14 +48,14 @@ pub record IsWritten (k : Cluster) (l : Location) (o : ObjNo) : Type 0 where
 
 -- the words hold; all is as it was but for words, marks and pins; no pointer through which an object is written becomes stale; and what lay lies somewhere
 pub record Onward (k z : Cluster) : Type 0 where
-  pub words : WordsHold z
+  pub words : WordsRise k z
   pub outlines : SameOutlines k z
   pub fresh : (l : Location) (o : ObjNo) → IsSole k l o → (IsStale (sight k) (Some l) → ⊥) → IsStale (sight z) (Some l) → ⊥
   pub lies_on : (o : ObjNo) → Lies k o → Lies z o
 
 pub onward_itself : (k : Cluster) → IsSound k → Onward k k
 onward_itself k s = record {
-  words = record { has_words = s.words.have_words; first_at_holder = s.words.first_at_holder; dirty_alone = s.words.dirty_alone; past_words = s.words.past_words };
+  words = rise_itself k s;
   outlines = record { stands = λ l. refl; takes = λ t h. record { taking = t; among = h; thread = refl; place = refl }; standing = λ p e h. record { pointer = p; among = h; at = e; object = refl } };
   fresh = λ l o u f. f;
   lies_on = λ o l. l;
@@ -62,10 +63,10 @@ onward_itself k s = record {
 
 -- WHERE WORDS SEE THE SAME
 
-pub holds_alike : (x z : Cluster) → HasPlaces x → HasPlaces z → z.code ≡ x.code → Alike x.code (things_of x) (things_of z) → WordsHold x → WordsHold z
+pub holds_alike : {k : Cluster} (x z : Cluster) → HasPlaces x → HasPlaces z → z.code ≡ x.code → Alike x.code (things_of x) (things_of z) → WordsRise k x → WordsRise k z
 holds_alike x z c d same a w =
     let stays : LeavesWords x z = untouched_stays x z c d (seen_alike x z c d same a) in
-    record { has_words = (stays.words w.has_words).after; first_at_holder = stays.holders w.first_at_holder; dirty_alone = stays.dirty w.dirty_alone; past_words = stays.past w.past_words }
+    rise_left stays w
 
 -- and each location has what it had
 pub onward_alike : (k x z : Cluster) → HasPlaces x → HasPlaces z → z.code ≡ x.code → ((l : Location) → value_in (sight z).ground l ≡ value_in (sight x).ground l) → Alike x.code (things_of x) (things_of z) → Onward k x → Onward k z
@@ -129,14 +130,11 @@ no_first k x w o all new d s q m e n f =
     absurd cc
 
 -- wherever the object is
-pub onward_so : (k x z : Cluster) (l : Location) (o : ObjNo) (w : ℕ) → HasPlaces k → HasPlaces x → HasPlaces z → Onward k x → IsSole k l o → (IsStale (sight k) (Some l) → ⊥) → IsNoFirst x o w → Reworded x z l o w → Onward k z
-onward_so k x z l o w b c d t sole fresh new r = record {
-  words = record {
-    has_words = (words_go_on x z l o w rewrites t.words.has_words).after;
-    first_at_holder = holders_go_on x z l o w rewrites;
-    dirty_alone = dirty_goes_on x z l o w rewrites t.words.dirty_alone;
-    past_words = past_goes_on x z l o w rewrites new t.words.past_words;
-  };
+pub onward_so : (k x z : Cluster) (l : Location) (o : ObjNo) (w : ℕ) → HasPlaces k → HasPlaces x → HasPlaces z → (t : Onward k x) → IsSole k l o → (IsStale (sight k) (Some l) → ⊥) → (w ≡ t.words.has_words.word o) ⊎ (issued (sight k) w ≡ false) → IsNoFirst x o w → Reworded x z l o w → Onward k z
+onward_so k x z l o w b c d t sole fresh risen new r = record {
+  words =
+      rise_changed k x z o w t.words (words_go_on x z l o w rewrites t.words.has_words) risen (holders_go_on x z l o w rewrites) (dirty_goes_on x z l o w rewrites t.words.dirty_alone)
+      (past_goes_on x z l o w rewrites new t.words.past_words);
   outlines = soles_stay.chain k x z t.outlines (soles_stay.reworded x z l o w r);
   fresh = λ m p s f. fresh_go_on x z l o w rewrites m p (soles_stay.soles k x m p b c t.outlines s) (t.fresh m p s f);
   lies_on = λ p q. lies_reworded x z l o w c r p (t.lies_on p q);
@@ -152,5 +150,5 @@ onward_so k x z l o w b c d t sole fresh new r = record {
       reworded = r;
     }
 
-pub onward_reworded : (k x z : Cluster) (l : Location) (o : ObjNo) (w : ℕ) → HasPlaces k → HasPlaces x → HasPlaces z → Onward k x → IsWritten k l o → IsNoFirst x o w → Reworded x z l o w → Onward k z
-onward_reworded k x z l o w b c d t h new r = onward_so k x z l o w b c d t h.sole h.fresh new r
+pub onward_reworded : (k x z : Cluster) (l : Location) (o : ObjNo) (w : ℕ) → HasPlaces k → HasPlaces x → HasPlaces z → (t : Onward k x) → IsWritten k l o → (w ≡ t.words.has_words.word o) ⊎ (issued (sight k) w ≡ false) → IsNoFirst x o w → Reworded x z l o w → Onward k z
+onward_reworded k x z l o w b c d t h risen new r = onward_so k x z l o w b c d t h.sole h.fresh risen new r

@@ -36,7 +36,7 @@ use Rattle.stay_law.proofs.Servers.{held_if, sends}
 use Rattle.stay_law.proofs.Threads.{slots_of, temps_of, thread_alike, TakesNone}
 use Rattle.stay_law.proofs.Sites.{HandAlike, put_alike, begun_alike, ends_alike, servers_alike, replaced}
 use Rattle.stay_law.proofs.Steps.{TakesNoneHere, hand_itself}
-use Rattle.prepare_law.specs.Requests.{WordsHold}
+use Rattle.prepare_law.specs.Requests.{WordsRise}
 use Rattle.prepare_law.proofs.Hands.{Ok, put, places, stands, first_hand}
 use Rattle.rewrite_law.proofs.Onward.{Onward, onward_itself, onward_alike, holds_alike}
 
@@ -154,7 +154,7 @@ module _ (k : Cluster) (coherent : IsCoherent k) (s : Server) (here : server_at 
   -- the words hold, where something was asked for
   pub record Asked (h : Hand) : Type 0 where
     pub ok : Fits h
-    pub words : WordsHold (P h)
+    pub words : WordsRise k (P h)
 
   pub hands_alike : (h h2 : Hand) → Fits h → Fits h2 → HandAlike k.code n [] h h2 → Alike k.code (things_of (P h)) (things_of (P h2))
   hands_alike h h2 g g2 a =

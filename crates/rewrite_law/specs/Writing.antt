@@ -12,7 +12,7 @@ use Rattle.server_model.specs.Work.{thread_in}
 use Rattle.server_model.specs.Clusters.{apply}
 use Rattle.type_law.specs.ClusterTypes.{IsCoherent}
 use Rattle.event_law.specs.Laws.{Gives, FewEvents}
-use Rattle.prepare_law.specs.Requests.{WordsHold}
+use Rattle.prepare_law.specs.Requests.{WordsRise}
 
 -- an instruction that assigns or moves out through so many stars and one
 pub data WritesThrough : Instr → Lval → ℕ → Type 0 where
@@ -22,4 +22,4 @@ pub data WritesThrough : Instr → Lval → ℕ → Type 0 where
 -- its step, where it does no plain step: the words hold once its messages are handed over
 abbrev pub WritesThatAsk : Type 0
 WritesThatAsk = (k : Cluster) (number t : ℕ) (s : Server) (y : ThreadState) (i : Instr) (w : Lval) (d : ℕ) → IsCoherent k → FewEvents k → server_at k.servers number ≡ Some s → thread_in s.threads t ≡ Some y → slice_get k.code y.pc ≡ Some i → WritesThrough i w d
-    → Gives (λ (x : Cluster × EntryView). x.1.done ≡ None → WordsHold x.0) (apply k (record { server = number; what = Step t }))
+    → Gives (λ (x : Cluster × EntryView). x.1.done ≡ None → WordsRise k x.0) (apply k (record { server = number; what = Step t }))

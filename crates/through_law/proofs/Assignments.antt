@@ -25,7 +25,7 @@ use Rattle.type_law.specs.ClusterTypes.{IsCoherent}
 use Rattle.path_law.proofs.Sole.{some_is}
 use Rattle.event_law.specs.Laws.{Gives, FewEvents}
 use Rattle.stay_law.proofs.Steps.{TakesNoneHere}
-use Rattle.prepare_law.specs.Requests.{WordsHold}
+use Rattle.prepare_law.specs.Requests.{WordsRise}
 use Rattle.prepare_law.proofs.Hands.{put}
 use Rattle.carry_law.proofs.Hands.{Together, each_together, together_chain, puts_alike}
 use Rattle.carry_law.proofs.Places.{set_twice}
@@ -210,7 +210,7 @@ module _ (k : Cluster) (coherent : IsCoherent k) (few : FewEvents k) (s : Server
         abbrev over_it : Hand
         over_it = record h2 { thread = record h2.thread { temps = ts; slots = slice_set h2.thread.slots m (value.Own v) } }
 
-        words : WordsHold (P over_it)
+        words : WordsRise k (P over_it)
         words = hold_on (filled_so k coherent s here t y at h2 ok2 free st_here.untaken firsts root m gone v ts (op2 ts op)) (hold_on (without_so k coherent s here t y at h st_here free m u stood alone) st_here.onward.words)
 
         over_thread : (working (give_up u) put_there).thread ≡ over_it.thread

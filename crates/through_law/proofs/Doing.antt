@@ -34,7 +34,8 @@ use Rattle.event_law.proofs.RulesKeep.{sums_kept, sums_spend}
 use Rattle.event_law.proofs.Steps.{step_keeps}
 use Rattle.stay_law.proofs.Sites.{HandAlike}
 use Rattle.stay_law.proofs.Steps.{TakesNoneHere, settles}
-use Rattle.prepare_law.specs.Requests.{WordsHold}
+use Rattle.prepare_law.specs.Requests.{WordsRise}
+use Rattle.prepare_law.proofs.Rising.{rise_left}
 use Rattle.prepare_law.proofs.Hands.{put, places, first_hand}
 use Rattle.prepare_law.proofs.Asking.{found_number}
 use Rattle.carry_law.proofs.Hands.{Together, each_together, together_chain, puts_alike}
@@ -48,8 +49,8 @@ use Rattle.rewrite_law.proofs.Hops.{Walk, Mine}
 use Rattle.rewrite_law.proofs.Ways.{takes_none, cell_there, place, route}
 use Rattle.rewrite_law.proofs.Asking.{There, steps, followed, kept_where}
 
-pub hold_on : {a b : Cluster} → LeavesWords a b → WordsHold a → WordsHold b
-hold_on p w = record { has_words = (p.words w.has_words).after; first_at_holder = p.holders w.first_at_holder; dirty_alone = p.dirty w.dirty_alone; past_words = p.past w.past_words }
+pub hold_on : {k a b : Cluster} → LeavesWords a b → WordsRise k a → WordsRise k b
+hold_on p w = rise_left p w
 
 -- no gift stands at such an instruction
 free_by : (i : Instr) (w : Lval) (d : ℕ) (g : Option Owned) → WritesThrough i w d → GiftFits i g → g ≡ None
@@ -91,7 +92,7 @@ module _ (k : Cluster) (coherent : IsCoherent k) (few : FewEvents k) (s : Server
   -- a hand that words see as one in which they hold
   pub record Holds (h : Hand) : Type 0 where
     pub reached : Hand
-    pub words : WordsHold (P reached)
+    pub words : WordsRise k (P reached)
     pub fits : O reached
     pub same : Together k.code n reached h
     pub untaken : TakesNoneHere k.code h.thread
@@ -106,7 +107,7 @@ module _ (k : Cluster) (coherent : IsCoherent k) (few : FewEvents k) (s : Server
 
   -- what is kept of words
   abbrev Ends : Stepped → Type 0
-  Ends x = HasPlaces (P x.hand) → WordsHold (P x.hand)
+  Ends x = HasPlaces (P x.hand) → WordsRise k (P x.hand)
 
   -- the step is done
   over : (r : Option Hand) → Gives Holds r → Gives Ends (committed (goes_on r))
@@ -157,7 +158,7 @@ module _ (k : Cluster) (coherent : IsCoherent k) (few : FewEvents k) (s : Server
 -- IN ITS CLUSTER
 
 pub kept_so : (k : Cluster) (number t : ℕ) (s : Server) (y : ThreadState) (i : Instr) (w : Lval) (d : ℕ) (coherent : IsCoherent k) (few : FewEvents k) → server_at k.servers number ≡ Some s → (at : thread_in s.threads t ≡ Some y) → (code : slice_get k.code y.pc ≡ Some i) → (through : WritesThrough i w d)
-    → ((here : server_at k.servers s.rest.number ≡ Some s) (on : enabled k.options s (Step t) ≡ true) → Does k coherent few s here t y at on i code w d through) → Gives (λ (x : Cluster × EntryView). WordsHold x.0) (apply k (record { server = number; what = Step t }))
+    → ((here : server_at k.servers s.rest.number ≡ Some s) (on : enabled k.options s (Step t) ≡ true) → Does k coherent few s here t y at on i code w d through) → Gives (λ (x : Cluster × EntryView). WordsRise k x.0) (apply k (record { server = number; what = Step t }))
 kept_so k number t s y i w d coherent few here at code through go =
-    subst (λ n. server_at k.servers n ≡ Some s → Gives (λ (x : Cluster × EntryView). WordsHold x.0) (apply k (record { server = n; what = Step t }))) (found_number number k.servers s here)
-    (λ h. gives_all (λ (x : Cluster × EntryView). WordsHold x.0) (apply k (record { server = s.rest.number; what = Step t })) (kept_where k s t (λ v. ⊤) coherent few h (λ on. server_so k coherent few s h t y at on i code w d through (go h on)))) here
+    subst (λ n. server_at k.servers n ≡ Some s → Gives (λ (x : Cluster × EntryView). WordsRise k x.0) (apply k (record { server = n; what = Step t }))) (found_number number k.servers s here)
+    (λ h. gives_all (λ (x : Cluster × EntryView). WordsRise k x.0) (apply k (record { server = s.rest.number; what = Step t })) (kept_where k s t (λ v. ⊤) coherent few h (λ on. server_so k coherent few s h t y at on i code w d through (go h on)))) here
