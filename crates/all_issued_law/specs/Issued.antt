@@ -1,0 +1,54 @@
+-- WHAT WAS ISSUED STAYS ISSUED, and no word is new but in a pointer (this project's rules).
+use Rattle.std.specs.Prelude.{◌≡◌, ⊤, ℕ, ◌+◌, true, nat_lt, List, [], ◌∷◌, Some, slice_get}
+use Rattle.fr_base.specs.declared.instruction.Instr.{Instr}
+use Rattle.fr_base.specs.declared.instruction.Instr.TheVariants as instr
+use Rattle.global_addr.specs.Words.{colour_of}
+use Rattle.heap_partition.specs.declared.value.Cell.{Cell}
+use Rattle.journal.specs.View.{EntryView}
+use Rattle.thread_state.specs.View.{ThreadState}
+use Rattle.thread_state.specs.declared.value.Value.{Value}
+use Rattle.thread_state.specs.declared.value.Value.TheVariants as value
+use Rattle.server_msgs.specs.declared.message.Message.{Message}
+use Rattle.server_msgs.specs.declared.message.Message.TheVariants.{Fetched}
+use Rattle.server_model.specs.declared.event.Event.{Event}
+use Rattle.server_model.specs.declared.event.What.TheVariants.{Step}
+use Rattle.server_model.specs.Servers.{Server, Cluster, server_at}
+use Rattle.server_model.specs.Work.{thread_in}
+use Rattle.server_model.specs.Clusters.{apply}
+use Rattle.heap_law.specs.Names.{tot, other}
+use Rattle.heap_law.specs.Things.{Thing, copied, sent, things_of}
+use Rattle.heap_law.specs.Follow.{Standing}
+use Rattle.heap_law.specs.Sight.{issued, sight}
+use Rattle.heap_law.specs.Placing.{owned_word}
+use Rattle.heap_law.specs.Coherent.{IsSound}
+use Rattle.type_law.specs.ClusterTypes.{IsCoherent}
+use Rattle.event_law.specs.Laws.{Gives, FewEvents}
+
+-- an instruction that makes no object
+abbrev pub MakesNoObject : Instr → Type 0
+MakesNoObject (instr.Box o) = ⊥
+MakesNoObject i = ⊤
+
+-- the step of a thread at such an instruction, done or not, from a coherent cluster in which few events were done, with its messages handed over: each word below the limit that had been
+-- issued is issued
+abbrev pub StepsKeepWhatWasIssued : Type 0
+StepsKeepWhatWasIssued = (k : Cluster) (number t : ℕ) (s : Server) (y : ThreadState) (i : Instr) → IsCoherent k → FewEvents k → server_at k.servers number ≡ Some s → thread_in s.threads t ≡ Some y → slice_get k.code y.pc ≡ Some i → MakesNoObject i
+    → Gives (λ (d : Cluster × EntryView). (w : ℕ) → nat_lt (colour_of w) k.options.colours ≡ true → issued (sight k) w ≡ true → issued (sight d.0) w ≡ true) (apply k (record { server = number; what = Step t }))
+
+-- a word that wasn't issued then weighs something
+abbrev pub unissued : Cluster → ℕ → ℕ
+unissued k w = other (issued (sight k) w)
+
+-- the words of copies, cached or on their way, and those that they hold
+abbrev pub sent_words : (ℕ → ℕ) → Message → ℕ
+sent_words f (Fetched w c t) = f w + owned_word f c.value
+sent_words f m = 0
+
+abbrev pub copied_words : (ℕ → ℕ) → Thing → ℕ
+copied_words f (copied s c) = f c.word + owned_word f c.cell.value
+copied_words f (sent s m) = sent_words f m
+copied_words f x = 0
+
+-- each of them had been issued, after whatever event from a sound cluster
+abbrev pub CopiesHaveOldWords : Type 0
+CopiesHaveOldWords = (k : Cluster) (e : Event) → IsSound k → FewEvents k → Gives (λ (d : Cluster × EntryView). tot (copied_words (unissued k)) (things_of d.0) ≡ 0) (apply k e)

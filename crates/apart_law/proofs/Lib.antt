@@ -1,0 +1,4 @@
+pub mod Flights
+pub mod UnderWay
+pub mod Objects
+pub mod Apart
