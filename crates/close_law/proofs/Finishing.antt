@@ -1,0 +1,146 @@
+-- A reference that ends goes, and its holder's slot has its word or nothing is put back: each object is what it was, or covered.
+use Rattle.std.proofs.Common.{◌≡◌, ◌≢◌, ℕ, ◌+◌, ◌==◌, nat_lt, Bool, true, false, if◌then◌else◌, length, Option, Some, None, refl, sym, ap, subst, ◌∙◌, arith}
+use Rattle.std.specs.Prelude.{slice_get, slice_set}
+use Rattle.std.proofs.lemmas.Bool.Decides.{nat_tests}
+use Rattle.mut_borrow.specs.declared.mutable.MutRef.{MutRef}
+use Rattle.thread_state.specs.View.{ThreadState}
+use Rattle.thread_state.specs.declared.value.Value.{Value}
+use Rattle.thread_state.specs.declared.value.Value.TheVariants as value
+use Rattle.server_model.specs.Servers.{Server, Cluster, server_at}
+use Rattle.server_model.specs.Work.{Hand, with_slots, thread_in, then_some}
+use Rattle.server_model.specs.Places.{in_slot as spot_slot, nowhere as no_spot, with_word, put_at, set_pointer}
+use Rattle.server_model.specs.Drop.{finish, finished_at}
+use Rattle.mut_borrow.specs.Refs.{finish_word}
+use Rattle.event_law.specs.Laws.{Gives}
+use Rattle.word_law.proofs.Slots.{set_other}
+use Rattle.heap_law.specs.Names.{Among, other}
+use Rattle.heap_law.specs.Things.{Location, at_slot, thread_things, things_of}
+use Rattle.heap_law.specs.Follow.{Ground, cells_in, value_in, value_behind}
+use Rattle.heap_law.specs.Stale.{Reference, references, holder_of}
+use Rattle.heap_law.specs.Sight.{sight}
+use Rattle.heap_law.specs.Placing.{is_first, other_first}
+use Rattle.heap_law.proofs.Words.{none_at}
+use Rattle.type_law.specs.ClusterTypes.{IsCoherent}
+use Rattle.path_law.proofs.Contained.{reference_there}
+use Rattle.word_law.proofs.Put.{Split, put_split}
+use Rattle.move_law.specs.Ended.{Ended}
+use Rattle.prepare_law.proofs.Hands.{put}
+use Rattle.carry_law.proofs.Hands.{stands_here}
+use Rattle.carry_law.proofs.Passing.{Here, slot, located, here}
+use Rattle.carry_law.proofs.Replaced.{cells_same}
+use Rattle.finish_law.proofs.EndHands.{set_apart, is_so, Base, AtEnd, Goes, finishes}
+use Rattle.finish_law.proofs.EndSteps.{Finishes, is_end}
+use Rattle.finish_law.proofs.EndPlaces.{Without, newest_without, emptied_without, top_without, first_finishes, word_finishes}
+use Rattle.return_law.proofs.Returns.{Shape, newest, top, emptied}
+use Rattle.stay_law.proofs.Steps.{TakesNoneHere}
+use Rattle.hidden_law.proofs.EndMarks.{leaving_by, end_marks}
+use Rattle.cover_law.proofs.Hops.{Now}
+use Rattle.cover_law.proofs.Others.{settled_marks}
+use Rattle.server_model.specs.Places.{Spot}
+use Rattle.close_law.proofs.Backs.{Back}
+
+same_word : (r : MutRef) → (r.word == r.first) ≡ true → r.word ≡ r.first
+same_word r e = grind (arith, nat_tests, e)
+
+other_word : (r : MutRef) → (r.word == r.first) ≡ false → r.word ≢ r.first
+other_word r e = λ q. (let z : true ≡ false = grind (arith, nat_tests, e, q) in absurd (cc z))
+
+-- with its first word nothing is put back
+finish_first : (r : MutRef) (h : Hand) → r.dirty ≡ false → (r.word == r.first) ≡ true → finish no_spot r h ≡ Some h
+finish_first r h clean e = ap (λ b. if b then None else finished_at no_spot (finish_word r) h) clean ∙ ap (λ b. finished_at no_spot (if b then None else Some r.word) h) e
+
+-- with another one the holder's pointer gets it
+finish_word_at : (r : MutRef) (sp : Spot) (h : Hand) → r.dirty ≡ false → (r.word == r.first) ≡ false → finish sp r h ≡ set_pointer sp r.word h
+finish_word_at r sp h clean e = ap (λ b. if b then None else finished_at sp (finish_word r) h) clean ∙ ap (λ b. finished_at sp (if b then None else Some r.word) h) e
+
+-- where a reference's first word stands, something does
+first_stands : (r : MutRef) (v : Option Value) → is_first r v ≡ true → (u : Value) × (v ≡ Some u)
+first_stands r None e = absurd cc
+first_stands r (Some u) e = (u, refl)
+
+module _ (k : Cluster) (coherent : IsCoherent k) (s : Server) (here_it : server_at k.servers s.rest.number ≡ Some s) (t : ℕ) (y : ThreadState) (at : thread_in s.threads t ≡ Some y) (H : Hand) (r : MutRef) where
+  abbrev n : ℕ
+  n = s.rest.number
+
+  abbrev P : Hand → Cluster
+  P = put k coherent s here_it t y at
+
+  abbrev x0 : ThreadState
+  x0 = H.thread
+
+  -- the thread without the reference
+  pub without : TakesNoneHere k.code x0 → (x : ThreadState) (f : Here) → Shape k coherent.sound s here_it t y at H r x f → Without k.code n x0 x f
+  without none _ _ (newest ss e) = newest_without k.code n x0 none r ss e
+  without none _ _ (top ts e) = top_without k.code n x0 none r ts e
+  without none _ _ (emptied i e) = emptied_without k.code n x0 none r i e
+
+  module _ (base : Base k coherent.sound s here_it t y at H) (from : Here) (l h : Location) (place : located x0.number from ≡ Some l) (is : here x0 from ≡ Some (value.Mut r)) (ended : AtEnd k coherent.sound s here_it t y at H l h r) (x : ThreadState) (p : Finishes k.code n x0 x from l h r) where
+    abbrev hx : Hand
+    hx = record H { thread = x }
+
+    goes : Goes k coherent.sound s here_it t y at H hx
+    goes = finishes k coherent.sound s here_it t y at H base from l h r place is ended x p
+
+    split : Split (things_of (P H)) (things_of (P hx)) (thread_things n false x0) (thread_things n false x)
+    split = put_split k n s.threads (s.events + 1) H hx (stands_here k coherent.sound s here_it t y at H base.number base.named) refl p.number
+
+    abbrev gb : Ground
+    gb = (sight (P H)).ground
+
+    -- something stands at its holder
+    old : (v : Value) × (value_in gb h ≡ Some v)
+    old =
+        let q : Reference = record { at = l; holder = holder_of gb l r.holder; reference = r } in
+        first_stands r (value_in gb h) (is_so (is_first r (value_in gb h)) (subst (λ o. other (is_first r (value_behind gb o)) ≡ 0) ended.held (none_at (other_first gb) q (references gb (things_of (P H))) base.words.first_at_holder (reference_there (P H) l r ended.stood))))
+
+    its_end : Ended (P H) (P hx) l h r
+    its_end =
+        is_end (P H) (P hx) n x0 x from l h r p split refl base.places goes.places base.words.first_at_holder base.rooted ended.unpassed ended.held old.0 old.1 ended.clean ended.fresh ended.only ended.untaken ended.unmade
+
+    cells : cells_in (things_of (P hx)) ≡ cells_in (things_of (P H))
+    cells = cells_same (P H) (P hx) n x0 x p.number split base.places goes.places
+
+    pub finished_now : Now k coherent s here_it t y at H → Now k coherent s here_it t y at hx
+    finished_now now =
+        settled_marks k (P H) (P hx) coherent.sound.words.have_words now goes.leaves
+        (end_marks (P H) (P hx) l h r base.places goes.places (leaving_by (P H) (P hx) l h r its_end) base.words.dirty_alone (goes.leaves.dirty base.words.dirty_alone)) (λ c m. subst (λ b. Among c b) (sym cells) m) (λ c m. subst (λ b. Among c b) cells m)
+
+  module _ (base : Base k coherent.sound s here_it t y at H) (none : TakesNoneHere k.code x0) (from : Here) (l h : Location) (place : located x0.number from ≡ Some l) (is : here x0 from ≡ Some (value.Mut r)) (ended : AtEnd k coherent.sound s here_it t y at H l h r) (now : Now k coherent s here_it t y at H) where
+    pub back_first : (r.word == r.first) ≡ true → Back k coherent s here_it t y at H r H no_spot from
+    back_first e = record {
+      rest = H.work.rest;
+      slots = λ vs. vs;
+      finish_so = λ F same kept. subst (λ o. Gives (λ (h2 : Hand). (h2.work.rest ≡ H.work.rest) × (h2.thread ≡ F.thread)) o) (sym (finish_first r F ended.clean e)) (same, refl);
+      leaves = λ x w. finishes k coherent.sound s here_it t y at H base from l h r place is ended x (first_finishes k.code n x0 x from l h r none place is (without none x from w) (same_word r e));
+      settles = λ x w. finished_now base from l h place is ended x (first_finishes k.code n x0 x from l h r none place is (without none x from w) (same_word r e)) now;
+      commutes = λ i vs v q. refl;
+      beside = λ i vs q. refl;
+    }
+
+    pub back_slot : (j : ℕ) (v u : Value) → (r.word == r.first) ≡ false → h ≡ at_slot x0.number j → (slot j ≡ from → ⊥) → slice_get x0.slots j ≡ Some v → with_word r.word v ≡ Some u → Back k coherent s here_it t y at H r H (spot_slot j) from
+    back_slot j v u e there away stands worded = record {
+      rest = H.work.rest;
+      slots = λ vs. slice_set vs j u;
+      finish_so = puts;
+      leaves = λ x w. finishes k coherent.sound s here_it t y at H base from l h r place is ended (record x { slots = slice_set x.slots j u }) (word_end x w);
+      settles = λ x w. finished_now base from l h place is ended (record x { slots = slice_set x.slots j u }) (word_end x w) now;
+      commutes = λ i vs w q. set_apart vs i j w u (λ f. away (ap slot (sym f) ∙ q));
+      beside = λ i vs q. set_other vs j i u (λ f. away (ap slot (sym f) ∙ q));
+    }
+      where
+        word_end : (x : ThreadState) → Shape k coherent.sound s here_it t y at H r x from → Finishes k.code n x0 (record x { slots = slice_set x.slots j u }) from l h r
+        word_end x w = word_finishes k.code n x0 x from l h r none place is (without none x from w) j v u away there ((without none x from w).slots j away ∙ stands) worded (other_word r e)
+
+        puts : (F : Hand) → F.work.rest ≡ H.work.rest → ((m : ℕ) → (slot m ≡ from → ⊥) → slice_get F.thread.slots m ≡ slice_get x0.slots m)
+            → Gives (λ (h2 : Hand). (h2.work.rest ≡ H.work.rest) × (h2.thread ≡ record F.thread { slots = slice_set F.thread.slots j u })) (finish (spot_slot j) r F)
+        puts F same kept =
+            subst (λ o. Gives Done o) (sym (finish_word_at r (spot_slot j) F ended.clean e))
+            (subst (λ o. Gives Done (then_some o (λ a. then_some (with_word r.word a) (λ b. put_at (spot_slot j) b F)))) (sym (kept j away ∙ stands))
+            (subst (λ o. Gives Done (then_some o (λ b. put_at (spot_slot j) b F))) (sym worded) (by (nat_lt j (length F.thread.slots)))))
+          where
+            Done : Hand → Type 0
+            Done h2 = (h2.work.rest ≡ H.work.rest) × (h2.thread ≡ record F.thread { slots = slice_set F.thread.slots j u })
+
+            by : (b : Bool) → Gives Done (if b then Some (with_slots (slice_set F.thread.slots j u) F) else None)
+            by true = (same, refl)
+            by false = tt

@@ -1,0 +1,12 @@
+-- COPIES STAY PRESENT CELLS where a mutable reference ends (this project's rules), wherever the pointer stands that it was made from.
+use Rattle.std.specs.Prelude.{ℕ}
+use Rattle.fr_base.specs.declared.instruction.Instr.{Instr}
+use Rattle.mut_borrow.specs.declared.mutable.MutRef.{MutRef}
+use Rattle.thread_state.specs.View.{ThreadState}
+use Rattle.server_model.specs.Servers.{Server, Cluster}
+use Rattle.finish_law.specs.Ends.{EndsReference}
+use Rattle.fresh_law.specs.Fresh.{StepLeavesRight}
+
+-- the step of a thread that ends the reference, with its slot, from the hand or where it is assigned over, leaves copies that are right, whether it does its plain step or asks
+abbrev pub EndsKeepCopies : Type 0
+EndsKeepCopies = (k : Cluster) (number t : ℕ) (s : Server) (y : ThreadState) (i : Instr) (r : MutRef) → EndsReference y r i → StepLeavesRight k number t s y i

@@ -1,0 +1,84 @@
+-- What a cell has is moved out of it: cells of other objects and changed references stay.
+use Rattle.std.proofs.Common.{◌≡◌, ◌⊎◌, inl, inr, ℕ, false, List, [], ◌∷◌, ◌++◌, length, Some, None, refl}
+use Rattle.std.specs.Prelude.{slice_get}
+use Rattle.heap_partition.specs.declared.value.Cell.{Cell}
+use Rattle.heap_partition.specs.declared.value.Owned.{Owned}
+use Rattle.heap_partition.specs.declared.value.Owned.TheVariants as owned
+use Rattle.owner_box.specs.Partition.{stored}
+use Rattle.thread_state.specs.View.{ThreadState}
+use Rattle.thread_state.specs.declared.value.Value.TheVariants as value
+use Rattle.server_model.specs.Servers.{Server, Cluster, server_at}
+use Rattle.server_model.specs.Work.{Hand, Work, thread_in, without_thread}
+use Rattle.heap_law.specs.Things.{Thing, thread_things, servers_things}
+use Rattle.type_law.specs.ClusterTypes.{IsCoherent}
+use Rattle.word_law.specs.Reworded.{HasPlaces}
+use Rattle.word_law.specs.Unmoved.{pointing}
+use Rattle.event_law.proofs.Bags.{all_standing, body_things}
+use Rattle.event_law.proofs.Events.{others_of}
+use Rattle.stay_law.proofs.Alike.{itself}
+use Rattle.prepare_law.proofs.Hands.{put, places}
+use Rattle.carry_law.proofs.Hands.{Moved, passed}
+use Rattle.carry_law.proofs.Passing.{slot, temp, nowhere}
+use Rattle.carry_law.proofs.Places.{gift_to_temp}
+use Rattle.write_law.proofs.Memory.{Leads}
+use Rattle.rewrite_law.proofs.Passing.{State, Fits}
+use Rattle.through_law.proofs.Swapped.{given}
+use Rattle.through_law.proofs.Storing.{Tip, Reaches, emptied_so}
+use Rattle.carry_law.proofs.Hands.{moved_over}
+use Rattle.through_law.proofs.TakenOut.{taken_hand as its_taken_hand, taken_ok as its_taken_ok}
+use Rattle.copy_law.proofs.Clean.{clean_goes}
+use Rattle.cover_law.proofs.Others.{KeepsOthers, others_chain, others_clean}
+use Rattle.cover_law.proofs.Storing.{emptied_others}
+
+module _ (k : Cluster) (coherent : IsCoherent k) (s : Server) (here : server_at k.servers s.rest.number ≡ Some s) (t : ℕ) (y : ThreadState) (at : thread_in s.threads t ≡ Some y) where
+  abbrev n : ℕ
+  n = s.rest.number
+
+  abbrev others : List Thing
+  others = all_standing n (without_thread s.threads t) ++ servers_things (others_of k.servers n)
+
+  abbrev O : Hand → Type 0
+  O = Fits k coherent s here t y at
+
+  abbrev P : Hand → Cluster
+  P = put k coherent s here t y at
+
+  abbrev spread : (h : Hand) → O h → HasPlaces (P h)
+  spread h g = places k coherent s here t y at h g
+
+  module _ (h : Hand) (st : State k coherent s here t y at h) (free : h.thread.gift ≡ None) (w : ℕ) (c : Cell) (leads : Leads h.work.rest.partition w c) (tip : Tip k coherent s here t y at c.object) where
+    abbrev x : ThreadState
+    x = h.thread
+
+    abbrev u : Owned
+    u = c.value
+
+    abbrev empty : Work
+    empty = record h.work { rest = record h.work.rest { partition = stored h.work.rest.partition w owned.Nothing } }
+
+    abbrev h1 : Hand
+    h1 = record { work = empty; thread = given x u }
+
+    first : Reaches k coherent s here t y at h h1
+    first = emptied_so k coherent s here t y at h st free w c leads tip
+
+    abbrev taken_hand : Hand
+    taken_hand = its_taken_hand k coherent s here t y at h st free w c leads tip
+
+    taken_fits : O taken_hand
+    taken_fits = its_taken_ok k coherent s here t y at h st free w c leads tip
+
+    moved : Moved k.code n h1 taken_hand
+    moved =
+        passed (given x u) (record x { gift = None; temps = x.temps ++ value.Own u ∷ [] }) refl (itself (thread_things n false (given x u))) (λ o. refl) (gift_to_temp k.code n (given x u) st.untaken u refl) (λ i q. not_there i q)
+        (record { number = refl; named = refl; alike = itself (thread_things n false (record x { gift = None; temps = x.temps ++ value.Own u ∷ [] }) ++ body_things n empty.rest) })
+      where
+        not_there : (i : ℕ) → (slot i ≡ nowhere) ⊎ (slot i ≡ temp (length x.temps)) → pointing (slice_get x.slots i) ≡ None
+        not_there i (inl q) = absurd (cc q)
+        not_there i (inr q) = absurd (cc q)
+
+    -- so cells of other objects and changed references stay
+    pub taken_others : KeepsOthers c.object (P h) (P taken_hand)
+    taken_others =
+        others_chain c.object (P h) (P h1) (P taken_hand) (emptied_others k coherent s here t y at h st free w c leads tip)
+        (others_clean c.object (P h1) (P taken_hand) (moved_over k coherent.sound s here t y at clean_goes h1 taken_hand first.fits.number first.fits.thread (spread h1 first.fits) (spread taken_hand taken_fits) first.rooted (first.leaves.holders st.onward.words.first_at_holder) moved))
