@@ -1,0 +1,43 @@
+-- The thread to which a message brings an object waits for it.
+use Rattle.std.proofs.Common.{◌≡◌, ◌≤◌, ℕ, Bool, true, false, Some, refl, sym, ap, ◌∙◌, arith}
+use Rattle.std.specs.Prelude.{slice_get}
+use Rattle.std.proofs.lemmas.Bool.{eqb-true}
+use Rattle.heap_partition.specs.declared.value.Cell.{Cell}
+use Rattle.thread_state.specs.View.{ThreadState}
+use Rattle.thread_state.specs.declared.phase.Phase.{Phase}
+use Rattle.thread_state.specs.declared.phase.Phase.TheVariants as phase
+use Rattle.server_msgs.specs.declared.message.Message.{Message}
+use Rattle.server_msgs.specs.declared.message.Message.TheVariants as message
+use Rattle.server_model.specs.Servers.{Server, Cluster, server_at}
+use Rattle.server_model.specs.Work.{thread_in}
+use Rattle.heap_law.specs.Names.{tot, other}
+use Rattle.heap_law.specs.Things.{Thing, message_things, things_of}
+use Rattle.heap_law.specs.Follow.{thread_at}
+use Rattle.heap_law.specs.Sight.{sight}
+use Rattle.heap_law.specs.Requests.{is_cell, in_phase, carries}
+use Rattle.heap_law.specs.Coherent.{IsSound}
+use Rattle.event_law.proofs.MutexResults.{has}
+use Rattle.event_law.proofs.ThreadThere.{thread_there}
+use Rattle.come_law.proofs.Filled.{waits_cell}
+
+none_true : (b : Bool) → other b ≡ 0 → b ≡ true
+none_true true z = refl
+none_true false z = absurd (cc z)
+
+is_waiting : (p : Phase) (w : ℕ) → is_cell w p ≡ true → p ≡ phase.WaitCell w
+is_waiting (phase.WaitCell v) w e = ap phase.WaitCell (eqb-true v w e)
+is_waiting _ w e = absurd (cc e)
+
+module _ (k : Cluster) (sound : IsSound k) (number : ℕ) (s : Server) (here : server_at k.servers number ≡ Some s) (i old : ℕ) (cell : Cell) (t : ℕ) (q : slice_get s.rest.inbox i ≡ Some (message.Moved old cell t)) (y : ThreadState) (at : thread_in s.threads t ≡ Some y) where
+  pub waits_under_it : y.phase ≡ phase.WaitCell old
+  waits_under_it =
+      let g : Thing → ℕ = carries (sight k) in
+      let m : Message = message.Moved old cell t in
+      let all : tot g (message_things s.rest.number m) ≤ tot g (things_of k) = has k sound number s here i m q g in
+      let none : tot g (things_of k) ≡ 0 = sound.requests.carry_what_is_asked in
+      let mine : other (in_phase (is_cell old) (thread_at (sight k).ground.threads t)) ≡ 0 = omega (arith, all, none) in
+      let there : in_phase (is_cell old) (Some (record { server = s.rest.number; packed = false; thread = y })) ≡ true = sym (ap (in_phase (is_cell old)) (thread_there k sound number s here t y at)) ∙ none_true (in_phase (is_cell old) (thread_at (sight k).ground.threads t)) mine in
+      is_waiting y.phase old there
+
+  pub waits_for_it : waits_cell y.phase ≡ true
+  waits_for_it = ap waits_cell waits_under_it
