@@ -1,0 +1,4 @@
+pub mod Then
+pub mod Others
+pub mod Steady
+pub mod Such
