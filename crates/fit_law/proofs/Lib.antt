@@ -1,0 +1,6 @@
+pub mod Depths
+pub mod Hands
+pub mod Stood
+pub mod Chains
+pub mod Fits
+pub mod Outside

@@ -1,0 +1,50 @@
+-- WHAT STANDS IN THE ONE HEAP AGREES with the types of its names (this project's rule).
+use Rattle.std.specs.Prelude.{◌≡◌, ℕ, ◌+◌, Bool, not}
+use Rattle.fr_base.specs.declared.name.ObjNo.{ObjNo}
+use Rattle.fr_typing.specs.Kinds.{Owned as OwnedType}
+use Rattle.fr_sound.specs.States.{Typing}
+use Rattle.fr_code.specs.CodeTypes.{Table}
+use Rattle.fr_code.specs.TableStates.{CodeStateTypes}
+use Rattle.server_model.specs.Servers.{Cluster}
+use Rattle.heap_law.specs.Names.{if_so}
+use Rattle.heap_law.specs.Things.{Thing}
+use Rattle.heap_law.specs.Follow.{Standing}
+use Rattle.heap_law.specs.Sight.{Sight, sight}
+use Rattle.heap_law.specs.Placing.{sum_over}
+use Rattle.heap_law.specs.Walking.{sum_threads, instr_of}
+use Rattle.heap_law.specs.OneHeap.{one_heap, gift_owner, owner_in, is_in_state, value_is_in}
+use Rattle.heap_law.specs.Coherent.{IsSound}
+use Rattle.type_law.specs.Names.{NameTypes, names_of}
+use Rattle.type_law.specs.ClusterTypes.{misfit, gift_misfit, misfits}
+use Rattle.typed_law.specs.Counted.{AreTheseTypes, CountsFollow, sorts_wrong}
+
+-- a gift is in the one heap where whose content or result it still is, is
+abbrev pub gift_is_in : Sight → Standing → Bool
+gift_is_in s x = owner_in (is_in_state s) (gift_owner s x (instr_of s x))
+
+-- the cells, contents, results and gifts that are in the one heap and don't agree with the types of their names
+abbrev pub inside_misfits : NameTypes → Sight → ℕ
+inside_misfits n s = sum_over s (λ x. if_so (value_is_in s x) (misfit n x)) + sum_threads s (λ x. if_so (gift_is_in s x) (gift_misfit n s x))
+
+-- there are none, for types of objects by which what is counted of types follows
+pub record HeapFits (table : Table) (y : Typing) (k : Cluster) : Type 0 where
+  pub counts : CountsFollow table y k
+  pub agree : inside_misfits (names_of counts.types y.gives) (sight k) ≡ 0
+
+-- so it is in each sound cluster whose one heap is typed, between events or not
+abbrev pub TypedHeapsFit : Type 0
+TypedHeapsFit = (k : Cluster) → IsSound k → (table : Table) (y : Typing) → CodeStateTypes table y (one_heap k) → sorts_wrong table (sight k) ≡ 0 → HeapFits table y k
+
+-- those that are outside it: what a `drop` or a `release` under way owns, and what that owns
+abbrev pub outside_misfits : NameTypes → Sight → ℕ
+outside_misfits n s = sum_over s (λ x. if_so (not (value_is_in s x)) (misfit n x)) + sum_threads s (λ x. if_so (not (gift_is_in s x)) (gift_misfit n s x))
+
+-- all that stands anywhere agrees, for types of objects that are these in the one heap
+pub record WholeAgrees (y : Typing) (k : Cluster) (types : ObjNo → OwnedType) : Type 0 where
+  pub object : ObjNo → OwnedType
+  pub these : AreTheseTypes k object types
+  pub agree : misfits (names_of object y.gives) (sight k) ≡ 0
+
+-- so it is where what is outside agrees, for whatever types of objects: who is inside owns nothing outside, and the other way
+abbrev pub MisfitsFollow : Type 0
+MisfitsFollow = (k : Cluster) → IsSound k → (table : Table) (y : Typing) (heap : HeapFits table y k) (old : ObjNo → OwnedType) → outside_misfits (names_of old y.gives) (sight k) ≡ 0 → WholeAgrees y k heap.counts.types
