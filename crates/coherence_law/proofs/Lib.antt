@@ -1,1 +1,4 @@
+pub mod CopyKinds
+pub mod Copies
 pub mod Rest
+pub mod Walks

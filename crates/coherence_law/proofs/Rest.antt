@@ -4,12 +4,15 @@ use Rattle.journal.specs.View.{EntryView}
 use Rattle.server_model.specs.declared.event.Event.{Event}
 use Rattle.server_model.specs.Servers.{Cluster}
 use Rattle.server_model.specs.Clusters.{apply}
-use Rattle.heap_law.specs.Coherent.{Sentence, Holds, none_owns_itself, walk_empty, join_walks_nothing, passed_in_a_walk, passed_within, parcels_ready, thread_homes, go_right, asks_others, options_in_range, at_their_home, queue_while_out, content_without_shares, par_ends, over_are_bare, below_limit, names_counted, counts_from_one, few_names, objects_made, askers_stand, return_right, marks_in_slots, holders_short, counts_bounded, parts_are_typed, carry_what_is_asked, pairs_go_on, branches_give_unit, parents_end, gifts_got, phases_stand, gifts_fit, OneHome, OneOwner, Users, IsSound}
+use Rattle.heap_law.specs.Coherent.{Sentence, Holds, different_words, passed_lie_here, place_followed, waits_in_turn, none_owns_itself, walk_empty, join_walks_nothing, passed_in_a_walk, passed_within, parcels_ready, thread_homes, go_right, asks_others, options_in_range, at_their_home, queue_while_out, content_without_shares, par_ends, over_are_bare, below_limit, names_counted, counts_from_one, few_names, objects_made, askers_stand, return_right, marks_in_slots, holders_short, counts_bounded, parts_are_typed, carry_what_is_asked, pairs_go_on, branches_give_unit, parents_end, gifts_got, phases_stand, gifts_fit, taken_stands, taken_is_new, OneHome, OneOwner, Copies, Users, IsSound}
 use Rattle.heap_law.specs.Following.{TasksNoted, MutexesNoted, FollowLaw}
 use Rattle.heap_law.specs.Rooted.{ownings, parents}
 use Rattle.heap_law.specs.Sight.{sight}
+use Rattle.heap_law.specs.Turn.{WaitInTurn}
 use Rattle.heap_law.specs.Things.{things_of}
+use Rattle.heap_law.proofs.Followed.{followed_law}
 use Rattle.heap_law.proofs.Passing.{passed_law}
+use Rattle.heap_law.proofs.Turn.{turn_law}
 use Rattle.heap_law.proofs.Ranks.{node_ends, number_ends}
 use Rattle.event_law.specs.Laws.{FewEvents, Gives, EachEventHandedOver, OneState, SharesCounted, OneTaskValue, TaskValuesOwed, NumbersDiffer, OneAnswer, PairsNoted, NotedGoOn, NotedAtHome, OneResult}
 use Rattle.type_law.specs.Names.{names_of}
@@ -22,6 +25,8 @@ use Rattle.local_law.specs.Laws.{EachEventKeeps, EachCoherentEventKeeps}
 use Rattle.prepare_law.specs.Requests.{WordsHold}
 use Rattle.content_law.specs.Contents.{OneContent, EachEventLeavesOneContent}
 use Rattle.regain_law.specs.Events.{EventsKeepWords}
+use Rattle.apart_law.specs.Words.{ObjectsStayApart}
+use Rattle.coherence_law.specs.Copies.{EventsKeepCopies}
 use Rattle.own_law.specs.Owning.{Agrees, EventsThatAgreeEnd}
 use Rattle.agree_law.specs.Agrees.{UndoneKeepsTypes}
 use Rattle.coherence_law.specs.Left.{LeftToShow, EventsKeepTheRest, UndoneKeepTheRest}
@@ -87,6 +92,13 @@ pub record EventLaws : Type 0 where
   pub gifts_fit : EachCoherentEventKeeps gifts_fit
   pub one_content : EachEventLeavesOneContent
   pub words : EventsKeepWords
+  pub apart : ObjectsStayApart
+  pub copies : EventsKeepCopies
+  pub passed_lie_here : EachCoherentEventKeeps passed_lie_here
+  pub place_followed : EachCoherentEventKeeps place_followed
+  pub waits_in_turn : EachCoherentEventKeeps waits_in_turn
+  pub taken_stands : EachCoherentEventKeeps taken_stands
+  pub taken_is_new : EachCoherentEventKeeps taken_is_new
   pub owners : EventsThatAgreeEnd
   pub objects : ObjectsFollow
 
@@ -134,12 +146,15 @@ module _ (l : EventLaws) (k : Cluster) (e : Event) (coherent : IsCoherent k) (fe
         owner_of_each = owner.owner_of_each;
       }
 
-  told : LeftToShow d.0 → AnswersTold d.0
-  told left = record {
+  turns : WaitInTurn (sight d.0)
+  turns = turn_law.from_count (sight d.0) (kept_typed waits_in_turn l.waits_in_turn)
+
+  told : AnswersTold d.0
+  told = record {
     numbers_differ = part NumbersDiffer l.threads;
     one_answer = part OneAnswer l.answers;
     carry_what_is_asked = kept carry_what_is_asked l.carry_what_is_asked;
-    wait_in_turn = left.wait_in_turn;
+    wait_in_turn = turns;
   }
 
   pub sound_then : LeftToShow d.0 → Types d.0 → IsSound d.0
@@ -152,20 +167,20 @@ module _ (l : EventLaws) (k : Cluster) (e : Event) (coherent : IsCoherent k) (fe
       have_words = words_hold.has_words;
       one_state = part OneState l.states;
       first_at_holder = words_hold.first_at_holder;
-      different_words = left.different_words;
+      different_words = kept_typed different_words l.apart;
       dirty_alone = words_hold.dirty_alone;
       past_words = words_hold.past_words;
     };
-    copies = left.copies;
+    copies = result_has (λ (x : Cluster × EntryView). Copies x.0) (apply k e) d is (l.copies k e coherent few);
     walks = record {
-      have_passed = passed_law.from_counts d.0 left.passed_lie_here left.passed_not_copied (passed_follows d.0 (paths types) (kept passed_in_a_walk l.passed_in_a_walk) (kept passed_within l.passed_within));
+      have_passed = passed_law.from_counts d.0 (kept_typed passed_lie_here l.passed_lie_here) left.passed_not_copied (passed_follows d.0 (paths types) (kept passed_in_a_walk l.passed_in_a_walk) (kept passed_within l.passed_within));
       passed_in_a_walk = kept passed_in_a_walk l.passed_in_a_walk;
       passed_within = kept passed_within l.passed_within;
       walk_empty = kept walk_empty l.walk_empty;
       join_walks_nothing = kept join_walks_nothing l.join_walks_nothing;
       parcels_ready = kept parcels_ready l.parcels_ready;
-      have_followed = left.have_followed;
-      wait_in_turn = left.wait_in_turn;
+      have_followed = followed_law.from_counts (sight d.0) (kept_typed place_followed l.place_followed);
+      wait_in_turn = turns;
       asks_others = kept asks_others l.asks_others;
     };
     users = part Users l.users;
@@ -175,13 +190,13 @@ module _ (l : EventLaws) (k : Cluster) (e : Event) (coherent : IsCoherent k) (fe
       go_right = kept go_right l.go_right;
       return_right = kept return_right l.return_right;
       askers_stand = kept askers_stand l.askers_stand;
-      objects_there = l.objects d.0 (paths types) words_hold.has_words (told left);
+      objects_there = l.objects d.0 (paths types) words_hold.has_words told;
       phases_stand = kept_typed phases_stand l.phases_stand;
       par_ends = kept_typed par_ends l.par_ends;
       pairs_noted = part PairsNoted l.pairs;
       pairs_go_on = kept pairs_go_on l.pairs_go_on;
-      taken_stands = left.taken_stands;
-      taken_is_new = left.taken_is_new;
+      taken_stands = kept_typed taken_stands l.taken_stands;
+      taken_is_new = kept_typed taken_is_new l.taken_is_new;
       gifts_got = kept_typed gifts_got l.gifts_got;
       gifts_fit = kept_typed gifts_fit l.gifts_fit;
     };

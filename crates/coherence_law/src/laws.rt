@@ -1,23 +1,34 @@
 //! What each event keeps, all sentences together.
 
+ghost use Rattle.coherence_law.specs.Copies.{EventsKeepCopies};
 ghost use Rattle.coherence_law.specs.Left.{EventsKeepTheRest, UndoneKeepTheRest};
 
 use agree_law::undone_events_keep_types;
+use apart_law::objects_stay_apart;
 use ask_law::{answers_keep, gifts_keep, pairs_keep};
 use bound_law::{counts_keep, walks_keep};
 use content_law::contents_keep;
 use end_law::objects_follow;
 use event_law::every::each_event_handed_over;
 use heap_law::laws::some_follow;
+use land_law::all_land;
 use local_law::{messages_keep, servers_keep, threads_keep, threads_keep_to_code};
 use own_law::owners_end;
 use regain_law::events_keep_words;
+use taken_law::taken_stays;
 use typed_parts_law::parts_keep;
 use value_law::{askers_keep, names_keep, values_keep_to_code};
 use wait_law::waits_keep;
+use way_law::steps_keep_walks;
 
-/// From a coherent cluster in which fewer than 2^31 - 1 events were done, each event of whatever kind, its messages handed over, leads to a coherent one where ten
-/// sentences hold afterwards, of which no law says yet that each event keeps them, and where it has types; and where no plain step is done it has types.
+/// From a coherent cluster in which few events were done each event leaves copies right, once its messages are handed over: a copy under the word of a live object that isn't
+/// changed through a reference is its present cell, words included, and each copy that is asked for, or on its way, is one of such an object.
+pub fn events_keep_copies()
+    ensures { EventsKeepCopies }
+{}
+
+/// From a coherent cluster in which fewer than 2^31 - 1 events were done, each event of whatever kind, its messages handed over, leads to a coherent one where the
+/// sentences of `LeftToShow` hold afterwards, of which no law says yet that each event keeps them, and where it has types; and where no plain step is done it has types.
 pub fn events_keep_the_rest()
     ensures events { EventsKeepTheRest }
     ensures undone { UndoneKeepTheRest }
@@ -40,6 +51,11 @@ pub fn events_keep_the_rest()
     waits_keep();
     contents_keep();
     events_keep_words();
+    objects_stay_apart();
+    events_keep_copies();
+    taken_stays();
+    all_land();
+    steps_keep_walks();
     owners_end();
     objects_follow();
     undone_events_keep_types();

@@ -1,4 +1,6 @@
 use Rattle.coherence_law.proofs.laws.events_keep_the_rest.Goals as goal
+use Rattle.heap_law.specs.Coherent.{passed_lie_here, place_followed, waits_in_turn}
+use Rattle.coherence_law.proofs.Walks.{each_event}
 use Rattle.coherence_law.proofs.Rest.{EventLaws, keep_the_rest, undone_rest}
 
 pub returns : goal.returns
@@ -53,6 +55,13 @@ returns c =
       gifts_fit = c.waits_keep.ensures.gifts_fit;
       one_content = c.contents_keep.ensures.sums;
       words = c.events_keep_words.ensures;
+      apart = c.objects_stay_apart.ensures;
+      copies = c.events_keep_copies.ensures;
+      passed_lie_here = each_event passed_lie_here c.steps_keep_walks.ensures.passed_lie_here c.all_land.ensures.passed_lie_here;
+      place_followed = each_event place_followed c.steps_keep_walks.ensures.place_followed c.all_land.ensures.place_followed;
+      waits_in_turn = each_event waits_in_turn c.steps_keep_walks.ensures.waits_in_turn c.all_land.ensures.waits_in_turn;
+      taken_stands = c.taken_stays.ensures.stands;
+      taken_is_new = c.taken_stays.ensures.is_new;
       owners = c.owners_end.ensures.events;
       objects = c.objects_follow.ensures;
     } in

@@ -1,0 +1,13 @@
+-- EACH EVENT KEEPS COPIES (DRust's read caches; this project's rules), whatever it is.
+use Rattle.journal.specs.View.{EntryView}
+use Rattle.server_model.specs.declared.event.Event.{Event}
+use Rattle.server_model.specs.Servers.{Cluster}
+use Rattle.server_model.specs.Clusters.{apply}
+use Rattle.heap_law.specs.Coherent.{Copies}
+use Rattle.type_law.specs.ClusterTypes.{IsCoherent}
+use Rattle.event_law.specs.Laws.{Gives, FewEvents}
+
+-- from a coherent cluster in which few events were done, with the messages handed over: copies are present cells, and each that is asked for is one of a live object that isn't changed through a
+-- reference
+abbrev pub EventsKeepCopies : Type 0
+EventsKeepCopies = (k : Cluster) (e : Event) → IsCoherent k → FewEvents k → Gives (λ (d : Cluster × EntryView). Copies d.0) (apply k e)
