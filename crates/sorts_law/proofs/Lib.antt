@@ -15,4 +15,3 @@ pub mod Pairs
 pub mod Waiting
 pub mod Each
 pub mod Views
-pub mod Ends

@@ -1,7 +1,5 @@
--- SORTS of values, VIEWS and ENDS of threads after each event (this project's rule): what of types the one heap doesn't tell.
+-- SORTS of values, and VIEWS, after each event (this project's rule): what of types the one heap doesn't tell.
 use Rattle.std.specs.Prelude.{◌≡◌}
-use Rattle.fr_base.specs.declared.name.ObjNo.{ObjNo}
-use Rattle.fr_typing.specs.Kinds.{Owned as OwnedType}
 use Rattle.journal.specs.View.{EntryView}
 use Rattle.server_model.specs.declared.event.Event.{Event}
 use Rattle.server_model.specs.Servers.{Cluster}
@@ -9,8 +7,7 @@ use Rattle.server_model.specs.Clusters.{apply}
 use Rattle.heap_law.specs.Sight.{sight}
 use Rattle.event_law.specs.Laws.{Gives, FewEvents}
 use Rattle.type_law.specs.ClusterTypes.{IsCoherent, views_wrong}
-use Rattle.type_law.specs.Names.{names_of}
-use Rattle.typed_law.specs.Counted.{sorts_wrong, over_ends_wrong}
+use Rattle.typed_law.specs.Counted.{sorts_wrong}
 
 -- each event of a coherent cluster, in which few were done, leaves one in which each slot and temporary value of a thread that isn't over has the sort that the
 -- same table gives at its instruction
@@ -20,8 +17,3 @@ EventsKeepSorts = (k : Cluster) (e : Event) (co : IsCoherent k) → FewEvents k 
 -- and in which each view leads to an object to which the parent, which waits at its par, has a shared reference or a view in a slot
 abbrev pub EventsKeepViews : Type 0
 EventsKeepViews = (k : Cluster) (e : Event) (co : IsCoherent k) → FewEvents k → Gives (λ (d : Cluster × EntryView). views_wrong co.types.table (sight d.0) ≡ 0) (apply k e)
-
--- and in which the code of each thread that is over ends with the type that its task had before the event, whatever the types of objects
-abbrev pub EventsKeepEnds : Type 0
-EventsKeepEnds = (k : Cluster) (e : Event) (co : IsCoherent k) → FewEvents k
-    → Gives (λ (d : Cluster × EntryView). (object : ObjNo → OwnedType) → over_ends_wrong co.types.table (names_of object co.types.typing.gives) (sight d.0) ≡ 0) (apply k e)

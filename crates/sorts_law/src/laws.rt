@@ -1,6 +1,6 @@
-//! Laws of the sorts of values, of views and of the ends of threads after events.
+//! Laws of the sorts of values, and of views, after events.
 
-ghost use Rattle.sorts_law.specs.Sorts.{EventsKeepEnds, EventsKeepSorts, EventsKeepViews};
+ghost use Rattle.sorts_law.specs.Sorts.{EventsKeepSorts, EventsKeepViews};
 
 /// From a coherent cluster in which few events were done, each event that has a result, its messages handed over, leaves a cluster in which each slot and temporary value
 /// of a thread that isn't over has the sort that the same table gives at its instruction: it is a shared reference or a mutable one, `Gone` where it moved away, and a
@@ -12,9 +12,4 @@ pub fn events_keep_sorts()
 /// And in which each view of a thread leads to an object to which its parent, which waits for it at its par, has a shared reference or a view in a slot.
 pub fn events_keep_views()
     ensures { EventsKeepViews }
-{}
-
-/// And in which the code of each thread that is over ends with the type that its task had before the event: the thread was over, or it has just ended.
-pub fn events_keep_ends()
-    ensures { EventsKeepEnds }
 {}
