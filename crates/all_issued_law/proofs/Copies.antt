@@ -1,19 +1,15 @@
 -- No word of a copy is new, and none in what a copy holds, cached or on its way: after each event.
-use Rattle.std.proofs.Common.{◌≡◌, ◌≤◌, ℕ, ◌+◌, Some, refl, sym, arith}
-use Rattle.std.specs.Prelude.{slice_get}
-use Rattle.fr_base.specs.declared.name.ObjNo.{ObjNo}
+use Rattle.std.proofs.Common.{◌≡◌, ◌≤◌, ℕ, ◌+◌, refl, arith}
 use Rattle.global_addr.specs.Words.{address_of}
 use Rattle.heap_partition.specs.declared.value.Cell.{Cell}
 use Rattle.journal.specs.View.{EntryView}
 use Rattle.server_msgs.specs.declared.message.Message.{Message}
 use Rattle.server_msgs.specs.declared.message.Message.TheVariants as message
 use Rattle.server_model.specs.declared.event.Event.{Event}
-use Rattle.server_model.specs.Servers.{Server, Cluster, server_at}
-use Rattle.server_model.specs.Work.{look_object}
+use Rattle.server_model.specs.Servers.{Cluster}
 use Rattle.server_model.specs.Clusters.{apply}
-use Rattle.heap_law.specs.Names.{tot, other}
-use Rattle.heap_law.specs.Things.{Thing, lies, copied, sent, things_of}
-use Rattle.heap_law.specs.Sight.{issued, sight}
+use Rattle.heap_law.specs.Names.{tot}
+use Rattle.heap_law.specs.Things.{Thing, copied, sent, things_of}
 use Rattle.heap_law.specs.Placing.{owned_word, message_word, words}
 use Rattle.heap_law.specs.Coherent.{IsSound}
 use Rattle.event_law.specs.Laws.{Gives, FewEvents}

@@ -1,7 +1,6 @@
 -- Addresses in a step: where an object lay one lies, or the address is retired; a free one goes on from its colour, or an object lies there; a retired one stays retired.
 use Rattle.std.proofs.Common.{◌≡◌, ◌≤◌, ℕ, ◌+◌, ◌==◌, ◌&&◌, Bool, true, false, nat_lt, if◌then◌else◌, List, [], ◌∷◌, Option, Some, None, refl, sym, ap, subst, ◌∙◌, arith}
 use Rattle.std.specs.Prelude.{length, is_some, slice_get}
-use Rattle.std.specs.Bool.{⊤}
 use Rattle.std.proofs.lemmas.Bool.Decides.{nat_tests}
 use Rattle.fr_base.specs.declared.name.ObjNo.{ObjNo}
 use Rattle.global_addr.specs.Words.{colour_of, server_of, address_of}
@@ -9,7 +8,7 @@ use Rattle.heap_partition.specs.declared.value.Cell.{Cell}
 use Rattle.heap_partition.specs.declared.value.Owned.{Owned}
 use Rattle.colour_retire.specs.Colours.{picked}
 use Rattle.owner_box.specs.View.{PartitionState}
-use Rattle.owner_box.specs.Partition.{with_value, cell_of, stored, freed, made, made_again, renewed}
+use Rattle.owner_box.specs.Partition.{with_value, cell_of, stored, freed, made_again, renewed}
 use Rattle.server_model.specs.Servers.{Rest}
 use Rattle.server_model.specs.Work.{look, leads_here}
 use Rattle.server_model.specs.NewWords.{can_grow, is_last}

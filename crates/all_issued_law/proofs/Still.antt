@@ -1,5 +1,5 @@
 -- What was issued is issued after a step that makes no object: where words rise, no object comes and no place of a word is lost.
-use Rattle.std.proofs.Common.{◌≡◌, ◌⊎◌, inl, inr, ⊎_elim, ℕ, ◌+◌, ◌≤◌, ◌==◌, ◌&&◌, ◌||◌, Bool, true, false, nat_lt, nat_le, List, [], ◌∷◌, Option, Some, None, option_map, refl, sym, ap, ap₂, subst, ◌∙◌, arith}
+use Rattle.std.proofs.Common.{◌≡◌, inl, inr, ⊎_elim, ℕ, ◌+◌, ◌≤◌, ◌==◌, ◌&&◌, ◌||◌, Bool, true, false, nat_lt, nat_le, List, [], ◌∷◌, Option, Some, None, option_map, refl, sym, ap, ap₂, subst, ◌∙◌, arith}
 use Rattle.std.specs.Prelude.{slice_get}
 use Rattle.std.proofs.lemmas.Bool.{eq-eqb}
 use Rattle.std.proofs.lemmas.Bool.Decides.{nat_tests}
@@ -17,11 +17,11 @@ use Rattle.server_model.specs.Work.{Hand, thread_in, then_some}
 use Rattle.server_model.specs.Events.{Stepped, enabled, begin_work, step, step_in, stepped, does}
 use Rattle.server_model.specs.Clusters.{with_server, done_at, act_at, apply}
 use Rattle.heap_law.specs.Names.{Among, tot, one, same_object}
-use Rattle.heap_law.specs.Things.{Thing, lies, flies, vacant, retired, counts, partition_things, server_things, servers_things, things_of}
+use Rattle.heap_law.specs.Things.{Thing, lies, vacant, retired, counts, partition_things, servers_things, things_of}
 use Rattle.heap_law.specs.Sight.{Pointer, is_spot, colour_up_to, word_of_object, is_issued_at, is_issued, issued, word, sight}
 use Rattle.heap_law.specs.Weights.{states, below}
 use Rattle.heap_law.specs.Balances.{AtMostOne}
-use Rattle.heap_law.specs.Words.{HasWords, WordsLaw, LeadsTo}
+use Rattle.heap_law.specs.Words.{WordsLaw, LeadsTo}
 use Rattle.heap_law.specs.Coherent.{IsSound}
 use Rattle.heap_law.proofs.Names.{and_left, and_right, same_number}
 use Rattle.heap_law.proofs.Words.{words_law, named, itself}
@@ -38,11 +38,10 @@ use Rattle.read_law.proofs.Flights.{found, truly}
 use Rattle.still_law.proofs.Addresses.{InPlace, in_place}
 use Rattle.still_law.proofs.Leaving.{others, placed_here}
 use Rattle.issue_law.proofs.Elsewhere.{SeesAddresses, partition_alone}
-use Rattle.type_law.specs.ClusterTypes.{IsCoherent}
 use Rattle.prepare_law.specs.Requests.{WordsRise}
 use Rattle.regain_law.proofs.Each.{words_rise}
 use Rattle.all_issued_law.specs.Issued.{MakesNoObject, StepsKeepWhatWasIssued}
-use Rattle.all_issued_law.proofs.Places.{spotted, spotted_sees, lying, lying_sees, Onward, onward_itself}
+use Rattle.all_issued_law.proofs.Places.{spotted, spotted_sees, lying, lying_sees, onward_itself}
 use Rattle.all_issued_law.proofs.Walk.{Well, step_goes}
 
 -- AFTER THE STEP

@@ -1,7 +1,5 @@
 -- A step that makes no object: the addresses of its server go on.
-use Rattle.std.proofs.Common.{◌≡◌, ℕ, ◌+◌, ◌==◌, ◌&&◌, Bool, true, false, nat_lt, if◌then◌else◌, [], ◌∷◌, ◌++◌, List, Option, Some, None, refl}
-use Rattle.std.specs.Prelude.{slice_get, option_map, length, slice_set}
-use Rattle.std.specs.Bool.{⊤}
+use Rattle.std.proofs.Common.{◌≡◌, ℕ, ◌+◌, ◌==◌, Bool, true, false, if◌then◌else◌, [], ◌∷◌, ◌++◌, List}
 use Rattle.fr_base.specs.declared.instruction.Instr.{Instr}
 use Rattle.fr_base.specs.declared.instruction.Instr.TheVariants as instr
 use Rattle.fr_base.specs.declared.instruction.Operand.{Operand}
@@ -19,7 +17,7 @@ use Rattle.thread_state.specs.declared.value.Value.TheVariants as value
 use Rattle.server_msgs.specs.declared.message.Message.{Message}
 use Rattle.server_msgs.specs.declared.message.Message.TheVariants as message
 use Rattle.server_model.specs.Servers.{Rest}
-use Rattle.server_model.specs.Work.{Work, Hand, sent_from, with_phase, then_some}
+use Rattle.server_model.specs.Work.{Work, Hand, sent_from, with_phase}
 use Rattle.server_model.specs.Start.{next_thread, server_for, start_thread, capture}
 use Rattle.server_model.specs.Drop.{home_of, give_up}
 use Rattle.server_model.specs.Commit.{go_on, begun, pair_begun, spawn_with, end_with, label_dropped}

@@ -1,13 +1,10 @@
 -- WHAT WAS ISSUED STAYS ISSUED, and no word is new but in a pointer (this project's rules).
-use Rattle.std.specs.Prelude.{◌≡◌, ⊤, ℕ, ◌+◌, true, nat_lt, List, [], ◌∷◌, Some, slice_get}
+use Rattle.std.specs.Prelude.{◌≡◌, ⊤, ℕ, ◌+◌, true, nat_lt, Some, slice_get}
 use Rattle.fr_base.specs.declared.instruction.Instr.{Instr}
 use Rattle.fr_base.specs.declared.instruction.Instr.TheVariants as instr
 use Rattle.global_addr.specs.Words.{colour_of}
-use Rattle.heap_partition.specs.declared.value.Cell.{Cell}
 use Rattle.journal.specs.View.{EntryView}
 use Rattle.thread_state.specs.View.{ThreadState}
-use Rattle.thread_state.specs.declared.value.Value.{Value}
-use Rattle.thread_state.specs.declared.value.Value.TheVariants as value
 use Rattle.server_msgs.specs.declared.message.Message.{Message}
 use Rattle.server_msgs.specs.declared.message.Message.TheVariants.{Fetched}
 use Rattle.server_model.specs.declared.event.Event.{Event}
@@ -17,7 +14,6 @@ use Rattle.server_model.specs.Work.{thread_in}
 use Rattle.server_model.specs.Clusters.{apply}
 use Rattle.heap_law.specs.Names.{tot, other}
 use Rattle.heap_law.specs.Things.{Thing, copied, sent, things_of}
-use Rattle.heap_law.specs.Follow.{Standing}
 use Rattle.heap_law.specs.Sight.{issued, sight}
 use Rattle.heap_law.specs.Placing.{owned_word}
 use Rattle.heap_law.specs.Coherent.{IsSound}

@@ -1,11 +1,10 @@
 -- Each object that is in a typed one heap is so many boxes below a key that owns something: a slot, a temporary value, a content or a result.
-use Rattle.std.proofs.Common.{◌≡◌, ◌⊎◌, inl, inr, ℕ, zero, suc, ◌+◌, ◌<◌, ◌==◌, ◌||◌, not, Bool, true, false, if◌then◌else◌, List, [], ◌∷◌, reverse, map, length, Option, Some, None, is_some, refl, sym, ap, subst, ◌∙◌, arith}
+use Rattle.std.proofs.Common.{◌≡◌, inl, inr, ℕ, zero, suc, ◌<◌, ◌==◌, ◌||◌, not, Bool, true, false, if◌then◌else◌, List, [], ◌∷◌, reverse, map, length, Option, Some, None, is_some, refl, sym, ap, subst, ◌∙◌, arith}
 use Rattle.std.specs.Prelude.{slice_get}
 use Rattle.std.proofs.lemmas.List.{length-reverse, length-map}
 use Rattle.fr_typing.proofs.PlaceLemmas.{eq_cases}
 use Rattle.fr_base.specs.declared.name.ObjNo.{ObjNo}
 use Rattle.fr_base.specs.declared.name.MutexNo.{MutexNo}
-use Rattle.fr_base.specs.declared.label.Plain.{Plain}
 use Rattle.fr_base.specs.declared.instruction.Instr.{Instr}
 use Rattle.fr_base.specs.declared.instruction.Instr.TheVariants as instr
 use Rattle.fr_plain.specs.declared.value.Value.TheVariants.{Own}
@@ -22,8 +21,8 @@ use Rattle.server_model.specs.Servers.{Cluster}
 use Rattle.fr_typing.specs.Kinds.{Owned as OwnedType, box, Kind, own, shared, mutable, view, Piece, whole, gone, boxed, map_some}
 use Rattle.fr_typing.specs.Places.{Slot, Env}
 use Rattle.fr_store.specs.Keys.{Key, slot_k, temp_k, content_k, result_k}
-use Rattle.fr_store.specs.Store.{Location, at_key, at_object, Val, gone_v, box_v, ref_v, Store, value_at, box_target, below_key}
-use Rattle.fr_store.specs.Typed.{Tree, hole, int_tree, box_tree, Exact, owns, refers, KeyTypes, TopFits}
+use Rattle.fr_store.specs.Store.{Location, at_key, at_object, gone_v, box_v, ref_v, Store, value_at, box_target, below_key}
+use Rattle.fr_store.specs.Typed.{Tree, int_tree, Exact, owns, refers, KeyTypes, TopFits}
 use Rattle.fr_store.specs.Below.{tree_of, TreeOf, ExactOf, SlotsBelow}
 use Rattle.fr_store.specs.Thread.{TempIs}
 use Rattle.fr_store.proofs.Chains.{from_box}
@@ -34,15 +33,15 @@ use Rattle.fr_sound.specs.States.{Typing, env_at, part_of, owned_part, owned_kin
 use Rattle.fr_code.specs.Steps.{Place}
 use Rattle.fr_code.specs.CodeTypes.{Entry, Table}
 use Rattle.fr_code.specs.TableStates.{CodeStateTypes}
-use Rattle.heap_law.specs.Names.{tot, other, if_so, Among, same_object}
-use Rattle.heap_law.specs.Things.{Spot, in_slot, in_temp, as_gift, as_content, as_result, in_hand, Thing, holds, lies, flies, things_of}
+use Rattle.heap_law.specs.Names.{tot, if_so, Among}
+use Rattle.heap_law.specs.Things.{Spot, in_slot, in_temp, as_gift, as_content, as_result, in_hand, Thing, holds, lies, flies}
 use Rattle.heap_law.specs.Follow.{Standing, thread_at}
 use Rattle.heap_law.specs.Sight.{Sight, sight}
 use Rattle.heap_law.specs.Walking.{instr_of}
 use Rattle.heap_law.specs.Paths.{joined_thread}
 use Rattle.heap_law.specs.Requests.{locked_mutex}
 use Rattle.heap_law.specs.Coherent.{IsSound}
-use Rattle.heap_law.specs.OneHeap.{one_heap, plain_value, running_at, Node, object_n, mutex_n, task_n, Owner, inside, content_owner, result_owner, gift_owner, gift_owner_of, owner_of, owns as owns_node, names, owner_in, named_in, any_named, in_state_by, is_in_state, if_in, cell_value, first_shown, object_value, share_in}
+use Rattle.heap_law.specs.OneHeap.{one_heap, plain_value, Node, object_n, mutex_n, task_n, Owner, inside, content_owner, result_owner, gift_owner, gift_owner_of, owner_of, owns as owns_node, names, owner_in, named_in, any_named, in_state_by, is_in_state, if_in, cell_value, first_shown, share_in}
 use Rattle.heap_law.proofs.Words.{named, itself}
 use Rattle.type_law.specs.Names.{names_of, fits}
 use Rattle.type_law.specs.ClusterTypes.{entry_wrong}
@@ -58,9 +57,9 @@ use Rattle.typed_law.proofs.Following.{HasHeap, heap_of, stands_there}
 use Rattle.typed_law.proofs.Values.{slot_seen, temp_seen, running, held_shown}
 use Rattle.typed_law.proofs.Leads.{from_other}
 use Rattle.typed_law.proofs.Objects.{keys, seek_finds, under_boxes, entry_in, some_part, slot_type, temp_type, some_kind, key_type, seek_some, slot_among, temp_among, content_among, result_among, object_type, object_is}
-use Rattle.typed_law.proofs.Forms.{within_env, newest, older, exact_at}
+use Rattle.typed_law.proofs.Forms.{newest, exact_at}
 use Rattle.typed_law.proofs.Formed.{long_slots}
-use Rattle.fit_law.proofs.Depths.{Partly, hole_partly, whole_partly, type_deeper, fit_value, whole_there, AtDepth, at_depth}
+use Rattle.fit_law.proofs.Depths.{Partly, hole_partly, whole_partly, type_deeper, fit_value, AtDepth, at_depth}
 use Rattle.fit_law.proofs.Hands.{none_in_hand}
 use Rattle.fit_law.proofs.Stood.{only_shown, InSlot, InTemp, slot_stood, temp_stood, content_there, result_there}
 

@@ -1,5 +1,5 @@
 -- What stands so many boxes below a key that owns something has a type, which is partly there.
-use Rattle.std.proofs.Common.{◌≡◌, ◌⊎◌, inl, inr, ℕ, zero, suc, true, Option, Some, None, refl, sym, ap, subst, ◌∙◌}
+use Rattle.std.proofs.Common.{◌≡◌, ◌⊎◌, inl, inr, ℕ, zero, suc, true, Some, None, refl, sym, ap, subst, ◌∙◌}
 use Rattle.fr_base.specs.declared.name.ObjNo.{ObjNo}
 use Rattle.heap_partition.specs.Plain.{plain_of}
 use Rattle.heap_partition.specs.declared.value.BoxPtr.{BoxPtr}
@@ -7,7 +7,7 @@ use Rattle.heap_partition.specs.declared.value.Owned.{Owned}
 use Rattle.heap_partition.specs.declared.value.Owned.TheVariants as owned
 use Rattle.fr_typing.specs.Kinds.{Owned as OwnedType, unit, int, box, mutex, task}
 use Rattle.fr_store.specs.Keys.{Key}
-use Rattle.fr_store.specs.Store.{Location, at_key, Val, gone_v, unit_v, int_v, box_v, mutex_v, task_v, Store, value_at, below_key}
+use Rattle.fr_store.specs.Store.{Location, at_key, Val, gone_v, unit_v, box_v, Store, value_at, below_key}
 use Rattle.fr_store.specs.Typed.{Tree, hole, unit_tree, int_tree, mutex_tree, task_tree, box_tree, owns, KeyTypes, Typed, TopFits, tree_under, some_owns, exact_under}
 use Rattle.fr_store.specs.Below.{tree_of}
 use Rattle.fr_store.proofs.Chains.{from_suc}

@@ -1,5 +1,5 @@
 -- What stands in a typed one heap agrees with the types of its names.
-use Rattle.std.proofs.Common.{◌≡◌, inl, inr, ℕ, zero, suc, ◌+◌, ◌&&◌, Bool, true, false, List, [], ◌∷◌, ◌++◌, Option, Some, None, refl, sym, ap, subst, ◌∙◌, arith}
+use Rattle.std.proofs.Common.{◌≡◌, inl, inr, ℕ, suc, ◌+◌, ◌&&◌, Bool, true, false, List, [], ◌∷◌, Option, Some, None, refl, sym, ap, subst, ◌∙◌, arith}
 use Rattle.fr_base.specs.declared.name.MutexNo.{MutexNo}
 use Rattle.fr_base.specs.declared.instruction.Instr.{Instr}
 use Rattle.fr_base.specs.declared.instruction.Instr.TheVariants as instr
@@ -18,14 +18,14 @@ use Rattle.fr_sound.specs.States.{Typing}
 use Rattle.fr_code.specs.CodeTypes.{Table}
 use Rattle.fr_code.specs.TableStates.{CodeStateTypes}
 use Rattle.heap_law.specs.Names.{tot, other, if_so, Among}
-use Rattle.heap_law.specs.Things.{Spot, in_slot, in_temp, as_gift, as_content, as_result, in_hand, Thing, holds, lies, flies, stands, gift_things, walk_things, slot_things, temp_things, things_at, thread_things, things_of}
-use Rattle.heap_law.specs.Follow.{Standing, threads_in, thread_at}
+use Rattle.heap_law.specs.Things.{Spot, in_slot, in_temp, as_gift, as_content, as_result, in_hand, Thing, holds, lies, flies}
+use Rattle.heap_law.specs.Follow.{Standing}
 use Rattle.heap_law.specs.Sight.{Sight, sight}
 use Rattle.heap_law.specs.Walking.{instr_of}
 use Rattle.heap_law.specs.Paths.{joined_thread}
 use Rattle.heap_law.specs.Requests.{locked_mutex}
 use Rattle.heap_law.specs.Coherent.{IsSound}
-use Rattle.heap_law.specs.OneHeap.{one_heap, object_n, mutex_n, task_n, Owner, inside, content_owner, result_owner, gift_owner, gift_owner_of, owner_of, owner_in, is_in_state, value_is_in}
+use Rattle.heap_law.specs.OneHeap.{one_heap, object_n, mutex_n, task_n, inside, content_owner, result_owner, gift_owner, owner_of, owner_in, is_in_state, value_is_in}
 use Rattle.type_law.specs.Names.{NameTypes, names_of, fits, is_there}
 use Rattle.type_law.specs.ClusterTypes.{misfit, content_gift, result_gift, gift_misfit}
 use Rattle.path_law.proofs.Sole.{some_is}
@@ -38,7 +38,7 @@ use Rattle.typed_law.proofs.Counts.{locked_follow, ends_follow}
 use Rattle.fit_law.specs.Fits.{gift_is_in, HeapFits, TypedHeapsFit}
 use Rattle.fit_law.proofs.Depths.{whole_there}
 use Rattle.fit_law.proofs.Stood.{gift_among, gift_owned, content_there, result_there}
-use Rattle.fit_law.proofs.Chains.{OwnsKey, deep, type_at, fits_at, content_owns, content_at, result_owns, result_at, ObjectBelow, object_below, CellThing, it_lies, it_flies, cell_there, c, st, object}
+use Rattle.fit_law.proofs.Chains.{OwnsKey, deep, type_at, fits_at, content_owns, content_at, result_owns, result_at, object_below, CellThing, it_lies, it_flies, cell_there, c, st, object}
 
 -- SUMS
 

@@ -1,6 +1,5 @@
 -- Where what is outside a typed one heap agrees with the types of its names, all does: who is inside names only what is inside, and the other way.
-use Rattle.std.proofs.Common.{◌≡◌, inl, inr, ℕ, zero, suc, ◌+◌, ◌≤◌, ◌||◌, ◌&&◌, not, Bool, true, false, if◌then◌else◌, List, [], ◌∷◌, length, Option, Some, None, refl, sym, ap, subst, ◌∙◌, arith}
-use Rattle.fr_base.specs.declared.label.Plain.{Plain}
+use Rattle.std.proofs.Common.{◌≡◌, inl, inr, ℕ, zero, suc, ◌+◌, ◌≤◌, ◌||◌, ◌&&◌, not, Bool, true, false, if◌then◌else◌, List, [], ◌∷◌, length, Option, Some, None, refl, sym, ap, ◌∙◌, arith}
 use Rattle.fr_base.specs.declared.name.MutexNo.{MutexNo}
 use Rattle.fr_base.specs.declared.name.ObjNo.{ObjNo}
 use Rattle.heap_partition.specs.declared.value.BoxPtr.{BoxPtr}
@@ -13,7 +12,7 @@ use Rattle.fr_sound.specs.Seen.{Gives}
 use Rattle.fr_sound.specs.States.{Typing}
 use Rattle.fr_code.specs.CodeTypes.{Table}
 use Rattle.heap_law.specs.Names.{tot, one, other, if_so, Among, boxes, same_object}
-use Rattle.heap_law.specs.Things.{Spot, in_slot, in_temp, as_gift, as_content, as_result, in_hand, Thing, holds, lies, flies, things_of}
+use Rattle.heap_law.specs.Things.{Spot, in_slot, in_temp, as_gift, as_content, as_result, in_hand, Thing, holds, lies, flies}
 use Rattle.heap_law.specs.Follow.{Standing}
 use Rattle.heap_law.specs.Sight.{Sight, sight}
 use Rattle.heap_law.specs.Walking.{instr_of}
@@ -21,10 +20,10 @@ use Rattle.heap_law.specs.Paths.{joined_thread}
 use Rattle.heap_law.specs.Requests.{locked_mutex}
 use Rattle.heap_law.specs.Weights.{owners}
 use Rattle.heap_law.specs.Coherent.{IsSound}
-use Rattle.heap_law.specs.OneHeap.{one_heap, Node, object_n, Owner, a_thread, inside, outside, owns as owns_node, names, owner_of, owner_in, named_in, any_named, in_state_by, is_in_state, value_is_in, if_in, first_shown, cell_value}
+use Rattle.heap_law.specs.OneHeap.{Node, object_n, Owner, a_thread, inside, outside, owns as owns_node, names, owner_of, owner_in, named_in, any_named, in_state_by, is_in_state, value_is_in, if_in, first_shown, cell_value}
 use Rattle.heap_law.proofs.Words.{itself}
 use Rattle.type_law.specs.Names.{NameTypes, names_of, fits, is_there}
-use Rattle.type_law.specs.ClusterTypes.{misfit, content_gift, result_gift, gift_misfit, misfits}
+use Rattle.type_law.specs.ClusterTypes.{misfit, content_gift, result_gift, gift_misfit}
 use Rattle.path_law.proofs.Forms.{none_of}
 use Rattle.path_law.proofs.InState.{only_one}
 use Rattle.still_law.proofs.Rounds.{enough}

@@ -1,5 +1,5 @@
 -- An owned value among the things of a cluster stands in a slot, a temporary value or a gift of a thread, or as a content or a result that the one heap shows.
-use Rattle.std.proofs.Common.{◌≡◌, ◌⊎◌, inl, inr, ℕ, zero, suc, ◌+◌, ◌≤◌, ◌%◌, ◌^◌, ◌==◌, ◌&&◌, ◌||◌, not, Bool, true, false, List, [], ◌∷◌, ◌++◌, length, Option, Some, None, is_some, refl, sym, ap, subst, ◌∙◌, arith}
+use Rattle.std.proofs.Common.{◌≡◌, ◌⊎◌, inl, inr, ℕ, ◌+◌, ◌≤◌, ◌%◌, ◌^◌, ◌==◌, ◌&&◌, ◌||◌, not, Bool, true, false, List, [], ◌∷◌, ◌++◌, length, Option, Some, None, is_some, refl, sym, ap, subst, ◌∙◌, arith}
 use Rattle.std.specs.Prelude.{slice_get}
 use Rattle.std.proofs.lemmas.Bool.Decides.{nat_tests}
 use Rattle.fr_base.specs.declared.label.Plain.{Plain}
@@ -14,11 +14,10 @@ use Rattle.join_home.specs.Tasks.{TaskState, going, let_go, kept, asked, in_pair
 use Rattle.server_msgs.specs.declared.message.Message.{Message}
 use Rattle.server_msgs.specs.declared.message.Message.TheVariants as message
 use Rattle.thread_state.specs.View.{is_over}
-use Rattle.thread_state.specs.declared.value.Value.{Value}
 use Rattle.thread_state.specs.declared.value.Value.TheVariants as value
 use Rattle.server_model.specs.Servers.{Cluster}
 use Rattle.heap_law.specs.Names.{tot, one, other, some, if_so, Among, same_mutex}
-use Rattle.heap_law.specs.Things.{Spot, in_slot, in_temp, as_gift, as_content, as_result, in_hand, Thing, holds, lies, flies, sent, stands, noted, things_at, gift_things, walk_things, slot_things, temp_things, things_of}
+use Rattle.heap_law.specs.Things.{Spot, in_slot, in_temp, as_gift, as_content, as_result, in_hand, Thing, holds, sent, stands, noted, things_at, gift_things, walk_things, slot_things, temp_things, things_of}
 use Rattle.heap_law.specs.Follow.{Standing, threads_in, thread_at}
 use Rattle.heap_law.specs.Sight.{Sight, sight}
 use Rattle.heap_law.specs.Walking.{instr_of}
@@ -29,10 +28,9 @@ use Rattle.heap_law.specs.Sharing.{has_ended}
 use Rattle.heap_law.specs.Weights.{is_thread}
 use Rattle.heap_law.specs.Naming.{threads, started_at, uncounted_thread, zeroth_thread}
 use Rattle.heap_law.specs.Coherent.{IsSound}
-use Rattle.heap_law.specs.OneHeap.{one_heap, mutex_n, task_n, Owner, inside, content_owner, result_owner, gift_owner, gift_owner_of, owner_of, is_in_state, if_in, or_else, first_shown, is_gift_of, content_value, share_in, if_there, is_branch, is_joined_by, result_value, result_of, ended_with, life_of, life_at, if_given, is_given_thread}
+use Rattle.heap_law.specs.OneHeap.{one_heap, mutex_n, task_n, inside, content_owner, result_owner, gift_owner, gift_owner_of, owner_of, is_in_state, if_in, or_else, first_shown, is_gift_of, content_value, share_in, if_there, is_joined_by, result_value, result_of, ended_with, life_of, life_at, if_given, is_given_thread}
 use Rattle.event_law.proofs.MutexResults.{mutex_self}
 use Rattle.path_law.specs.HeapStore.{GoesOn}
-use Rattle.path_law.proofs.Sole.{some_is}
 use Rattle.path_law.proofs.Shown.{none_else}
 use Rattle.path_law.proofs.Forms.{none_of}
 use Rattle.path_law.proofs.Contained.{among_thread, servers_contain}

@@ -7,7 +7,6 @@ use Rattle.fr_code.specs.CodeTypes.{Table}
 use Rattle.fr_code.specs.TableStates.{CodeStateTypes}
 use Rattle.server_model.specs.Servers.{Cluster}
 use Rattle.heap_law.specs.Names.{if_so}
-use Rattle.heap_law.specs.Things.{Thing}
 use Rattle.heap_law.specs.Follow.{Standing}
 use Rattle.heap_law.specs.Sight.{Sight, sight}
 use Rattle.heap_law.specs.Placing.{sum_over}

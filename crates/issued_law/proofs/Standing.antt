@@ -16,7 +16,7 @@ use Rattle.server_model.specs.declared.event.What.TheVariants.{Step, Deliver}
 use Rattle.server_model.specs.Servers.{Server, Cluster, server_at}
 use Rattle.server_model.specs.Work.{then_some, thread_in, last_of}
 use Rattle.server_model.specs.Places.{Spot, in_slot, on_top, nowhere}
-use Rattle.server_model.specs.Prepare.{ready, assigned, ending, read_or_taken, read_stars, read_pointer, access_of, prepare}
+use Rattle.server_model.specs.Prepare.{assigned, ending, read_or_taken, read_stars, read_pointer, access_of, prepare}
 use Rattle.server_model.specs.Clusters.{apply}
 use Rattle.heap_law.specs.Sight.{sight}
 use Rattle.heap_law.specs.Coherent.{Holds, are_issued}

@@ -20,7 +20,7 @@ use Rattle.server_model.specs.Clusters.{apply}
 use Rattle.heap_law.specs.Names.{tot, one, other, some, if_so, Among}
 use Rattle.heap_law.specs.Things.{Thing, stands, things_of}
 use Rattle.heap_law.specs.Follow.{Standing, threads_in, thread_at}
-use Rattle.heap_law.specs.Sight.{Sight, sight}
+use Rattle.heap_law.specs.Sight.{sight}
 use Rattle.heap_law.specs.OneHeap.{one_heap, if_given, is_given_thread, life_at}
 use Rattle.heap_law.specs.Naming.{started_at, uncounted_thread, zeroth_thread, threads}
 use Rattle.type_law.specs.Names.{NameTypes, names_of}

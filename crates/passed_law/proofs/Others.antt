@@ -1,37 +1,26 @@
 -- What each thread but the event's own one has passed has no copy, after the step of another thread, and after the deliveries of a `move` and of a `drop`.
-use Rattle.std.proofs.Common.{◌≡◌, ◌⊎◌, ℕ, zero, suc, ◌+◌, ◌≤◌, ◌<◌, ◌==◌, ◌&&◌, nat_le, not, Bool, true, false, Option, Some, None, refl, sym, ap, subst, ◌∙◌, arith}
-use Rattle.std.proofs.lemmas.Bool.Decides.{nat_tests}
-use Rattle.std.specs.Prelude.{slice_get}
+use Rattle.std.proofs.Common.{◌≡◌, ℕ, zero, suc, Bool, true, false, Some, refl, sym, ap, ◌∙◌, arith}
 use Rattle.fr_base.specs.declared.name.ObjNo.{ObjNo}
 use Rattle.fr_base.specs.declared.place.Lval.{Lval}
-use Rattle.heap_partition.specs.declared.value.BoxPtr.{BoxPtr}
-use Rattle.heap_partition.specs.declared.value.Owned.TheVariants as owned
 use Rattle.thread_state.specs.View.{is_over}
-use Rattle.thread_state.specs.declared.phase.Phase.{Phase}
 use Rattle.thread_state.specs.declared.phase.Phase.TheVariants as phase
-use Rattle.thread_state.specs.declared.value.Value.{Value}
-use Rattle.thread_state.specs.declared.value.Value.TheVariants as value
 use Rattle.journal.specs.View.{EntryView}
-use Rattle.server_msgs.specs.declared.message.Message.{Message}
 use Rattle.server_msgs.specs.declared.message.Message.TheVariants as message
 use Rattle.server_model.specs.declared.event.Event.{Event}
-use Rattle.server_model.specs.declared.event.What.TheVariants.{Step}
 use Rattle.server_model.specs.Servers.{Cluster}
 use Rattle.server_model.specs.Clusters.{apply}
-use Rattle.heap_law.specs.Names.{tot, one, other, if_so, Among}
-use Rattle.heap_law.specs.Things.{Location, things_of}
-use Rattle.heap_law.specs.Follow.{Standing, Ground, threads_in, thread_at, value_behind, locate, hop_at}
-use Rattle.heap_law.specs.Paths.{Path, written_place, path_of}
-use Rattle.heap_law.specs.Sight.{Sight, sight}
-use Rattle.heap_law.specs.Walking.{path, in_walk, early, too_far, hop_count, over_hops, over_place, over_passed, copied_box}
+use Rattle.heap_law.specs.Names.{tot, Among}
+use Rattle.heap_law.specs.Things.{things_of}
+use Rattle.heap_law.specs.Follow.{Standing, threads_in, thread_at}
+use Rattle.heap_law.specs.Sight.{sight}
+use Rattle.heap_law.specs.Walking.{in_walk, early, too_far, over_passed, copied_box}
 use Rattle.heap_law.specs.Weights.{copies}
 use Rattle.heap_law.specs.Coherent.{Holds, passed_not_copied, passed_in_a_walk}
 use Rattle.heap_law.proofs.Words.{none_at, none_all}
 use Rattle.type_law.specs.ClusterTypes.{IsCoherent}
-use Rattle.path_law.specs.HeapStore.{GoesOn, HasPaths}
+use Rattle.path_law.specs.HeapStore.{GoesOn}
 use Rattle.end_law.proofs.Fresh.{Writing, through_it, of_holder, writing}
 use Rattle.word_law.specs.Reworded.{HasPlaces}
-use Rattle.word_law.specs.Unmoved.{Delivers}
 use Rattle.event_law.specs.Laws.{Gives, FewEvents}
 use Rattle.event_law.proofs.Results.{both_give}
 use Rattle.event_law.proofs.Sending.{applied_part}

@@ -22,7 +22,7 @@ use Rattle.server_model.specs.Work.{Hand, thread_in, used_once}
 use Rattle.server_model.specs.Objects.{waits_for_cell, filled}
 use Rattle.server_model.specs.Events.{Stepped, begin_work, received, step}
 use Rattle.server_model.specs.Clusters.{apply}
-use Rattle.heap_law.specs.Names.{tot, one, other, Among}
+use Rattle.heap_law.specs.Names.{tot, one, other}
 use Rattle.heap_law.specs.Things.{Location, things_of}
 use Rattle.heap_law.specs.Follow.{Standing, threads_in}
 use Rattle.thread_state.specs.declared.value.Value.{Value}

@@ -3,7 +3,6 @@ use Rattle.std.proofs.Common.{◌≡◌, ℕ, length, option_map, Option, Some, 
 use Rattle.std.proofs.Math.Path.{fun_ext}
 use Rattle.fr_base.specs.declared.step.Fresh.{Fresh}
 use Rattle.fr_plain.specs.PlainState.{SameState, plain_state}
-use Rattle.fr_sound.specs.States.{Typing}
 use Rattle.fr_code.specs.CodeTable.{IsTable}
 use Rattle.fr_code.specs.Machine.{CodeState}
 use Rattle.fr_code.specs.TableStates.{CodeStateTypes}
