@@ -14,3 +14,4 @@ pub mod AskedThere
 pub mod AtInstructions
 pub mod SameHeap
 pub mod Undone
+pub mod Below

@@ -41,10 +41,10 @@ use Rattle.stay_law.proofs.Steps.{TakesNoneHere}
 use Rattle.word_law.specs.Soles.{IsSole}
 use Rattle.word_law.proofs.Cells.{CellPut, cell_put, cells_reword}
 use Rattle.word_law.proofs.Tints.{SlotPut, word_put}
-use Rattle.write_law.proofs.Memory.{Leads, looks, made_leads, made_longer}
-use Rattle.write_law.proofs.Route.{Route, Hop, by_slot, by_reference, by_box, by_cell, Writing, begins, At, a_slot, a_cell, Fine, all_hops, rerouted}
-use Rattle.write_law.proofs.Routes.{road, roomy_at}
-use Rattle.write_law.proofs.Written.{IsFollowed, follows, short_place, may_pass, passed_lies}
+use Rattle.rewrite_law.proofs.Below.write_law.Memory.{Leads, looks, made_leads, made_longer}
+use Rattle.rewrite_law.proofs.Below.write_law.Route.{Route, Hop, by_slot, by_reference, by_box, by_cell, Writing, begins, At, a_slot, a_cell, Fine, all_hops, rerouted}
+use Rattle.rewrite_law.proofs.Below.write_law.Routes.{road, roomy_at}
+use Rattle.rewrite_law.proofs.Below.write_law.Written.{IsFollowed, follows, short_place, may_pass, passed_lies}
 use Rattle.rewrite_law.proofs.Onward.{IsWritten}
 use Rattle.rewrite_law.proofs.Later.{Later, later_stored}
 use Rattle.rewrite_law.proofs.Passing.{Fits, State, passed}

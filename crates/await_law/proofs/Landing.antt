@@ -66,8 +66,8 @@ use Rattle.prepare_law.proofs.Rising.{rise_changed}
 use Rattle.prepare_law.proofs.Asking.{found_number}
 use Rattle.prepare_law.proofs.Hands.{put, places}
 use Rattle.result_law.proofs.Pointing.{its_partition}
-use Rattle.write_law.proofs.Memory.{Sane}
-use Rattle.write_law.proofs.Routes.{sane_at, roomy_at}
+use Rattle.rewrite_law.proofs.Below.write_law.Memory.{Sane}
+use Rattle.rewrite_law.proofs.Below.write_law.Routes.{sane_at, roomy_at}
 use Rattle.rewrite_law.proofs.Onward.{Onward, onward_itself, onward_so, no_first, holds_alike}
 use Rattle.rewrite_law.proofs.Later.{later_itself, next_unissued, place_vacant}
 use Rattle.rewrite_law.proofs.Passing.{Fits, hands_alike}

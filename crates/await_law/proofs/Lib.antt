@@ -7,3 +7,4 @@ pub mod TakingUp
 pub mod Turns
 pub mod BorrowArrivals
 pub mod EndArrivals
+pub mod Below

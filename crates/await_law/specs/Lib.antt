@@ -1,3 +1,4 @@
+pub mod Below
 pub mod WriteArrivals
 pub mod ReadArrivals
 pub mod TakenUp

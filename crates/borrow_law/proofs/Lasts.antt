@@ -20,7 +20,7 @@ use Rattle.read_law.specs.Reading.{Reads, LiesUnder}
 use Rattle.read_law.proofs.FreshReads.{reading_of, fresh_if}
 use Rattle.read_law.proofs.Flights.{answers_told}
 use Rattle.read_law.proofs.Homes.{pointer_leads, fresh_word}
-use Rattle.end_law.proofs.Lying.{lies_read}
+use Rattle.made_law.proofs.Below.end_law.Lying.{lies_read}
 
 module _ (k : Cluster) (coherent : IsCoherent k) (x : Standing) (g : GoesOn k x) (i : Instr) (w : Lval) (m : ℕ) (reads : Reads i w m) (deep : w.depth ≡ suc m) (at : instr_of (sight k) x ≡ Some i)
     (none : (l : Location) → HasTaken k (coherent_has_paths k coherent) x l → ⊥) where

@@ -59,7 +59,7 @@ use Rattle.prepare_law.proofs.Rising.{rise_itself}
 use Rattle.prepare_law.proofs.Hands.{Ok, State, Walks, put, places}
 use Rattle.prepare_law.proofs.Stars.{Spotted, asks_object, walks_loaded}
 use Rattle.prepare_law.proofs.Asking.{found_number}
-use Rattle.carry_law.proofs.Locks.{holds_on, Kept, kept_where}
+use Rattle.made_law.proofs.Below.carry_law.Locks.{holds_on, Kept, kept_where}
 use Rattle.borrow_law.proofs.Sources as sources
 use Rattle.borrow_law.proofs.LentOne.{LentOne, lent_one_stays}
 use Rattle.borrow_law.proofs.OnTop.{same_takings, lent_on_top}

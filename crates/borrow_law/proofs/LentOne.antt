@@ -32,7 +32,7 @@ use Rattle.word_law.proofs.Standing.{pointer_at, Tells, tells, told_standing, st
 use Rattle.word_law.proofs.Takings.{leads_pointing, reference_at, seen_pointer_at, first_at, lent_by, taken_by, lents_are, takens_are, lent_listed, lent_told, taken_listed, taken_told}
 use Rattle.word_law.proofs.Follows.{seen_holders_lead, seen_places_lead}
 use Rattle.word_law.proofs.Grounds.{OfBorrows, of_borrows, same_place}
-use Rattle.carry_law.proofs.Passing.{no_temp}
+use Rattle.made_law.proofs.Below.carry_law.Passing.{no_temp}
 
 -- made where the object lies: the pointer isn't stale, and its word and mark are the reference's
 pub record MadeHere (k z : Cluster) (h : Location) (r : MutRef) (from : Value) : Type 0 where

@@ -10,3 +10,4 @@ pub mod Made
 pub mod Lends
 pub mod AtHand
 pub mod Takes
+pub mod Below

@@ -34,7 +34,7 @@ use Rattle.stay_law.proofs.Sites.{HandAlike}
 use Rattle.stay_law.specs.Laws.{mutable}
 use Rattle.prepare_law.specs.Requests.{WordsRise}
 use Rattle.prepare_law.proofs.Hands.{Ok, put, places}
-use Rattle.carry_law.proofs.Locks.{holds_on}
+use Rattle.made_law.proofs.Below.carry_law.Locks.{holds_on}
 use Rattle.borrow_law.proofs.Pushed.{hands_alike}
 
 -- WHAT IS LENT AGAIN

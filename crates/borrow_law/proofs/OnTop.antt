@@ -23,9 +23,9 @@ use Rattle.stay_law.proofs.Alike.{Alike, itself, chain, beside, joined, standing
 use Rattle.stay_law.proofs.Steps.{TakesNoneHere}
 use Rattle.prepare_law.proofs.Hands.{Ok, put, places, stands}
 use Rattle.path_law.proofs.Contained.{among_thread}
-use Rattle.carry_law.proofs.Far.{taking_listed}
-use Rattle.carry_law.proofs.Places.{end_is, end_none, end_other, end_things}
-use Rattle.carry_law.proofs.Replaced.{standing_split, standing_first, tail_of, takings_skip, threads_a, threads_b, at_a, at_b, in_slots, in_temps, in_cells, takings_same, lies_back, pointer_back, standing_back, of_thread}
+use Rattle.made_law.proofs.Below.carry_law.Far.{taking_listed}
+use Rattle.made_law.proofs.Below.carry_law.Places.{end_is, end_none, end_other, end_things}
+use Rattle.made_law.proofs.Below.carry_law.Replaced.{standing_split, standing_first, tail_of, takings_skip, threads_a, threads_b, at_a, at_b, in_slots, in_temps, in_cells, takings_same, lies_back, pointer_back, standing_back, of_thread}
 use Rattle.borrow_law.proofs.LentOne.{MadeHere, MadeOfTaken, LentOne}
 
 -- TAKINGS OF LISTS

@@ -25,7 +25,7 @@ use Rattle.word_law.specs.OneMore.{IsClean, Beside, OneMore}
 use Rattle.word_law.proofs.Standing.{CellOf, lying, flying, borrow_stands}
 use Rattle.word_law.proofs.Grounds.{of_borrows}
 use Rattle.stay_law.proofs.Alike.{StandsIn, Alike, standing_turn}
-use Rattle.carry_law.proofs.Far.{loose_within, CellIn, lies_in, flies_in}
+use Rattle.made_law.proofs.Below.carry_law.Far.{loose_within, CellIn, lies_in, flies_in}
 use Rattle.made_law.proofs.Sames.{taken_on, CellAway, stands_alike}
 
 -- the pointer of a shared reference

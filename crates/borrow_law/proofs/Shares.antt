@@ -60,7 +60,7 @@ use Rattle.prepare_law.proofs.Untaken.{not_taken}
 use Rattle.prepare_law.proofs.Hands.{Ok, State, Walks, put, places, cleans_at}
 use Rattle.prepare_law.proofs.Stars.{Spotted, a_slot, a_cell, a_copy, asks_object, walks_loaded}
 use Rattle.prepare_law.proofs.Asking.{found_number}
-use Rattle.carry_law.proofs.Locks.{holds_on, Kept, kept_where}
+use Rattle.made_law.proofs.Below.carry_law.Locks.{holds_on, Kept, kept_where}
 use Rattle.borrow_law.specs.Borrows.{SharedBorrowsKeep}
 use Rattle.borrow_law.proofs.OneShare.{shared_pointer, share_more}
 use Rattle.borrow_law.proofs.Sources as sources

@@ -58,8 +58,8 @@ use Rattle.prepare_law.specs.Requests.{WordsRise}
 use Rattle.prepare_law.proofs.Hands.{Ok, Walks, put, places}
 use Rattle.prepare_law.proofs.Stars.{Spotted, walks_loaded}
 use Rattle.prepare_law.proofs.Asking.{found_number}
-use Rattle.carry_law.proofs.Far.{thread_thing}
-use Rattle.carry_law.proofs.Locks.{holds_on, Kept, kept_where}
+use Rattle.made_law.proofs.Below.carry_law.Far.{thread_thing}
+use Rattle.made_law.proofs.Below.carry_law.Locks.{holds_on, Kept, kept_where}
 use Rattle.ask_law.proofs.Unasked.{Unasked}
 use Rattle.borrow_law.specs.Borrows.{MutableBorrowsKeep}
 use Rattle.borrow_law.proofs.AtHand.{unasked}

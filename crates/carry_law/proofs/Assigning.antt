@@ -23,11 +23,11 @@ use Rattle.event_law.specs.Laws.{Gives}
 use Rattle.event_law.proofs.Results.{over_gives}
 use Rattle.event_law.proofs.Values.{last_split}
 use Rattle.event_law.proofs.Bags.{body_things}
-use Rattle.stay_law.proofs.Alike.{Alike, itself, turned, beside}
-use Rattle.stay_law.proofs.Servers.{held, held_if, given_up}
-use Rattle.stay_law.proofs.Threads.{temps_of, thread_alike}
-use Rattle.stay_law.proofs.Steps.{IsUnseen, owned_unseen, TakesNoneHere, settles}
-use Rattle.stay_law.proofs.Sites.{HandAlike}
+use Rattle.prepare_law.proofs.Below.stay_law.Alike.{Alike, itself, turned, beside}
+use Rattle.prepare_law.proofs.Below.stay_law.Servers.{held, held_if, given_up}
+use Rattle.prepare_law.proofs.Below.stay_law.Threads.{temps_of, thread_alike}
+use Rattle.prepare_law.proofs.Below.stay_law.Steps.{IsUnseen, owned_unseen, TakesNoneHere, settles}
+use Rattle.prepare_law.proofs.Below.stay_law.Sites.{HandAlike}
 use Rattle.carry_law.proofs.Passing.{slot, temp}
 use Rattle.carry_law.proofs.Places.{set_things, set_twice, set_seen, slot_emptied, slot_filled}
 use Rattle.carry_law.proofs.Hands.{each_together, together_chain, seen, passed, moved_on, Assigned}

@@ -31,7 +31,7 @@ use Rattle.event_law.proofs.Bags.{all_standing}
 use Rattle.event_law.proofs.Events.{others_of}
 use Rattle.event_law.proofs.Steps.{step_keeps}
 use Rattle.event_law.proofs.GiftsTaken.{gift_fits}
-use Rattle.stay_law.proofs.Steps.{TakesNoneHere}
+use Rattle.prepare_law.proofs.Below.stay_law.Steps.{TakesNoneHere}
 use Rattle.prepare_law.proofs.Asking.{found_number}
 use Rattle.carry_law.specs.Steps.{IsOwnedOrGone, owns, gone, AssignsOver}
 use Rattle.carry_law.proofs.Owned.{OwnsAlone}

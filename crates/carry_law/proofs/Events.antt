@@ -30,7 +30,7 @@ use Rattle.event_law.proofs.Bags.{all_standing}
 use Rattle.event_law.proofs.Events.{others_of}
 use Rattle.event_law.proofs.Steps.{step_keeps}
 use Rattle.event_law.proofs.GiftsTaken.{gift_fits}
-use Rattle.stay_law.proofs.Steps.{TakesNoneHere}
+use Rattle.prepare_law.proofs.Below.stay_law.Steps.{TakesNoneHere}
 use Rattle.prepare_law.proofs.Asking.{found_number}
 use Rattle.carry_law.specs.Steps.{CarriesOne, a_let, a_mutex, a_join, an_end, StepsCarry, IsNoReference, DiscardsCarry}
 use Rattle.carry_law.proofs.Hands.{GoesOver, words_go, Ok, Moved, h0, first_ok, moved_goes, left_by, step_by}

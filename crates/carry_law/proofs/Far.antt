@@ -22,7 +22,7 @@ use Rattle.word_law.specs.Unmoved.{pointing, owning, seen_at, Taking, with_takin
 use Rattle.word_law.specs.OneMore.{Beside, OneMore}
 use Rattle.word_law.proofs.Standing.{CellOf, lying, flying, cell_among, cell_found, of_thing, pointers_among, stands_in}
 use Rattle.word_law.proofs.Loose.{box_nowhere}
-use Rattle.stay_law.proofs.Alike.{ShowsAs, shows_turn, StandsIn, Seen, Within, Alike, standing_turn}
+use Rattle.prepare_law.proofs.Below.stay_law.Alike.{ShowsAs, shows_turn, StandsIn, Seen, Within, Alike, standing_turn}
 use Rattle.carry_law.proofs.Taken.{taker_of}
 
 -- THREADS AMONG THINGS

@@ -51,10 +51,10 @@ use Rattle.event_law.proofs.Events.{others_of}
 use Rattle.event_law.proofs.Steps.{step_keeps}
 use Rattle.event_law.proofs.GiftsTaken.{gift_fits}
 use Rattle.event_law.proofs.ThreadThere.{thread_there}
-use Rattle.stay_law.proofs.Alike.{Alike, itself, turned, chain, beside, blank}
-use Rattle.stay_law.proofs.Servers.{held, content_held, given_up, sends}
-use Rattle.stay_law.proofs.Sites.{HandAlike}
-use Rattle.stay_law.proofs.Steps.{IsUnseen, TakesNoneHere, settles}
+use Rattle.prepare_law.proofs.Below.stay_law.Alike.{Alike, itself, turned, chain, beside, blank}
+use Rattle.prepare_law.proofs.Below.stay_law.Servers.{held, content_held, given_up, sends}
+use Rattle.prepare_law.proofs.Below.stay_law.Sites.{HandAlike}
+use Rattle.prepare_law.proofs.Below.stay_law.Steps.{IsUnseen, TakesNoneHere, settles}
 use Rattle.prepare_law.proofs.Hands.{calm_goes}
 use Rattle.prepare_law.proofs.Asking.{found_number}
 use Rattle.carry_law.specs.Steps.{GivesOwned, drops, drops_none, puts_back, moves, OwnedGoes}

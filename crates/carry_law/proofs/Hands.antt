@@ -43,11 +43,11 @@ use Rattle.event_law.proofs.Chains.{takes, puts_back}
 use Rattle.event_law.proofs.Events.{others_of, tot-server, begins_site, ends_site}
 use Rattle.event_law.proofs.Applied.{go_with}
 use Rattle.event_law.proofs.Sending.{applied_part, each_event_sends}
-use Rattle.stay_law.proofs.Alike.{Alike, itself, turned, chain, beside, exchanged, joined}
-use Rattle.stay_law.proofs.Lists.{thread_set, taken_alike}
-use Rattle.stay_law.proofs.Sites.{HandAlike, put_alike, begun_alike, ends_alike, servers_alike, replaced, handed_over}
-use Rattle.stay_law.proofs.Steps.{hand_itself}
-use Rattle.stay_law.proofs.Seen.{seen_alike}
+use Rattle.prepare_law.proofs.Below.stay_law.Alike.{Alike, itself, turned, chain, beside, exchanged, joined}
+use Rattle.prepare_law.proofs.Below.stay_law.Lists.{thread_set, taken_alike}
+use Rattle.prepare_law.proofs.Below.stay_law.Sites.{HandAlike, put_alike, begun_alike, ends_alike, servers_alike, replaced, handed_over}
+use Rattle.prepare_law.proofs.Below.stay_law.Steps.{hand_itself}
+use Rattle.prepare_law.proofs.Below.stay_law.Seen.{seen_alike}
 use Rattle.carry_law.specs.Carried.{Carried}
 use Rattle.carry_law.proofs.Carrying.{carried_stays}
 use Rattle.carry_law.proofs.Replaced.{tail_of, cells_same, places_on}

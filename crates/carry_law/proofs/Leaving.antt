@@ -35,9 +35,9 @@ use Rattle.event_law.proofs.ObjectMessages.{looked_object}
 use Rattle.event_law.proofs.MutexResults.{has}
 use Rattle.event_law.proofs.Applied.{go_with}
 use Rattle.event_law.proofs.Sending.{applied_part, each_event_sends}
-use Rattle.stay_law.proofs.Alike.{Alike, itself, turned, chain, beside, in_front, blank, blanks, goes}
-use Rattle.stay_law.proofs.Servers.{server_body, receives, sends}
-use Rattle.stay_law.proofs.Sites.{ends_alike, servers_alike, replaced, handed_over}
+use Rattle.prepare_law.proofs.Below.stay_law.Alike.{Alike, itself, turned, chain, beside, in_front, blank, blanks, goes}
+use Rattle.prepare_law.proofs.Below.stay_law.Servers.{server_body, receives, sends}
+use Rattle.prepare_law.proofs.Below.stay_law.Sites.{ends_alike, servers_alike, replaced, handed_over}
 use Rattle.carry_law.specs.Leaving.{MovesLeave}
 use Rattle.carry_law.proofs.Far.{leaves_old}
 

@@ -14,3 +14,4 @@ pub mod Leaving
 pub mod Assigning
 pub mod Assigns
 pub mod Making
+pub mod Below

@@ -43,11 +43,11 @@ use Rattle.event_law.proofs.Commits.{CommittedOk}
 use Rattle.event_law.proofs.Steps.{SteppedOk, committed_keeps}
 use Rattle.event_law.proofs.Applied.{go_with}
 use Rattle.event_law.proofs.Sending.{applied_part, each_event_sends}
-use Rattle.read_law.specs.Reading.{locks}
-use Rattle.stay_law.proofs.Alike.{Alike, itself}
-use Rattle.stay_law.proofs.Sites.{handed_over}
-use Rattle.stay_law.proofs.Seen.{seen_alike}
-use Rattle.stay_law.proofs.Steps.{TakesNoneHere, untaken_here}
+use Rattle.prepare_law.specs.Below.read_law.Reading.{locks}
+use Rattle.prepare_law.proofs.Below.stay_law.Alike.{Alike, itself}
+use Rattle.prepare_law.proofs.Below.stay_law.Sites.{handed_over}
+use Rattle.prepare_law.proofs.Below.stay_law.Seen.{seen_alike}
+use Rattle.prepare_law.proofs.Below.stay_law.Steps.{TakesNoneHere, untaken_here}
 use Rattle.prepare_law.specs.Requests.{WordsRise}
 use Rattle.prepare_law.proofs.Rising.{rise_left}
 use Rattle.prepare_law.proofs.Along.{Along}

@@ -29,8 +29,8 @@ use Rattle.word_law.specs.Unmoved.{pointing, owning, seen_at, Taking, taking_by,
 use Rattle.word_law.proofs.Put.{Split}
 use Rattle.word_law.proofs.Standing.{pointer_at, tells, told_standing, stands_in}
 use Rattle.word_law.proofs.Takings.{leads_pointing, first_pointing}
-use Rattle.stay_law.proofs.Alike.{Alike, standing_turn}
-use Rattle.stay_law.proofs.Servers.{held}
+use Rattle.prepare_law.proofs.Below.stay_law.Alike.{Alike, standing_turn}
+use Rattle.prepare_law.proofs.Below.stay_law.Servers.{held}
 use Rattle.carry_law.specs.Carried.{Carried}
 use Rattle.carry_law.proofs.Replaced.{tail_of, standing_split, standing_first, standing_second, at_a, at_b, in_slots, in_temps, in_cells, takings_same, lies_back, pointer_back, standing_back, of_thread}
 

@@ -17,8 +17,8 @@ use Rattle.heap_law.proofs.Sums.{tot-append}
 use Rattle.word_law.specs.Unmoved.{pointing, owning, taking_by}
 use Rattle.word_law.proofs.Loose.{box_nowhere}
 use Rattle.word_law.proofs.Slots.{set_same, set_other}
-use Rattle.stay_law.proofs.Alike.{Alike, Seen, itself, turned, chain, beside, exchanged, in_front, joined, alone, blank}
-use Rattle.stay_law.proofs.Servers.{held, gift_held}
+use Rattle.prepare_law.proofs.Below.stay_law.Alike.{Alike, Seen, itself, turned, chain, beside, exchanged, in_front, joined, alone, blank}
+use Rattle.prepare_law.proofs.Below.stay_law.Servers.{held, gift_held}
 use Rattle.carry_law.proofs.Passing.{slot, temp, nowhere, Passes, between, leaves, comes}
 
 -- LISTS WITH A VALUE AT THE END

@@ -32,12 +32,12 @@ use Rattle.event_law.specs.Laws.{Gives}
 use Rattle.event_law.proofs.Results.{over_gives, test_gives, both_give, weaker}
 use Rattle.event_law.proofs.Values.{last_split}
 use Rattle.event_law.proofs.Bags.{body_things, sent_number}
-use Rattle.stay_law.proofs.Alike.{Alike, itself, turned, chain, beside, in_front, joined, alone, blank, goes}
-use Rattle.stay_law.proofs.Lists.{at_end, taken_alike}
-use Rattle.stay_law.proofs.Servers.{held, held_if, mutex_shows, other_mutexes, result_held, given_up, sends}
-use Rattle.stay_law.proofs.Threads.{slots_of, temps_of, thread_alike}
-use Rattle.stay_law.proofs.Sites.{HandAlike}
-use Rattle.stay_law.proofs.Steps.{IsUnseen, owned_unseen, shared_slot_unseen, mut_slot_unseen, TakesNoneHere, pushes, pops, settles, joins_ask}
+use Rattle.prepare_law.proofs.Below.stay_law.Alike.{Alike, itself, turned, chain, beside, in_front, joined, alone, blank, goes}
+use Rattle.prepare_law.proofs.Below.stay_law.Lists.{at_end, taken_alike}
+use Rattle.prepare_law.proofs.Below.stay_law.Servers.{held, held_if, mutex_shows, other_mutexes, result_held, given_up, sends}
+use Rattle.prepare_law.proofs.Below.stay_law.Threads.{slots_of, temps_of, thread_alike}
+use Rattle.prepare_law.proofs.Below.stay_law.Sites.{HandAlike}
+use Rattle.prepare_law.proofs.Below.stay_law.Steps.{IsUnseen, owned_unseen, shared_slot_unseen, mut_slot_unseen, TakesNoneHere, pushes, pops, settles, joins_ask}
 use Rattle.carry_law.specs.Steps.{IsNoReference}
 use Rattle.carry_law.proofs.Replaced.{tail_of}
 use Rattle.carry_law.proofs.Passing.{slot, temp, nowhere}

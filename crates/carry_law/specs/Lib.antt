@@ -1,3 +1,4 @@
+pub mod Below
 pub mod Carried
 pub mod Steps
 pub mod Leaving

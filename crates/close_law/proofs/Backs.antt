@@ -11,7 +11,7 @@ use Rattle.server_model.specs.Drop.{finish}
 use Rattle.type_law.specs.ClusterTypes.{IsCoherent}
 use Rattle.event_law.specs.Laws.{Gives}
 use Rattle.carry_law.proofs.Passing.{Here, slot}
-use Rattle.finish_law.proofs.EndHands.{Goes}
+use Rattle.return_law.proofs.Below.finish_law.EndHands.{Goes}
 use Rattle.return_law.proofs.Returns.{Shape, after}
 use Rattle.cover_law.proofs.Hops.{Now}
 

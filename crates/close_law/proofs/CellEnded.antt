@@ -28,9 +28,9 @@ use Rattle.carry_law.proofs.Passing.{Here, slot, temp, nowhere, located, here}
 use Rattle.carry_law.proofs.Hands.{RootedIn}
 use Rattle.refs_law.specs.Unpassed.{IsUnpassed}
 use Rattle.refs_law.proofs.Chains.{held_there}
-use Rattle.finish_law.proofs.EndPlaces.{Without}
+use Rattle.return_law.proofs.Below.finish_law.EndPlaces.{Without}
 use Rattle.return_law.proofs.CellEnds.{same_takings, taken_same}
-use Rattle.hidden_law.proofs.EndMarks.{Leaving}
+use Rattle.cover_law.proofs.Below.hidden_law.EndMarks.{Leaving}
 
 -- WHERE PLACES LEAD
 

@@ -50,16 +50,16 @@ use Rattle.read_law.proofs.Homes.{fresh_word}
 use Rattle.refs_law.proofs.Chains.{cluster}
 use Rattle.write_law.proofs.Memory.{Leads, looks, leads_on}
 use Rattle.rewrite_law.proofs.Onward.{Lies}
-use Rattle.through_law.proofs.Emptying.{stored_split, part_among}
-use Rattle.finish_law.proofs.EndHands.{set_apart, is_so, Base, AtEnd, Goes}
-use Rattle.finish_law.proofs.EndPlaces.{Without, newest_without, emptied_without, top_without}
+use Rattle.cover_law.proofs.Below.through_law.Emptying.{stored_split, part_among}
+use Rattle.return_law.proofs.Below.finish_law.EndHands.{set_apart, is_so, Base, AtEnd, Goes}
+use Rattle.return_law.proofs.Below.finish_law.EndPlaces.{Without, newest_without, emptied_without, top_without}
 use Rattle.return_law.proofs.CellEnds.{rooted_after, cell_end_leaves}
 use Rattle.return_law.proofs.Returns.{marks, noted, marks_size, marks_other, Shape, newest, top, emptied, after}
 use Rattle.type_law.specs.ClusterTypes.{IsCoherent}
 use Rattle.fr_base.specs.declared.name.ObjNo.{ObjNo}
 use Rattle.word_law.specs.Unmoved.{LeavesWords}
-use Rattle.hidden_law.proofs.EndMarks.{end_marks}
-use Rattle.hidden_law.proofs.Reworded.{cell_by_value}
+use Rattle.cover_law.proofs.Below.hidden_law.EndMarks.{end_marks}
+use Rattle.cover_law.proofs.Below.hidden_law.Reworded.{cell_by_value}
 use Rattle.cover_law.proofs.Hops.{Now}
 use Rattle.cover_law.proofs.Marked.{CoveredNow}
 use Rattle.cover_law.proofs.Others.{settled_beside}

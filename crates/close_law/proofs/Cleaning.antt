@@ -39,7 +39,7 @@ use Rattle.read_law.proofs.Homes.{fresh_word}
 use Rattle.result_law.proofs.Known.{Steps}
 use Rattle.result_law.proofs.Pointing.{Stands, leads_home}
 use Rattle.prepare_law.proofs.Hands.{put, places, first_hand}
-use Rattle.finish_law.proofs.DirtyEnds.{Worded, tint, renew}
+use Rattle.return_law.proofs.Below.finish_law.DirtyEnds.{Worded, tint, renew}
 use Rattle.write_law.proofs.Memory.{Leads, looked}
 use Rattle.write_law.proofs.StepRoutes.{sane_there, roomy}
 use Rattle.rewrite_law.proofs.Onward.{Lies}
@@ -47,10 +47,10 @@ use Rattle.rewrite_law.proofs.Passing.{State, first_state}
 use Rattle.rewrite_law.proofs.Later.{later_itself}
 use Rattle.rewrite_law.proofs.Hops.{Boxed}
 use Rattle.return_law.proofs.Cleaned.{steps, End, fresh, lies}
-use Rattle.clean_law.proofs.Asked.{asking}
-use Rattle.clean_law.proofs.Worded.{dirty_found}
-use Rattle.fresh_law.proofs.Turned.{none_or_idle}
-use Rattle.hidden_law.proofs.Reworded.{but_any, settles_word}
+use Rattle.cover_law.proofs.Below.clean_law.Asked.{asking}
+use Rattle.cover_law.proofs.Below.clean_law.Worded.{dirty_found}
+use Rattle.cover_law.proofs.Below.fresh_law.Turned.{none_or_idle}
+use Rattle.cover_law.proofs.Below.hidden_law.Reworded.{but_any, settles_word}
 use Rattle.cover_law.proofs.Hops.{Now, SentBy, asks_on, tint_unissued, new}
 use Rattle.cover_law.proofs.Settling.{start_now}
 

@@ -29,13 +29,13 @@ use Rattle.carry_law.proofs.Places.{end_other}
 use Rattle.carry_law.proofs.Steps.{Does, goes_over}
 use Rattle.refs_law.proofs.Chains.{cluster}
 use Rattle.refs_law.proofs.RefSteps.{emptied as emptied_hand, plain_comes, top_comes}
-use Rattle.through_law.proofs.Marking.{together_by}
-use Rattle.finish_law.proofs.EndHands.{Base, Goes}
+use Rattle.cover_law.proofs.Below.through_law.Marking.{together_by}
+use Rattle.return_law.proofs.Below.finish_law.EndHands.{Base, Goes}
 use Rattle.return_law.proofs.Returns.{Shape, newest, top, emptied, after}
 use Rattle.type_law.specs.ClusterTypes.{IsCoherent}
 use Rattle.carry_law.proofs.Hands.{moved_over}
 use Rattle.copy_law.proofs.Clean.{all_goes}
-use Rattle.hidden_law.proofs.Settled.{settled_on}
+use Rattle.cover_law.proofs.Below.hidden_law.Settled.{settled_on}
 use Rattle.cover_law.proofs.Hops.{Now}
 use Rattle.close_law.proofs.Backs.{Back}
 

@@ -51,22 +51,22 @@ use Rattle.result_law.proofs.Known.{Steps, standing, paths, goes}
 use Rattle.write_law.proofs.Holders.{route}
 use Rattle.rewrite_law.proofs.Onward.{Lies}
 use Rattle.rewrite_law.proofs.Passing.{State}
-use Rattle.through_law.proofs.Marking.{mark_state}
+use Rattle.cover_law.proofs.Below.through_law.Marking.{mark_state}
 use Rattle.refs_law.specs.Unpassed.{IsUnpassed}
-use Rattle.finish_law.specs.Ends.{EndsReference, drops, discards, assigns}
-use Rattle.finish_law.proofs.EndHands.{length_end, newest_there, bare, Base, AtEnd}
-use Rattle.finish_law.proofs.EndEvents.{drop_takes, discard_takes, assign_takes, given_unpassed, temp_unpassed, untaken_here, ok_steps}
-use Rattle.finish_law.proofs.DirtyEnds.{slot_place, top_place, temp_stands}
+use Rattle.return_law.specs.Below.finish_law.Ends.{EndsReference, drops, discards, assigns}
+use Rattle.return_law.proofs.Below.finish_law.EndHands.{length_end, newest_there, bare, Base, AtEnd}
+use Rattle.return_law.proofs.Below.finish_law.EndEvents.{drop_takes, discard_takes, assign_takes, given_unpassed, temp_unpassed, untaken_here, ok_steps}
+use Rattle.return_law.proofs.Below.finish_law.DirtyEnds.{slot_place, top_place, temp_stands}
 use Rattle.return_law.proofs.Cleaned.{steps, End, lies}
 use Rattle.return_law.proofs.Following.{leads, AtHolder, holder_slot, holder_cell, Ready, EndFine, prepared_so}
 use Rattle.return_law.proofs.EndStates.{base, at_end}
 use Rattle.return_law.proofs.Returns.{marks, noted, marks_other}
 use Rattle.server_model.specs.Servers.{Rest}
 use Rattle.write_law.proofs.Holders.{TakesWord}
-use Rattle.clean_law.proofs.Asked.{ready_asks}
-use Rattle.fresh_law.specs.Fresh.{LeavesRight}
-use Rattle.fresh_law.proofs.Turned.{none_or_idle}
-use Rattle.hidden_law.proofs.Handed.{Left as Left_at, Sends, settled_by}
+use Rattle.cover_law.proofs.Below.clean_law.Asked.{ready_asks}
+use Rattle.cover_law.specs.Below.fresh_law.Fresh.{LeavesRight}
+use Rattle.cover_law.proofs.Below.fresh_law.Turned.{none_or_idle}
+use Rattle.cover_law.proofs.Below.hidden_law.Handed.{Left as Left_at, Sends, settled_by}
 use Rattle.cover_law.proofs.Hops.{Now, SentBy}
 use Rattle.cover_law.proofs.Marked.{CoveredNow}
 use Rattle.close_law.specs.Close.{EndsKeepCopies}

@@ -28,12 +28,12 @@ use Rattle.prepare_law.proofs.Hands.{put}
 use Rattle.carry_law.proofs.Hands.{stands_here}
 use Rattle.carry_law.proofs.Passing.{Here, slot, located, here}
 use Rattle.carry_law.proofs.Replaced.{cells_same}
-use Rattle.finish_law.proofs.EndHands.{set_apart, is_so, Base, AtEnd, Goes, finishes}
-use Rattle.finish_law.proofs.EndSteps.{Finishes, is_end}
-use Rattle.finish_law.proofs.EndPlaces.{Without, newest_without, emptied_without, top_without, first_finishes, word_finishes}
+use Rattle.return_law.proofs.Below.finish_law.EndHands.{set_apart, is_so, Base, AtEnd, Goes, finishes}
+use Rattle.return_law.proofs.Below.finish_law.EndSteps.{Finishes, is_end}
+use Rattle.return_law.proofs.Below.finish_law.EndPlaces.{Without, newest_without, emptied_without, top_without, first_finishes, word_finishes}
 use Rattle.return_law.proofs.Returns.{Shape, newest, top, emptied}
 use Rattle.stay_law.proofs.Steps.{TakesNoneHere}
-use Rattle.hidden_law.proofs.EndMarks.{leaving_by, end_marks}
+use Rattle.cover_law.proofs.Below.hidden_law.EndMarks.{leaving_by, end_marks}
 use Rattle.cover_law.proofs.Hops.{Now}
 use Rattle.cover_law.proofs.Others.{settled_marks}
 use Rattle.server_model.specs.Places.{Spot}

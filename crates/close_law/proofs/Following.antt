@@ -31,8 +31,8 @@ use Rattle.path_law.proofs.Shown.{stands_there}
 use Rattle.event_law.specs.Laws.{FewEvents}
 use Rattle.result_law.proofs.Known.{Steps, standing, paths, goes, types, entry, typed}
 use Rattle.result_law.proofs.Readers.{to_entry}
-use Rattle.wait_law.proofs.Written.{InChain, chain_of_holder}
-use Rattle.finish_law.specs.Ends.{EndsReference, drops, discards, assigns}
+use Rattle.cover_law.proofs.Below.wait_law.Written.{InChain, chain_of_holder}
+use Rattle.return_law.specs.Below.finish_law.Ends.{EndsReference, drops, discards, assigns}
 use Rattle.write_law.proofs.Holders.{C, at as place_at, short_holder, route, object_away, slot_away}
 use Rattle.write_law.proofs.Route.{Route, begins, a_slot, rerouted}
 use Rattle.write_law.proofs.StepRoutes.{roomy}
@@ -40,7 +40,7 @@ use Rattle.rewrite_law.proofs.Onward.{IsWritten}
 use Rattle.rewrite_law.proofs.Walks.{BoxAt, in_a_slot, in_a_cell}
 use Rattle.return_law.proofs.Cleaned.{steps, End, Cleaned}
 use Rattle.return_law.proofs.HolderSoles.{written_there, words_there}
-use Rattle.hidden_law.specs.Hidden.{NoneUnder}
+use Rattle.cover_law.specs.Below.hidden_law.Hidden.{NoneUnder}
 use Rattle.cover_law.proofs.Hops.{Now, HadCell}
 use Rattle.cover_law.proofs.Walks.{AllFair, all_fair}
 use Rattle.cover_law.proofs.Routes.{had_cell, passed_uncopied, reference_word, box_stands}

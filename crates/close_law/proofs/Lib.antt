@@ -7,3 +7,4 @@ pub mod CellEnded
 pub mod CellFinishing
 pub mod Commits
 pub mod Ends
+pub mod Below

@@ -4,8 +4,8 @@ use Rattle.fr_base.specs.declared.instruction.Instr.{Instr}
 use Rattle.mut_borrow.specs.declared.mutable.MutRef.{MutRef}
 use Rattle.thread_state.specs.View.{ThreadState}
 use Rattle.server_model.specs.Servers.{Server, Cluster}
-use Rattle.finish_law.specs.Ends.{EndsReference}
-use Rattle.fresh_law.specs.Fresh.{StepLeavesRight}
+use Rattle.return_law.specs.Below.finish_law.Ends.{EndsReference}
+use Rattle.cover_law.specs.Below.fresh_law.Fresh.{StepLeavesRight}
 
 -- the step of a thread that ends the reference, with its slot, from the hand or where it is assigned over, leaves copies that are right, whether it does its plain step or asks
 abbrev pub EndsKeepCopies : Type 0

@@ -28,13 +28,13 @@ use Rattle.copy_law.specs.Copies.{CopiesAreRight, KeepCopies, puts_back}
 use Rattle.copy_law.proofs.KeptCopies.{keep_copies, carried_copies, dropped_copies}
 use Rattle.clean_law.specs.Clean.{a_copy, a_dup, a_lock}
 use Rattle.clean_law.proofs.ReadCopies.{reads_keep}
-use Rattle.fresh_law.specs.Fresh.{LeavesRight}
-use Rattle.fresh_law.proofs.Moves.{moves_keep as object_moves}
-use Rattle.fresh_law.proofs.Drops.{drops_keep as object_drops}
-use Rattle.fresh_law.proofs.Boxes.{boxes_keep}
-use Rattle.fresh_law.proofs.Starts.{starts_keep}
-use Rattle.fresh_law.proofs.SharedBorrows.{shared_borrows_keep}
-use Rattle.fresh_law.proofs.MutableBorrows.{mutable_borrows_keep}
+use Rattle.landed_law.specs.Below.fresh_law.Fresh.{LeavesRight}
+use Rattle.landed_law.proofs.Below.fresh_law.Moves.{moves_keep as object_moves}
+use Rattle.landed_law.proofs.Below.fresh_law.Drops.{drops_keep as object_drops}
+use Rattle.landed_law.proofs.Below.fresh_law.Boxes.{boxes_keep}
+use Rattle.landed_law.proofs.Below.fresh_law.Starts.{starts_keep}
+use Rattle.landed_law.proofs.Below.fresh_law.SharedBorrows.{shared_borrows_keep}
+use Rattle.landed_law.proofs.Below.fresh_law.MutableBorrows.{mutable_borrows_keep}
 use Rattle.landed_law.proofs.Arrivals.{arrivals_keep}
 use Rattle.coherence_law.specs.Copies.{EventsKeepCopies}
 use Rattle.coherence_law.proofs.CopyKinds.{discards_by, drops_by, assigns_by, moves_by}

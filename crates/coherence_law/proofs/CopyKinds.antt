@@ -25,18 +25,18 @@ use Rattle.event_law.specs.Laws.{Gives, FewEvents}
 use Rattle.event_law.proofs.Results.{weaker}
 use Rattle.prepare_law.proofs.Asking.{found_number}
 use Rattle.refs_law.specs.Gone.{to_slot, to_slot_mutably, shared_to, moves as moves_any, drops as drops_light, discards as discards_light, assigns as assigns_light}
-use Rattle.finish_law.specs.Ends.{drops, discards, assigns}
-use Rattle.finish_law.proofs.EndHands.{newest_there}
-use Rattle.finish_law.proofs.EndEvents.{me, going, paths}
+use Rattle.regain_law.specs.Below.finish_law.Ends.{drops, discards, assigns}
+use Rattle.regain_law.proofs.Below.finish_law.EndHands.{newest_there}
+use Rattle.regain_law.proofs.Below.finish_law.EndEvents.{me, going, paths}
 use Rattle.event_law.proofs.Results.{weaker}
 use Rattle.carry_law.specs.Steps.{owns, gone}
 use Rattle.prepare_law.proofs.Asking.{found_number}
 use Rattle.copy_law.specs.Copies.{drops as drops_let, drops_none as none_let}
 use Rattle.copy_law.proofs.KeptCopies.{discarded_copies, dropped_copies, assigned_copies}
 use Rattle.clean_law.proofs.ReferenceCopies.{references_keep}
-use Rattle.fresh_law.specs.Fresh.{LeavesRight}
-use Rattle.hidden_law.proofs.Handed.{Left as Left_at, Sends, settled_by}
-use Rattle.cover_law.proofs.Written.{assignments_keep, moves_keep}
+use Rattle.landed_law.specs.Below.fresh_law.Fresh.{LeavesRight}
+use Rattle.landed_law.proofs.Below.hidden_law.Handed.{Left as Left_at, Sends, settled_by}
+use Rattle.close_law.proofs.Below.cover_law.Written.{assignments_keep, moves_keep}
 use Rattle.close_law.proofs.Ends.{ends_keep}
 
 module _ (k : Cluster) (number t : ℕ) (s : Server) (y : ThreadState) (coherent : IsCoherent k) (few : FewEvents k) (here_it : server_at k.servers number ≡ Some s) (at : thread_in s.threads t ≡ Some y) where

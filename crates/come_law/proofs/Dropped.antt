@@ -18,8 +18,8 @@ use Rattle.heap_law.proofs.Words.{itself, named}
 use Rattle.type_law.specs.ClusterTypes.{IsCoherent}
 use Rattle.word_law.specs.Unmoved.{Delivers}
 use Rattle.event_law.proofs.MutexResults.{has}
-use Rattle.free_law.proofs.Unled.{none_leads}
-use Rattle.wait_law.proofs.Found.{Weighing, weighing}
+use Rattle.walk_law.proofs.Below.free_law.Unled.{none_leads}
+use Rattle.walk_law.proofs.Below.wait_law.Found.{Weighing, weighing}
 use Rattle.walk_law.proofs.New.{IsQuiet}
 
 -- THE MESSAGE

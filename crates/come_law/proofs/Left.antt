@@ -35,7 +35,7 @@ use Rattle.event_law.proofs.Sending.{applied_part}
 use Rattle.still_law.proofs.Tests.{IsTest, objects}
 use Rattle.still_law.proofs.Told.{found}
 use Rattle.local_law.proofs.Sentences.{passed_kept}
-use Rattle.wait_law.specs.Places.{Follows}
+use Rattle.walk_law.specs.Below.wait_law.Places.{Follows}
 use Rattle.walk_law.proofs.Still.{Lasts}
 use Rattle.walk_law.proofs.New.{newly, IsQuiet, new_ones}
 use Rattle.walk_law.proofs.Followed.{Aside, Told, of_thread, same_settings}

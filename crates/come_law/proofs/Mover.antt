@@ -30,7 +30,7 @@ use Rattle.read_law.proofs.FreshReads.{chain_apart}
 use Rattle.result_law.proofs.Alone.{needed_less, is_asked}
 use Rattle.result_law.proofs.Awaits.{awaited_mine}
 use Rattle.result_law.proofs.Made.{OwnedBy}
-use Rattle.wait_law.proofs.Written.{Written}
+use Rattle.walk_law.proofs.Below.wait_law.Written.{Written}
 
 none_true : (b : Bool) → other b ≡ 0 → b ≡ true
 none_true true z = refl

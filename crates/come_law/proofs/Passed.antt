@@ -40,9 +40,9 @@ use Rattle.event_law.proofs.Results.{over_gives, test_gives, both_give}
 use Rattle.local_law.proofs.Handed.{Stood, InParcel}
 use Rattle.stay_law.specs.Laws.{IsOfKind}
 use Rattle.stay_law.proofs.Alike.{Alike}
-use Rattle.wait_law.specs.Steady.{IsSteady}
-use Rattle.wait_law.proofs.Fates.{Fates, fated}
-use Rattle.wait_law.proofs.Found.{weighing, among_weighs}
+use Rattle.walk_law.specs.Below.wait_law.Steady.{IsSteady}
+use Rattle.walk_law.proofs.Below.wait_law.Fates.{Fates, fated}
+use Rattle.walk_law.proofs.Below.wait_law.Found.{weighing, among_weighs}
 use Rattle.walk_law.proofs.Steady.{Kept, kept, on_paths}
 use Rattle.walk_law.proofs.Followed.{same_settings}
 use Rattle.come_law.specs.Deliveries.{BringsNoObject}

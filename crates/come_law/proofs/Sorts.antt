@@ -20,7 +20,7 @@ use Rattle.heap_law.specs.Coherent.{IsSound}
 use Rattle.event_law.specs.Kinds.{Kind, evicts, migrates, starts, arrives, fetch, fetched, moving, moved, drop, asks_lock, granted, unlocked, asks_dup, dupped, released, asks_join, joined, finished, message_kind, instr_kind, kind_at}
 use Rattle.event_law.specs.Laws.{Gives}
 use Rattle.stay_law.specs.Laws.{IsOfKind}
-use Rattle.wait_law.specs.Steady.{IsSteady}
+use Rattle.walk_law.specs.Below.wait_law.Steady.{IsSteady}
 use Rattle.word_law.specs.Reworded.{HasPlaces}
 use Rattle.word_law.specs.Unmoved.{Delivers}
 use Rattle.come_law.specs.Deliveries.{BringsNoObject}

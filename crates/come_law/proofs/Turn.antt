@@ -34,8 +34,8 @@ use Rattle.event_law.proofs.Results.{map_gives, test_gives, both_give, weaker}
 use Rattle.local_law.proofs.Handed.{Stood, InParcel}
 use Rattle.stay_law.specs.Laws.{IsOfKind}
 use Rattle.word_law.specs.Unmoved.{Delivers}
-use Rattle.wait_law.specs.Steady.{IsSteady}
-use Rattle.wait_law.proofs.Fates.{Fates, fated}
+use Rattle.walk_law.specs.Below.wait_law.Steady.{IsSteady}
+use Rattle.walk_law.proofs.Below.wait_law.Fates.{Fates, fated}
 use Rattle.walk_law.proofs.Sentences.{turn_kept}
 use Rattle.walk_law.proofs.Steady.{Kept, kept, on_paths}
 use Rattle.walk_law.proofs.Followed.{same_settings}

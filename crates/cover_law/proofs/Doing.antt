@@ -46,9 +46,9 @@ use Rattle.rewrite_law.proofs.Hops.{Walk}
 use Rattle.rewrite_law.proofs.Ways.{may, ends_none, cell_there, place, route, written_there, words_there}
 use Rattle.rewrite_law.proofs.Asking.{steps}
 use Rattle.through_law.proofs.Doing.{untaken_at_start}
-use Rattle.clean_law.proofs.Asked.{ready_asks}
-use Rattle.fresh_law.specs.Fresh.{LeavesRight}
-use Rattle.fresh_law.proofs.Turned.{none_or_idle}
+use Rattle.hidden_law.proofs.Below.clean_law.Asked.{ready_asks}
+use Rattle.hidden_law.specs.Below.fresh_law.Fresh.{LeavesRight}
+use Rattle.hidden_law.proofs.Below.fresh_law.Turned.{none_or_idle}
 use Rattle.hidden_law.proofs.Handed.{Left, Sends, Starts, settled_by}
 use Rattle.cover_law.proofs.Settling.{start_now, Settles, Ends, over}
 use Rattle.cover_law.proofs.Hops.{Now, SentBy, Fair, HadCell}

@@ -63,8 +63,8 @@ use Rattle.rewrite_law.proofs.Later.{renewal_unissued, next_vacant}
 use Rattle.rewrite_law.proofs.Passing.{Fits, State, passed as passed_state, requests, hands_alike}
 use Rattle.rewrite_law.proofs.Hops.{renewed_work, home_now, home_under, cell_stands, Boxed}
 use Rattle.copy_law.proofs.Clean.{all_goes}
-use Rattle.clean_law.proofs.Asked.{asking}
-use Rattle.fresh_law.proofs.Turned.{none_or_idle}
+use Rattle.hidden_law.proofs.Below.clean_law.Asked.{asking}
+use Rattle.hidden_law.proofs.Below.fresh_law.Turned.{none_or_idle}
 use Rattle.hidden_law.proofs.Settled.{Covers, by_word, Settled, GoesOn, settled_goes, settled_on}
 use Rattle.hidden_law.proofs.Reworded.{but_any, NotAsked, Turns, settles_word, settles_mark}
 

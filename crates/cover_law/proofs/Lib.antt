@@ -12,3 +12,4 @@ pub mod Filling
 pub mod Assignments
 pub mod Moves
 pub mod Written
+pub mod Below

@@ -14,8 +14,8 @@ use Rattle.word_law.specs.Unmoved.{LeavesWords}
 use Rattle.carry_law.specs.Carried.{Carried}
 use Rattle.carry_law.proofs.Carrying.{fresh_on, fresh_back}
 use Rattle.copy_law.proofs.Clean.{ChangedGo, changed_chain, KeepsClean}
-use Rattle.clean_law.proofs.Worded.{objects_differ}
-use Rattle.fresh_law.proofs.Turned.{Same, dirty_kept}
+use Rattle.hidden_law.proofs.Below.clean_law.Worded.{objects_differ}
+use Rattle.hidden_law.proofs.Below.fresh_law.Turned.{Same, dirty_kept}
 use Rattle.hidden_law.specs.Hidden.{NoneUnder}
 use Rattle.hidden_law.proofs.Settled.{Covers, by_word, by_mark, uncopied, Covered, Settled}
 use Rattle.hidden_law.proofs.Reworded.{IsCovered, NotAsked, cell_by_value}

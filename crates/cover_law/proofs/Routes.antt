@@ -38,8 +38,8 @@ use Rattle.write_law.proofs.StepRoutes.{awake}
 use Rattle.rewrite_law.proofs.Onward.{IsWritten}
 use Rattle.rewrite_law.proofs.Walks.{BoxAt, in_a_slot, in_a_cell}
 use Rattle.copy_law.proofs.Clean.{thing_cell}
-use Rattle.fresh_law.proofs.Turned.{Unasked}
-use Rattle.fresh_law.proofs.Askers.{ReadsUnder, unasked_by, reads_as_owner}
+use Rattle.hidden_law.proofs.Below.fresh_law.Turned.{Unasked}
+use Rattle.hidden_law.proofs.Below.fresh_law.Askers.{ReadsUnder, unasked_by, reads_as_owner}
 use Rattle.hidden_law.specs.Hidden.{NoneUnder}
 use Rattle.hidden_law.proofs.Under.{none_under}
 use Rattle.cover_law.proofs.Hops.{HadCell}

@@ -21,7 +21,7 @@ use Rattle.carry_law.proofs.Hands.{Together, each_together, together_chain, puts
 use Rattle.carry_law.proofs.Steps.{goes_next}
 use Rattle.rewrite_law.proofs.Passing.{Fits}
 use Rattle.copy_law.proofs.Clean.{all_goes}
-use Rattle.clean_law.proofs.Kept.{places_before}
+use Rattle.hidden_law.proofs.Below.clean_law.Kept.{places_before}
 use Rattle.hidden_law.proofs.Settled.{Settled, settled_on}
 use Rattle.cover_law.proofs.Hops.{Now}
 

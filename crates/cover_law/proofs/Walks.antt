@@ -37,8 +37,8 @@ use Rattle.rewrite_law.proofs.Onward.{IsWritten}
 use Rattle.rewrite_law.proofs.Passing.{State, loaded, noted, passed}
 use Rattle.rewrite_law.proofs.Hops.{Walk, Mine, Boxed, cell_stands}
 use Rattle.rewrite_law.proofs.Walks.{BoxAt, in_a_slot, in_a_cell, one_hop as walk_hop}
-use Rattle.clean_law.proofs.Asked.{asking}
-use Rattle.fresh_law.proofs.Turned.{none_or_idle}
+use Rattle.hidden_law.proofs.Below.clean_law.Asked.{asking}
+use Rattle.hidden_law.proofs.Below.fresh_law.Turned.{none_or_idle}
 use Rattle.hidden_law.specs.Hidden.{NoneUnder}
 use Rattle.hidden_law.proofs.Settled.{uncopied}
 use Rattle.cover_law.proofs.Hops.{Now, SentBy, CoveredAt, Fair, FairAll, HadCell, passes_on, passes_fair, asks_on, slot_fair, cell_fair}

@@ -5,7 +5,7 @@ use Rattle.fr_base.specs.declared.instruction.Operand.{Operand}
 use Rattle.fr_base.specs.declared.instruction.Instr.TheVariants as instr
 use Rattle.thread_state.specs.View.{ThreadState}
 use Rattle.server_model.specs.Servers.{Server, Cluster}
-use Rattle.fresh_law.specs.Fresh.{StepLeavesRight}
+use Rattle.hidden_law.specs.Below.fresh_law.Fresh.{StepLeavesRight}
 
 -- an assignment through so many stars and one, whether it is done or asks for an object on its way, leaves copies that are right
 abbrev pub AssignmentsKeepCopies : Type 0

@@ -9,3 +9,4 @@ pub mod Example
 pub mod Lying
 pub mod ReadPaths
 pub mod Requested
+pub mod Below

@@ -33,7 +33,7 @@ use Rattle.path_law.proofs.Shown.{stands_there}
 use Rattle.path_law.proofs.Alike.{leads_in_heap, heap_of_shown, cell_there, coherent_has_paths}
 use Rattle.path_law.proofs.MayWrites.{may_write_there}
 use Rattle.path_law.proofs.FreshPaths.{MutThere, OwnSlot, own_closed, threads_same}
-use Rattle.word_law.proofs.Standing.{CellOf, lying, flying, InCell, cell_among}
+use Rattle.read_law.proofs.Below.word_law.Standing.{CellOf, lying, flying, InCell, cell_among}
 use Rattle.read_law.specs.Reading.{LiesUnder}
 use Rattle.read_law.specs.Answering.{AnswersTold}
 use Rattle.read_law.proofs.Flights.{answers_told, Awaits, who_waits}

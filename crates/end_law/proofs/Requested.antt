@@ -39,7 +39,7 @@ use Rattle.heap_law.specs.Requests.{is_cell, in_phase, carries, not_under, messa
 use Rattle.heap_law.proofs.Names.{and_left, and_right, same_number}
 use Rattle.heap_law.proofs.Words.{none_at, none_all, named, itself, words_law}
 use Rattle.heap_law.proofs.Passing.{paths_law}
-use Rattle.event_law.proofs.Askers.{other_none}
+use Rattle.read_law.proofs.Below.event_law.Askers.{other_none}
 use Rattle.path_law.specs.HeapStore.{heap_store, GoesOn, HasPaths}
 use Rattle.path_law.specs.Pointing.{lends as lends_to}
 use Rattle.path_law.proofs.Sole.{some_is}
@@ -49,7 +49,7 @@ use Rattle.path_law.proofs.Shown.{shown_value, stands_there, is_running}
 use Rattle.path_law.proofs.Alike.{cell_there, slot_none, slot_gone, slot_own, slot_shared_slot, slot_mut_slot, slot_shared, slot_mut}
 use Rattle.path_law.proofs.MayWrites.{may_write_there}
 use Rattle.path_law.proofs.FreshPaths.{written_are_fresh}
-use Rattle.word_law.proofs.Standing.{CellOf, lying, flying, InCell, cell_among, pointers_among, slot_among}
+use Rattle.read_law.proofs.Below.word_law.Standing.{CellOf, lying, flying, InCell, cell_among, pointers_among, slot_among}
 use Rattle.read_law.specs.Reading.{Reads, shares as shares_it, lends as lends_it, LiesUnder}
 use Rattle.read_law.specs.Answering.{AnswersTold}
 use Rattle.read_law.proofs.Flights.{found, truly, whole_to, one_answer, asks_whole, same_one, one_message, is_waiting, Awaits, who_waits}

@@ -17,7 +17,7 @@ use Rattle.heap_law.specs.Things.{Location, at_temp, in_cell, shares, things_of}
 use Rattle.heap_law.specs.Follow.{Standing, Ground, value_in, value_behind, place_at}
 use Rattle.heap_law.specs.Sight.{Pointer, pointers_in, sight}
 use Rattle.heap_law.specs.Walking.{instr_of}
-use Rattle.type_law.specs.ClusterTypes.{Types}
+use Rattle.path_law.specs.Below.type_law.ClusterTypes.{Types}
 use Rattle.path_law.specs.HeapStore.{GoesOn, HasPaths}
 use Rattle.path_law.specs.Pointing.{MayWrite, WritesTo}
 

@@ -7,7 +7,7 @@ use Rattle.heap_law.specs.Paths.{written_place}
 use Rattle.heap_law.specs.Sight.{sight}
 use Rattle.heap_law.specs.Walking.{path}
 use Rattle.heap_law.specs.Coherent.{Holds, passed_in_a_walk, passed_within}
-use Rattle.type_law.specs.Typed.{boxed_cluster}
+use Rattle.path_law.specs.Below.type_law.Typed.{boxed_cluster}
 use Rattle.path_law.specs.HeapStore.{GoesOn, HasPaths}
 use Rattle.path_law.specs.Example.{main_stands}
 

@@ -1,3 +1,4 @@
+pub mod Below
 pub mod Ending
 pub mod Dropped
 pub mod Example

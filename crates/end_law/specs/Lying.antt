@@ -12,7 +12,7 @@ use Rattle.heap_law.specs.Follow.{Standing, value_in, locate}
 use Rattle.heap_law.specs.Paths.{ends, written_place}
 use Rattle.heap_law.specs.Sight.{sight}
 use Rattle.heap_law.specs.Walking.{path}
-use Rattle.type_law.specs.ClusterTypes.{IsCoherent}
+use Rattle.path_law.specs.Below.type_law.ClusterTypes.{IsCoherent}
 use Rattle.path_law.specs.HeapStore.{GoesOn}
 use Rattle.read_law.specs.Reading.{LiesUnder}
 

@@ -6,3 +6,4 @@ pub mod EndEvents
 pub mod Tops
 pub mod Recoloured
 pub mod DirtyEnds
+pub mod Below

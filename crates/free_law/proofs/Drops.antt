@@ -44,8 +44,8 @@ use Rattle.still_law.proofs.Leaving.{others, placed_here}
 use Rattle.stay_law.proofs.Alike.{Alike, itself, turned, chain, beside, in_front, goes}
 use Rattle.stay_law.proofs.Servers.{held, server_body, receives, given_up}
 use Rattle.stay_law.proofs.Sites.{ends_alike, servers_alike, replaced, handed_over}
-use Rattle.carry_law.proofs.Hands.{rooted}
-use Rattle.carry_law.proofs.Leaving.{one_cell, all_cells, none_blank, free_blank}
+use Rattle.made_law.proofs.Below.carry_law.Hands.{rooted}
+use Rattle.made_law.proofs.Below.carry_law.Leaving.{one_cell, all_cells, none_blank, free_blank}
 use Rattle.free_law.specs.Drops.{DropsLeave}
 use Rattle.free_law.proofs.Going.{freed_leaves}
 use Rattle.free_law.proofs.Lists.{NoneLeads, is_freed}

@@ -25,7 +25,7 @@ use Rattle.word_law.specs.Unmoved.{seen_at, takings, WordsStay}
 use Rattle.word_law.proofs.Standing.{tells, told, told_standing, stands_in, borrow_stands}
 use Rattle.word_law.proofs.Takings.{reference_at, seen_pointer_at, first_at, lent_by, taken_by, lents_are, takens_are, lent_listed, lent_told, taken_listed, taken_told}
 use Rattle.word_law.proofs.Grounds.{of_borrows, same_place}
-use Rattle.carry_law.proofs.Carrying.{held_somewhere, lent_there}
+use Rattle.made_law.proofs.Below.carry_law.Carrying.{held_somewhere, lent_there}
 use Rattle.free_law.specs.Freed.{Freed, FreedLeaves}
 
 -- no reference stands in a cell

@@ -2,3 +2,4 @@ pub mod Going
 pub mod Lists
 pub mod Unled
 pub mod Drops
+pub mod Below

@@ -23,9 +23,9 @@ use Rattle.word_law.proofs.Standing.{CellOf, lying, flying, cell_among, cell_fou
 use Rattle.word_law.proofs.Loose.{box_nowhere}
 use Rattle.word_law.proofs.Takings.{leads_pointing}
 use Rattle.stay_law.proofs.Alike.{shows_turn, StandsIn, Within, Alike, standing_turn}
-use Rattle.carry_law.proofs.Far.{loose_within, CellIn, lies_in, flies_in}
-use Rattle.carry_law.proofs.Hands.{RootedIn}
-use Rattle.carry_law.proofs.Passing.{move_in, no_temp}
+use Rattle.made_law.proofs.Below.carry_law.Far.{loose_within, CellIn, lies_in, flies_in}
+use Rattle.made_law.proofs.Below.carry_law.Hands.{RootedIn}
+use Rattle.made_law.proofs.Below.carry_law.Passing.{move_in, no_temp}
 use Rattle.made_law.proofs.Unnamed.{cell_weighs}
 use Rattle.made_law.proofs.Sames.{taken_on, CellAway, stands_alike}
 use Rattle.free_law.specs.Freed.{Freed}

@@ -48,17 +48,17 @@ use Rattle.carry_law.proofs.Replaced.{places_on}
 use Rattle.carry_law.proofs.Passing.{slot, temp, nowhere, Passes, is_carried, is_quiet}
 use Rattle.carry_law.proofs.Places.{temp_to_gift, gift_to_temp}
 use Rattle.carry_law.proofs.Hands.{RootedIn, put, with_hand, places, stands_here, h0, its_number, first_ok, before, site_of, first_seen, first_leaves, first_rooted}
-use Rattle.made_law.proofs.Unnamed.{NonePoints, no_value, none_points, none_untouched, none_carried}
-use Rattle.made_law.proofs.Partition.{body_comes}
-use Rattle.made_law.proofs.NewCell.{is_made}
-use Rattle.made_law.proofs.Servers.{vacant_there, NextWord, next_word_is}
+use Rattle.borrow_law.proofs.Below.made_law.Unnamed.{NonePoints, no_value, none_points, none_untouched, none_carried}
+use Rattle.borrow_law.proofs.Below.made_law.Partition.{body_comes}
+use Rattle.borrow_law.proofs.Below.made_law.NewCell.{is_made}
+use Rattle.borrow_law.proofs.Below.made_law.Servers.{vacant_there, NextWord, next_word_is}
 use Rattle.heap_law.specs.Sight.{is_object_among}
 use Rattle.heap_law.proofs.Words.{none_at}
 use Rattle.stay_law.proofs.Steps.{hand_itself}
 use Rattle.carry_law.proofs.Hands.{moved_goes, seen, each_together}
 use Rattle.carry_law.proofs.Replaced.{cells_same}
-use Rattle.made_law.proofs.Unnamed.{cell_weighs}
-use Rattle.made_law.proofs.Boxing.{none_named as none_named_so}
+use Rattle.borrow_law.proofs.Below.made_law.Unnamed.{cell_weighs}
+use Rattle.borrow_law.proofs.Below.made_law.Boxing.{none_named as none_named_so}
 use Rattle.copy_law.proofs.Clean.{Leaves, all_goes, cell_thing, cells_on}
 use Rattle.clean_law.proofs.Changed.{all_chain}
 use Rattle.clean_law.proofs.Worded.{objects_differ}

@@ -49,7 +49,7 @@ use Rattle.carry_law.proofs.Hands.{put, places, h0, each_together, together_chai
 use Rattle.carry_law.proofs.Steps.{goes_next}
 use Rattle.server_model.specs.Places.{nowhere as no_spot}
 use Rattle.carry_law.proofs.Hands.{ThereBy}
-use Rattle.made_law.proofs.Boxing.{none_named}
+use Rattle.borrow_law.proofs.Below.made_law.Boxing.{none_named}
 use Rattle.copy_law.proofs.Clean.{all_goes}
 use Rattle.clean_law.proofs.Asked.{ready_asks}
 use Rattle.clean_law.proofs.Kept.{step_asks, start_of}

@@ -35,7 +35,7 @@ use Rattle.heap_law.specs.Words.{HasWords}
 use Rattle.heap_law.proofs.Words.{none_at}
 use Rattle.path_law.specs.HeapStore.{HasPaths}
 use Rattle.path_law.proofs.Alike.{coherent_has_paths}
-use Rattle.made_law.proofs.Unnamed.{cell_weighs}
+use Rattle.borrow_law.proofs.Below.made_law.Unnamed.{cell_weighs}
 use Rattle.free_law.specs.Freed.{Freed}
 use Rattle.free_law.proofs.Drops.{Goes, server_goes, message_there}
 use Rattle.copy_law.proofs.Clean.{cell_thing, cells_on}

@@ -21,3 +21,4 @@ pub mod MutableBorrows
 pub mod StartWays
 pub mod Captures
 pub mod Starts
+pub mod Below

@@ -44,7 +44,7 @@ use Rattle.event_law.proofs.NewWords.{puts_word, hand_renews}
 use Rattle.read_law.specs.Reading.{LiesUnder}
 use Rattle.read_law.proofs.Lookups.{one_state}
 use Rattle.prepare_law.proofs.Hands.{Ok, put, places, stands, Walks}
-use Rattle.made_law.proofs.Servers.{NextWord, next_word_is}
+use Rattle.borrow_law.proofs.Below.made_law.Servers.{NextWord, next_word_is}
 use Rattle.borrow_law.proofs.Renews.{renewed_so}
 use Rattle.copy_law.proofs.Clean.{Leaves, thing_cell}
 use Rattle.clean_law.proofs.Worded.{Worded, dirty_found}

@@ -50,7 +50,7 @@ use Rattle.heap_law.specs.Requests.{has_word, last_hop, taken_again, old_word, l
 use Rattle.heap_law.specs.Stale.{one_star_less}
 use Rattle.event_law.proofs.GiftsTaken.{none_here}
 use Rattle.carry_law.proofs.Far.{thread_thing}
-use Rattle.ask_law.proofs.Unasked.{Unasked}
+use Rattle.borrow_law.proofs.Below.ask_law.Unasked.{Unasked}
 use Rattle.borrow_law.proofs.AtHand.{unasked}
 use Rattle.event_law.proofs.RulesKeep.{sums_kept}
 use Rattle.fr_base.specs.declared.step.Fresh.TheVariants as fresh

@@ -1,3 +1,4 @@
+pub mod Below
 pub mod Names
 pub mod Things
 pub mod Follow

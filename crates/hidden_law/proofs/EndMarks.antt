@@ -26,9 +26,9 @@ use Rattle.word_law.proofs.Standing.{borrow_stands}
 use Rattle.word_law.proofs.Takings.{seen_reference, lents_are, lent_listed, lent_told}
 use Rattle.word_law.proofs.Grounds.{same_place, of_borrows}
 use Rattle.move_law.specs.Ended.{GetsBack, as_it_was, its_word, Ended}
-use Rattle.copy_law.proofs.Clean.{Found}
-use Rattle.clean_law.proofs.CleanReads.{dirty_one}
-use Rattle.clean_law.proofs.Worded.{dirty_found, same_truth}
+use Rattle.fresh_law.proofs.Below.copy_law.Clean.{Found}
+use Rattle.fresh_law.proofs.Below.clean_law.CleanReads.{dirty_one}
+use Rattle.fresh_law.proofs.Below.clean_law.Worded.{dirty_found, same_truth}
 
 -- WHAT STOOD AT THE HOLDER
 

@@ -22,9 +22,9 @@ use Rattle.stay_law.proofs.Sites.{handed_over}
 use Rattle.local_law.proofs.Mail.{Mailed}
 use Rattle.local_law.proofs.Messages.{Light}
 use Rattle.carry_law.proofs.Hands.{ThereBy, put}
-use Rattle.copy_law.proofs.Clean.{all_goes}
-use Rattle.clean_law.proofs.Asked.{asking}
-use Rattle.clean_law.proofs.Kept.{places_after, step_asks}
+use Rattle.fresh_law.proofs.Below.copy_law.Clean.{all_goes}
+use Rattle.fresh_law.proofs.Below.clean_law.Asked.{asking}
+use Rattle.fresh_law.proofs.Below.clean_law.Kept.{places_after, step_asks}
 use Rattle.fresh_law.specs.Fresh.{LeavesRight}
 use Rattle.fresh_law.proofs.Turned.{none_or_idle, none_idle}
 use Rattle.hidden_law.proofs.Settled.{Settled, settled_on, settled_right}

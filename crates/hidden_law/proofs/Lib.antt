@@ -3,3 +3,4 @@ pub mod Settled
 pub mod Handed
 pub mod Reworded
 pub mod EndMarks
+pub mod Below

@@ -24,9 +24,9 @@ use Rattle.word_law.specs.WordsAfter.{Rewrites, WordsAfter}
 use Rattle.word_law.proofs.Standing.{CellOf, cell_among, cell_found, borrow_stands}
 use Rattle.word_law.proofs.Grounds.{same_place, of_borrows, still_stale, newly_stale}
 use Rattle.word_law.proofs.Words.{above_leads, words_go_on}
-use Rattle.copy_law.proofs.Clean.{Found, cell_thing, thing_cell}
-use Rattle.clean_law.proofs.CleanReads.{dirty_one}
-use Rattle.clean_law.proofs.Worded.{dirty_found, same_truth, objects_differ}
+use Rattle.fresh_law.proofs.Below.copy_law.Clean.{Found, cell_thing, thing_cell}
+use Rattle.fresh_law.proofs.Below.clean_law.CleanReads.{dirty_one}
+use Rattle.fresh_law.proofs.Below.clean_law.Worded.{dirty_found, same_truth, objects_differ}
 use Rattle.fresh_law.proofs.Turned.{Unasked, Same}
 use Rattle.hidden_law.proofs.Settled.{Covers, by_word, by_mark, uncopied, Covered, Settled}
 

@@ -21,12 +21,12 @@ use Rattle.word_law.specs.Reworded.{HasPlaces}
 use Rattle.event_law.specs.Laws.{Gives, FewEvents}
 use Rattle.event_law.proofs.Results.{both_give}
 use Rattle.local_law.proofs.Messages.{on_sent}
-use Rattle.copy_law.specs.Copies.{CopiesAreRight}
-use Rattle.copy_law.proofs.Clean.{Leaves, found_by, told, one_of_word}
-use Rattle.clean_law.proofs.Asked.{asking}
-use Rattle.clean_law.proofs.Kept.{has_none}
-use Rattle.clean_law.proofs.CleanReads.{finds_word}
-use Rattle.clean_law.proofs.Worded.{clean_told, clean_so, live_issued}
+use Rattle.fresh_law.specs.Below.copy_law.Copies.{CopiesAreRight}
+use Rattle.fresh_law.proofs.Below.copy_law.Clean.{Leaves, found_by, told, one_of_word}
+use Rattle.fresh_law.proofs.Below.clean_law.Asked.{asking}
+use Rattle.fresh_law.proofs.Below.clean_law.Kept.{has_none}
+use Rattle.fresh_law.proofs.Below.clean_law.CleanReads.{finds_word}
+use Rattle.fresh_law.proofs.Below.clean_law.Worded.{clean_told, clean_so, live_issued}
 use Rattle.fresh_law.proofs.Turned.{Unasked, Same, Hides, new_word, marked, Hidden, Turned, dirty_kept, none_or_idle}
 use Rattle.hidden_law.specs.Hidden.{sent_under, under_word, NoneUnder, CellsGoOnUnder}
 use Rattle.hidden_law.proofs.Under.{come_under}

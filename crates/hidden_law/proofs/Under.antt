@@ -19,9 +19,9 @@ use Rattle.event_law.proofs.MutexResults.{has}
 use Rattle.local_law.proofs.Messages.{on_sent}
 use Rattle.result_law.proofs.Flights.{has_weight}
 use Rattle.value_law.proofs.Sums.{copy_of}
-use Rattle.copy_law.proofs.Comes.{ServedWeighNothing, copies_come}
-use Rattle.copy_law.proofs.Served.{served_right}
-use Rattle.clean_law.proofs.Asked.{asking}
+use Rattle.fresh_law.proofs.Below.copy_law.Comes.{ServedWeighNothing, copies_come}
+use Rattle.fresh_law.proofs.Below.copy_law.Served.{served_right}
+use Rattle.fresh_law.proofs.Below.clean_law.Asked.{asking}
 use Rattle.fresh_law.proofs.Turned.{Unasked}
 use Rattle.hidden_law.specs.Hidden.{sent_under, under_word, NoneUnder, CellsGoOnUnder, CopiesComeUnderWords}
 

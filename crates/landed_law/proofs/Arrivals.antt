@@ -31,9 +31,9 @@ use Rattle.read_law.specs.Reading.{copies, shares, dups, locks}
 use Rattle.rewrite_law.specs.Writing.{assigns as assigns_through, moves as moves_through}
 use Rattle.arrive_law.specs.Awaited.{Awaits}
 use Rattle.await_law.proofs.Landing.{before, landed, awaits}
-use Rattle.finish_law.specs.Ends.{drops, discards, assigns}
+use Rattle.regain_law.specs.Below.finish_law.Ends.{drops, discards, assigns}
 use Rattle.copy_law.specs.Copies.{CopiesAreRight}
-use Rattle.fresh_law.specs.Fresh.{LeavesRight}
+use Rattle.hidden_law.specs.Below.fresh_law.Fresh.{LeavesRight}
 use Rattle.regain_law.proofs.Arrivals.{none_done}
 use Rattle.landed_law.specs.Landed.{ArrivalsKeepCopies}
 use Rattle.landed_law.proofs.Delivery.{Kept, delivered}

@@ -74,7 +74,7 @@ use Rattle.rewrite_law.proofs.Onward.{IsWritten}
 use Rattle.rewrite_law.proofs.Passing.{Fits, State}
 use Rattle.rewrite_law.proofs.Hops.{home_now}
 use Rattle.arrive_law.specs.Awaited.{Awaits}
-use Rattle.fresh_law.proofs.Turned.{Unasked}
+use Rattle.hidden_law.proofs.Below.fresh_law.Turned.{Unasked}
 use Rattle.await_law.proofs.Landing.{sane, landed, paths, on, awaits, new as unissued, untaken as none_taken, slot_there, slot_stands, set_ok, in_a_slot, in_a_cell, sole_gets}
 use Rattle.await_law.proofs.Behind.{IsPointer, pointed}
 use Rattle.hidden_law.proofs.Settled.{Settled}

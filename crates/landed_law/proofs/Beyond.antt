@@ -18,8 +18,8 @@ use Rattle.word_law.specs.WordsAfter.{Rewrites, WordsAfter}
 use Rattle.word_law.proofs.Standing.{cell_among}
 use Rattle.word_law.proofs.Words.{words_go_on}
 use Rattle.copy_law.proofs.Clean.{thing_cell}
-use Rattle.clean_law.proofs.Worded.{dirty_found, objects_differ}
-use Rattle.fresh_law.proofs.Turned.{Unasked, Same}
+use Rattle.hidden_law.proofs.Below.clean_law.Worded.{dirty_found, objects_differ}
+use Rattle.hidden_law.proofs.Below.fresh_law.Turned.{Unasked, Same}
 use Rattle.hidden_law.proofs.Under.{none_under}
 use Rattle.hidden_law.proofs.Reworded.{cell_by_value, others_marked, NotAsked}
 use Rattle.hidden_law.proofs.Settled.{by_word, by_mark, uncopied, Covered, Settled}

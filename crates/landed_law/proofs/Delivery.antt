@@ -46,10 +46,10 @@ use Rattle.prepare_law.proofs.Hands.{put, places}
 use Rattle.rewrite_law.proofs.Passing.{Fits, hands_alike}
 use Rattle.carry_law.proofs.Hands.{ThereBy}
 use Rattle.copy_law.proofs.Clean.{all_goes, thing_cell}
-use Rattle.clean_law.proofs.Kept.{places_after}
-use Rattle.fresh_law.specs.Fresh.{LeavesRight}
-use Rattle.fresh_law.proofs.Turned.{none_idle, none_or_idle}
-use Rattle.fresh_law.proofs.Asks.{delivery_asks}
+use Rattle.hidden_law.proofs.Below.clean_law.Kept.{places_after}
+use Rattle.hidden_law.specs.Below.fresh_law.Fresh.{LeavesRight}
+use Rattle.hidden_law.proofs.Below.fresh_law.Turned.{none_idle, none_or_idle}
+use Rattle.hidden_law.proofs.Below.fresh_law.Asks.{delivery_asks}
 use Rattle.await_law.proofs.Landing.{before, landed, begun_places, new, phase_ok}
 use Rattle.hidden_law.proofs.Settled.{Settled, settled_on, settled_right}
 use Rattle.landed_law.proofs.Flying.{flies_there}

@@ -30,8 +30,8 @@ use Rattle.path_law.specs.Pointing as given
 use Rattle.end_law.proofs.Ends.{ends_at}
 use Rattle.arrive_law.specs.Awaited.{Awaits}
 use Rattle.await_law.proofs.Landing.{before, landed, paths, on, awaits, untaken}
-use Rattle.finish_law.specs.Ends.{EndsReference, drops, discards, assigns}
-use Rattle.finish_law.proofs.EndHands.{newest_there}
+use Rattle.regain_law.specs.Below.finish_law.Ends.{EndsReference, drops, discards, assigns}
+use Rattle.regain_law.proofs.Below.finish_law.EndHands.{newest_there}
 use Rattle.regain_law.proofs.Held.{sole_before}
 use Rattle.landed_law.specs.Landed.{EndArrivalsKeepCopies}
 use Rattle.landed_law.proofs.Delivery.{Kept, delivered}

@@ -56,9 +56,9 @@ use Rattle.hidden_law.proofs.Reworded.{NotAsked}
 use Rattle.landed_law.proofs.Beyond.{none_wanted}
 use Rattle.landed_law.proofs.Owners.{is_reading, own_object, unasked_own}
 use Rattle.landed_law.proofs.Delivery.{words, Kept, its_cell, got, settles_apart}
-use Rattle.finish_law.proofs.EndHands.{newest_there}
-use Rattle.finish_law.proofs.Tops.{top_reworded}
-use Rattle.return_law.proofs.Placed.{placed_alone}
+use Rattle.regain_law.proofs.Below.finish_law.EndHands.{newest_there}
+use Rattle.regain_law.proofs.Below.finish_law.Tops.{top_reworded}
+use Rattle.regain_law.proofs.Below.return_law.Placed.{placed_alone}
 
 no_cell_temp : (o : ObjNo) (t m : ℕ) → in_cell o ≡ at_temp t m → ⊥
 no_cell_temp o t m e = cc e

@@ -11,3 +11,4 @@ pub mod SlotEnds
 pub mod HandEnds
 pub mod EndArrivals
 pub mod Arrivals
+pub mod Below

@@ -27,8 +27,8 @@ use Rattle.read_law.specs.Reading.{Reads, copies as copies_it, dups, locks, shar
 use Rattle.read_law.proofs.OwnChains.{OwnObject}
 use Rattle.result_law.proofs.Made.{OwnedBy, own_path}
 use Rattle.result_law.proofs.Mutables.{apart}
-use Rattle.fresh_law.proofs.Turned.{Unasked}
-use Rattle.fresh_law.proofs.Askers.{ReadsUnder, unasked_by, reads_to, reads_as_owner}
+use Rattle.hidden_law.proofs.Below.fresh_law.Turned.{Unasked}
+use Rattle.hidden_law.proofs.Below.fresh_law.Askers.{ReadsUnder, unasked_by, reads_to, reads_as_owner}
 
 -- a path that is followed for reading
 abbrev pub is_reading : Path → Bool

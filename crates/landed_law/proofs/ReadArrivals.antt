@@ -41,7 +41,7 @@ use Rattle.word_law.specs.Soles.{IsOnly}
 use Rattle.word_law.proofs.Only.{are_only}
 use Rattle.word_law.proofs.Tints.{SlotPut, word_put}
 use Rattle.arrive_law.specs.Awaited.{Awaits}
-use Rattle.clean_law.proofs.Worded.{dirty_found}
+use Rattle.hidden_law.proofs.Below.clean_law.Worded.{dirty_found}
 use Rattle.await_law.proofs.Landing.{before, landed, untaken, begun_places, set_ok, in_a_slot}
 use Rattle.await_law.proofs.ReadArrivals.{IsSpent, read_spent, SpentHop, spent_hop, fresh_at, slot, there}
 use Rattle.await_law.proofs.ReadArrivals as waits

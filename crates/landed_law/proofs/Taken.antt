@@ -31,9 +31,9 @@ use Rattle.word_law.proofs.Standing.{CellOf, lying, flying, cell_among, cell_fou
 use Rattle.word_law.proofs.Takings.{lent_by, taken_by, lents_are, takens_are, lent_listed, lent_told, taken_listed, taken_told}
 use Rattle.word_law.proofs.Words.{above_leads, taken_nowhere}
 use Rattle.copy_law.proofs.Clean.{cell_thing, thing_cell}
-use Rattle.clean_law.proofs.CleanReads.{dirty_one}
-use Rattle.clean_law.proofs.Worded.{dirty_found, same_truth, objects_differ}
-use Rattle.fresh_law.proofs.Turned.{Same}
+use Rattle.hidden_law.proofs.Below.clean_law.CleanReads.{dirty_one}
+use Rattle.hidden_law.proofs.Below.clean_law.Worded.{dirty_found, same_truth, objects_differ}
+use Rattle.hidden_law.proofs.Below.fresh_law.Turned.{Same}
 use Rattle.await_law.specs.TakenUp.{TakenUp}
 use Rattle.hidden_law.proofs.Settled.{by_word, Covered, Settled}
 use Rattle.hidden_law.proofs.Reworded.{cell_by_value, NotAsked}

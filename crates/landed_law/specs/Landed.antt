@@ -16,8 +16,8 @@ use Rattle.event_law.specs.Laws.{FewEvents}
 use Rattle.word_law.specs.Unmoved.{Delivers}
 use Rattle.read_law.specs.Reading.{Reads}
 use Rattle.rewrite_law.specs.Writing.{WritesThrough}
-use Rattle.finish_law.specs.Ends.{EndsReference}
-use Rattle.fresh_law.specs.Fresh.{LeavesRight}
+use Rattle.regain_law.specs.Below.finish_law.Ends.{EndsReference}
+use Rattle.hidden_law.specs.Below.fresh_law.Fresh.{LeavesRight}
 
 -- the message number i of a server brings the object of the cell to a thread at an instruction, in a coherent cluster: copies are right once it is delivered
 abbrev pub ArrivalLeavesRight : Cluster → ℕ → ℕ → ℕ → ℕ → Server → Cell → ThreadState → Instr → Type 0

@@ -34,7 +34,7 @@ use Rattle.event_law.specs.Laws.{Gives, FewEvents}
 use Rattle.event_law.proofs.Results.{both_give, weaker}
 use Rattle.event_law.proofs.Boxes.{tot_le}
 use Rattle.event_law.proofs.Askers.{other_none}
-use Rattle.read_law.proofs.Flights.{found, truly}
+use Rattle.carry_law.proofs.Below.read_law.Flights.{found, truly}
 use Rattle.word_law.specs.Unmoved.{WordsStay}
 use Rattle.word_law.specs.WordsAfter.{WordsAfter}
 use Rattle.word_law.proofs.Standing.{CellOf, lying, flying, pointers_among}

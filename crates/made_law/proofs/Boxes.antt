@@ -48,8 +48,8 @@ use Rattle.stay_law.proofs.Alike.{Alike, blank}
 use Rattle.stay_law.proofs.Sites.{HandAlike, handed_over}
 use Rattle.stay_law.proofs.Seen.{seen_alike}
 use Rattle.stay_law.proofs.Steps.{TakesNoneHere, settles}
-use Rattle.prepare_law.proofs.Hands.{calm_goes}
-use Rattle.prepare_law.proofs.Asking.{found_number}
+use Rattle.carry_law.proofs.Below.prepare_law.Hands.{calm_goes}
+use Rattle.carry_law.proofs.Below.prepare_law.Asking.{found_number}
 use Rattle.carry_law.proofs.Hands.{put, places, h0, each_together, together_chain, puts_alike}
 use Rattle.carry_law.proofs.Steps.{goes_next}
 use Rattle.made_law.specs.Boxes.{HasNewWord, BoxesKeep}

@@ -8,3 +8,4 @@ pub mod Servers
 pub mod Boxing
 pub mod Boxes
 pub mod Apart
+pub mod Below

@@ -20,7 +20,7 @@ use Rattle.event_law.specs.Sums.{Sums, is_server}
 use Rattle.event_law.proofs.Boxes.{tot_le}
 use Rattle.event_law.proofs.Events.{others_of, tot-server}
 use Rattle.event_law.proofs.Sound.{sound_has_sums}
-use Rattle.read_law.proofs.Lookups.{one_state}
+use Rattle.carry_law.proofs.Below.read_law.Lookups.{one_state}
 use Rattle.value_law.proofs.Counts.{Plain, counts_at, counts_alone}
 use Rattle.made_law.proofs.Listed.{of_server, of_partition}
 

@@ -15,7 +15,7 @@ use Rattle.heap_law.specs.Sight.{sight}
 use Rattle.heap_law.specs.Words.{HasWords}
 use Rattle.heap_law.specs.Dirty.{DirtyAlone, PastWords}
 use Rattle.heap_law.specs.Coherent.{Holds, first_at_holder}
-use Rattle.type_law.specs.Typed.{boxed_server, boxed_cluster}
+use Rattle.path_law.specs.Below.type_law.Typed.{boxed_server, boxed_cluster}
 use Rattle.word_law.specs.Reworded.{HasPlaces}
 use Rattle.move_law.specs.Ended.{Ended}
 

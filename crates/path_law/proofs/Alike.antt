@@ -13,18 +13,18 @@ use Rattle.mut_borrow.specs.declared.mutable.MutRef.{MutRef}
 use Rattle.mut_borrow.specs.declared.shared.SharedRef.{SharedRef}
 use Rattle.thread_state.specs.declared.value.Value.{Value}
 use Rattle.thread_state.specs.declared.value.Value.TheVariants as value
-use Rattle.server_model.specs.Servers.{Cluster}
+use Rattle.type_law.specs.Below.server_model.Servers.{Cluster}
 use Rattle.fr_store.specs.Keys.{Key, slot_k, temp_k}
 use Rattle.fr_store.specs.Store.{Location as StoreLocation, at_key, at_object, Val, gone_v, box_v, ref_v, Place as StorePlace, unit_v, int_v, mutex_v, task_v, Store, value_at, star_target, star_hop, walk}
 use Rattle.fr_store.specs.Typed.{Tree, hole, unit_tree, int_tree, mutex_tree, task_tree, box_tree, Exact, owns, refers, KeyTypes, Typed, TopFits, Unnamed}
 use Rattle.fr_store.proofs.Chains.{unique}
 use Rattle.fr_store.proofs.Sound.{walk_last, ref_at}
 use Rattle.fr_store.proofs.Rows.{top_fits, found_place, not_to}
-use Rattle.fr_sound.specs.Seen.{Gives, owned_val, seen_cell}
-use Rattle.heap_law.specs.Things.{Location, at_slot, in_cell}
-use Rattle.heap_law.specs.Follow.{Standing, Ground, cell_of, slot_of, value_of, value_in, value_behind, leads, locate}
-use Rattle.heap_law.specs.Sight.{sight}
-use Rattle.heap_law.specs.OneHeap.{plain_value, object_value, running_at}
+use Rattle.type_law.specs.Below.fr_sound.Seen.{Gives, owned_val, seen_cell}
+use Rattle.type_law.specs.Below.heap_law.Things.{Location, at_slot, in_cell}
+use Rattle.type_law.specs.Below.heap_law.Follow.{Standing, Ground, cell_of, slot_of, value_of, value_in, value_behind, leads, locate}
+use Rattle.type_law.specs.Below.heap_law.Sight.{sight}
+use Rattle.type_law.specs.Below.heap_law.OneHeap.{plain_value, object_value, running_at}
 use Rattle.path_law.specs.HeapStore.{in_store, heap_store, store_place, GoesOn, IsUnmarked, PlacesLeadAlike, CoherentHasPaths, HasPaths}
 use Rattle.path_law.proofs.Sole.{some_is, walk_prefix}
 use Rattle.path_law.proofs.Shown.{shown_value, object_shown, stands_there, is_running}

@@ -9,19 +9,19 @@ use Rattle.fr_store.specs.Keys.{Key, slot_k}
 use Rattle.fr_store.specs.Store.{Location as StoreLocation, at_key, at_object, Val, gone_v, ref_v, Store, Place as StorePlace, star_target, star_hop, walk}
 use Rattle.fr_store.specs.Typed.{refers, KeyTypes}
 use Rattle.fr_store.proofs.Sound.{walk_last, ref_at, sound}
-use Rattle.fr_sound.specs.Seen.{Gives, owned_val}
+use Rattle.type_law.specs.Below.fr_sound.Seen.{Gives, owned_val}
 use Rattle.heap_partition.specs.Plain.{plain_of}
 use Rattle.heap_partition.specs.declared.value.Owned.{Owned}
 use Rattle.heap_partition.specs.declared.value.Owned.TheVariants as owned
 use Rattle.mut_borrow.specs.declared.mutable.MutRef.{MutRef}
 use Rattle.thread_state.specs.declared.value.Value.{Value}
 use Rattle.thread_state.specs.declared.value.Value.TheVariants as value
-use Rattle.server_model.specs.Servers.{Cluster}
-use Rattle.heap_law.specs.Names.{other, if_so}
-use Rattle.heap_law.specs.Things.{Location, at_slot, at_temp, in_cell}
-use Rattle.heap_law.specs.Follow.{Standing, Ground, slot_of, value_in, locate}
-use Rattle.heap_law.specs.Stale.{holder_of}
-use Rattle.heap_law.specs.Sight.{sight}
+use Rattle.type_law.specs.Below.server_model.Servers.{Cluster}
+use Rattle.type_law.specs.Below.heap_law.Names.{other, if_so}
+use Rattle.type_law.specs.Below.heap_law.Things.{Location, at_slot, at_temp, in_cell}
+use Rattle.type_law.specs.Below.heap_law.Follow.{Standing, Ground, slot_of, value_in, locate}
+use Rattle.type_law.specs.Below.heap_law.Stale.{holder_of}
+use Rattle.type_law.specs.Below.heap_law.Sight.{sight}
 use Rattle.type_law.specs.ClusterTypes.{astray, leads_as, is_held_at}
 use Rattle.path_law.proofs.Sole.{some_is}
 use Rattle.path_law.specs.Above.{IsMadeFrom, StandsAbove, holder, higher}

@@ -14,15 +14,15 @@ use Rattle.mutex_home.specs.Mutexes.{Mutex}
 use Rattle.join_home.specs.Tasks.{TaskState, kept}
 use Rattle.server_msgs.specs.declared.message.Message.{Message}
 use Rattle.server_msgs.specs.declared.message.Message.TheVariants.{Start, Migrate}
-use Rattle.server_model.specs.Servers.{Server, Cluster}
-use Rattle.heap_law.specs.Names.{Among}
-use Rattle.heap_law.specs.Things.{Location, at_slot, at_temp, in_cell, Spot, in_slot, in_temp, Thing, borrows, stands, retired, uses, sent, counts, things_at, value_things, pin_things, slot_things, temp_things, gift_things, walk_things, thread_things, standing_things, message_things, waiting_things, leaving_things, is_free, cell_things, free_things, partition_things, copy_things, content_things, queue_things, mutex_things, result_things, task_things, server_things, servers_things, things_of}
-use Rattle.heap_law.specs.Follow.{Standing, Ground, threads_in, thread_at, slot_of, temp_of, value_in, value_of, cell_of}
-use Rattle.heap_law.specs.Stale.{same_location, Reference, references, holder_of, is_held_at, changed_above, stale_above}
-use Rattle.heap_law.specs.Sight.{sight}
-use Rattle.heap_law.specs.Words.{IsStale}
-use Rattle.heap_law.proofs.Bags.{among_split}
-use Rattle.heap_law.proofs.Words.{itself}
+use Rattle.type_law.specs.Below.server_model.Servers.{Server, Cluster}
+use Rattle.type_law.specs.Below.heap_law.Names.{Among}
+use Rattle.type_law.specs.Below.heap_law.Things.{Location, at_slot, at_temp, in_cell, Spot, in_slot, in_temp, Thing, borrows, stands, retired, uses, sent, counts, things_at, value_things, pin_things, slot_things, temp_things, gift_things, walk_things, thread_things, standing_things, message_things, waiting_things, leaving_things, is_free, cell_things, free_things, partition_things, copy_things, content_things, queue_things, mutex_things, result_things, task_things, server_things, servers_things, things_of}
+use Rattle.type_law.specs.Below.heap_law.Follow.{Standing, Ground, threads_in, thread_at, slot_of, temp_of, value_in, value_of, cell_of}
+use Rattle.type_law.specs.Below.heap_law.Stale.{same_location, Reference, references, holder_of, is_held_at, changed_above, stale_above}
+use Rattle.type_law.specs.Below.heap_law.Sight.{sight}
+use Rattle.type_law.specs.Below.heap_law.Words.{IsStale}
+use Rattle.type_law.proofs.Below.heap_law.Bags.{among_split}
+use Rattle.type_law.proofs.Below.heap_law.Words.{itself}
 use Rattle.std.proofs.lemmas.Bool.Decides.{nat_tests}
 use Rattle.fr_typing.proofs.PlaceLemmas.{eq_cases}
 use Rattle.path_law.proofs.Sole.{some_is}

@@ -17,16 +17,16 @@ use Rattle.fr_store.specs.Typed.{refers, KeyTypes, Resolves, through, Unnamed}
 use Rattle.fr_store.proofs.Below.{add_zero}
 use Rattle.fr_store.proofs.Sound.{ref_at}
 use Rattle.fr_store.proofs.ThreadKept.{unnamed_key}
-use Rattle.fr_sound.specs.States.{hand_key, hand_kind}
-use Rattle.fr_code.specs.CodeTypes.{Entry, Table, InstrTypes, i_drop, outlive}
-use Rattle.fr_code.specs.CodeTable.{Leads, to_next, Successors}
+use Rattle.type_law.specs.Below.fr_sound.States.{hand_key, hand_kind}
+use Rattle.type_law.specs.Below.fr_code.CodeTypes.{Entry, Table, InstrTypes, i_drop, outlive}
+use Rattle.type_law.specs.Below.fr_code.CodeTable.{Leads, to_next, Successors}
 use Rattle.mut_borrow.specs.declared.mutable.MutRef.{MutRef}
 use Rattle.thread_state.specs.declared.value.Value.TheVariants as value
-use Rattle.server_model.specs.Servers.{Cluster}
-use Rattle.heap_law.specs.Follow.{Standing}
-use Rattle.heap_law.specs.Sight.{sight}
-use Rattle.heap_law.specs.Walking.{instr_of}
-use Rattle.heap_law.specs.OneHeap.{plain_value}
+use Rattle.type_law.specs.Below.server_model.Servers.{Cluster}
+use Rattle.type_law.specs.Below.heap_law.Follow.{Standing}
+use Rattle.type_law.specs.Below.heap_law.Sight.{sight}
+use Rattle.type_law.specs.Below.heap_law.Walking.{instr_of}
+use Rattle.type_law.specs.Below.heap_law.OneHeap.{plain_value}
 use Rattle.path_law.proofs.Sole.{some_is}
 use Rattle.path_law.specs.HeapStore.{heap_store, GoesOn, HasPaths}
 use Rattle.path_law.specs.Pointing.{MayWrite, assigns, EndsSlot, assigned, dropped, EndedMayWrite}

@@ -10,19 +10,19 @@ use Rattle.fr_store.specs.Store.{Place as StorePlace}
 use Rattle.fr_store.specs.Thread.{TempIs}
 use Rattle.fr_store.specs.Typed.{owns, int_tree, refers, KeyTypes}
 use Rattle.fr_store.specs.Below.{ExactOf, RefOf, SlotsBelow}
-use Rattle.fr_sound.specs.States.{RunningTyped, IsThread, hand_key, hand_kind, operands}
-use Rattle.fr_code.specs.Steps.{Place}
-use Rattle.fr_code.specs.CodeTypes.{is_variable}
+use Rattle.type_law.specs.Below.fr_sound.States.{RunningTyped, IsThread, hand_key, hand_kind, operands}
+use Rattle.type_law.specs.Below.fr_code.Steps.{Place}
+use Rattle.type_law.specs.Below.fr_code.CodeTypes.{is_variable}
 use Rattle.mut_borrow.specs.declared.mutable.MutRef.{MutRef}
 use Rattle.mut_borrow.specs.declared.shared.SharedRef.{SharedRef}
 use Rattle.thread_state.specs.View.{is_over}
 use Rattle.thread_state.specs.declared.value.Value.{Value}
 use Rattle.thread_state.specs.declared.value.Value.TheVariants as value
-use Rattle.server_model.specs.Servers.{Cluster}
-use Rattle.heap_law.specs.Names.{tot, if_so, Among}
-use Rattle.heap_law.specs.Follow.{Standing, Ground}
-use Rattle.heap_law.specs.Sight.{sight}
-use Rattle.heap_law.specs.OneHeap.{one_heap, running_at}
+use Rattle.type_law.specs.Below.server_model.Servers.{Cluster}
+use Rattle.type_law.specs.Below.heap_law.Names.{tot, if_so, Among}
+use Rattle.type_law.specs.Below.heap_law.Follow.{Standing, Ground}
+use Rattle.type_law.specs.Below.heap_law.Sight.{sight}
+use Rattle.type_law.specs.Below.heap_law.OneHeap.{one_heap, running_at}
 use Rattle.type_law.specs.Names.{NameTypes, names_of}
 use Rattle.type_law.specs.ClusterTypes.{temps_wrong, is_mark, KnownAt, astray, all_astray, astray_of, slot_form, slots_wrong, has_form, entry_wrong, forms_of}
 use Rattle.path_law.specs.HeapStore.{GoesOn, heap_store, HasPaths}

@@ -14,23 +14,23 @@ use Rattle.fr_store.specs.Typed.{Exact, refers, KeyTypes, Resolves, Unnamed}
 use Rattle.fr_store.specs.Below.{ExactOf}
 use Rattle.fr_store.proofs.Chains.{unique}
 use Rattle.fr_store.proofs.Sound.{walk_last, ref_at, sound}
-use Rattle.fr_sound.specs.Seen.{seen_cell}
+use Rattle.type_law.specs.Below.fr_sound.Seen.{seen_cell}
 use Rattle.mut_borrow.specs.declared.mutable.MutRef.{MutRef}
 use Rattle.thread_state.specs.View.{is_over}
 use Rattle.thread_state.specs.declared.phase.Phase.{Phase}
 use Rattle.thread_state.specs.declared.phase.Phase.TheVariants as phase
 use Rattle.thread_state.specs.declared.value.Value.{Value}
 use Rattle.thread_state.specs.declared.value.Value.TheVariants as value
-use Rattle.server_model.specs.Servers.{Cluster}
-use Rattle.heap_law.specs.Names.{Among}
-use Rattle.heap_law.specs.Things.{Location, at_slot, at_temp, in_cell, Thing, borrows, things_of}
-use Rattle.heap_law.specs.Follow.{Standing, Ground, threads_in, thread_at, locate, place_at}
-use Rattle.heap_law.specs.Stale.{same_location, is_among, Reference, references, holder_of, is_held_at as is_held_there, one_star_less, lent_place, with_place, lent_places, changed_above, stale_above, taken_above}
-use Rattle.heap_law.specs.Sight.{sight}
-use Rattle.heap_law.specs.Walking.{instr_of}
-use Rattle.heap_law.specs.Words.{IsStale}
-use Rattle.heap_law.specs.OneHeap.{object_value}
-use Rattle.heap_law.proofs.Words.{named}
+use Rattle.type_law.specs.Below.server_model.Servers.{Cluster}
+use Rattle.type_law.specs.Below.heap_law.Names.{Among}
+use Rattle.type_law.specs.Below.heap_law.Things.{Location, at_slot, at_temp, in_cell, Thing, borrows, things_of}
+use Rattle.type_law.specs.Below.heap_law.Follow.{Standing, Ground, threads_in, thread_at, locate, place_at}
+use Rattle.type_law.specs.Below.heap_law.Stale.{same_location, is_among, Reference, references, holder_of, is_held_at as is_held_there, one_star_less, lent_place, with_place, lent_places, changed_above, stale_above, taken_above}
+use Rattle.type_law.specs.Below.heap_law.Sight.{sight}
+use Rattle.type_law.specs.Below.heap_law.Walking.{instr_of}
+use Rattle.type_law.specs.Below.heap_law.Words.{IsStale}
+use Rattle.type_law.specs.Below.heap_law.OneHeap.{object_value}
+use Rattle.type_law.proofs.Below.heap_law.Words.{named}
 use Rattle.type_law.specs.ClusterTypes.{astray, leads_as, is_held_at}
 use Rattle.path_law.specs.Above.{IsMadeFrom, a_reference}
 use Rattle.path_law.specs.HeapStore.{in_store, heap_store, GoesOn, HasPaths}

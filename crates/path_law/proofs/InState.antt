@@ -6,14 +6,14 @@ use Rattle.heap_partition.specs.Plain.{plain_of}
 use Rattle.heap_partition.specs.declared.value.Cell.{Cell}
 use Rattle.heap_partition.specs.declared.value.Owned.{Owned}
 use Rattle.heap_partition.specs.declared.value.Owned.TheVariants as owned
-use Rattle.server_model.specs.Servers.{Cluster}
-use Rattle.heap_law.specs.Names.{tot, one, Among, boxes, same_object}
-use Rattle.heap_law.specs.Things.{Thing, holds, lies, flies, things_of}
-use Rattle.heap_law.specs.Sight.{Sight, sight}
-use Rattle.heap_law.specs.Weights.{owners, cells}
+use Rattle.type_law.specs.Below.server_model.Servers.{Cluster}
+use Rattle.type_law.specs.Below.heap_law.Names.{tot, one, Among, boxes, same_object}
+use Rattle.type_law.specs.Below.heap_law.Things.{Thing, holds, lies, flies, things_of}
+use Rattle.type_law.specs.Below.heap_law.Sight.{Sight, sight}
+use Rattle.type_law.specs.Below.heap_law.Weights.{owners, cells}
 use Rattle.path_law.specs.HeapStore.{HasPaths}
-use Rattle.heap_law.specs.OneHeap.{Node, object_n, owns, Owner, a_thread, inside, outside, names, owner_of, named_in, owner_in, any_named, in_state_by, is_in_state, first_shown, cell_value, or_else, if_in, object_value}
-use Rattle.heap_law.proofs.Words.{itself}
+use Rattle.type_law.specs.Below.heap_law.OneHeap.{Node, object_n, owns, Owner, a_thread, inside, outside, names, owner_of, named_in, owner_in, any_named, in_state_by, is_in_state, first_shown, cell_value, or_else, if_in, object_value}
+use Rattle.type_law.proofs.Below.heap_law.Words.{itself}
 
 -- THE ONLY ONE
 

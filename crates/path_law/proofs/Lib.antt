@@ -12,3 +12,4 @@ pub mod Contained
 pub mod Ended
 pub mod FreshPaths
 pub mod Example
+pub mod Below

@@ -18,14 +18,14 @@ use Rattle.fr_store.specs.Below.{In, OneOf, Seen, ExactOf, RefOf}
 use Rattle.fr_store.specs.Thread.{TempIs, ThreadTyped}
 use Rattle.fr_store.proofs.Below.{mut_place, resolved_writable}
 use Rattle.fr_store.proofs.ThreadKept.{unnamed_key}
-use Rattle.fr_sound.specs.States.{IsThread, hand_key, hand_kind}
-use Rattle.fr_code.specs.CodeTypes.{Entry, Table, Takes, takes_const, takes_unit, takes_pop, wait, HasType, is_variable, InstrTypes, i_assign, i_move, i_borrow_mut}
-use Rattle.fr_code.specs.CodeTable.{Leads, to_next, ends, Successors}
+use Rattle.type_law.specs.Below.fr_sound.States.{IsThread, hand_key, hand_kind}
+use Rattle.type_law.specs.Below.fr_code.CodeTypes.{Entry, Table, Takes, takes_const, takes_unit, takes_pop, wait, HasType, is_variable, InstrTypes, i_assign, i_move, i_borrow_mut}
+use Rattle.type_law.specs.Below.fr_code.CodeTable.{Leads, to_next, ends, Successors}
 use Rattle.thread_state.specs.declared.value.Value.TheVariants as value
-use Rattle.server_model.specs.Servers.{Cluster}
-use Rattle.heap_law.specs.Follow.{Standing}
-use Rattle.heap_law.specs.Sight.{sight}
-use Rattle.heap_law.specs.Walking.{instr_of}
+use Rattle.type_law.specs.Below.server_model.Servers.{Cluster}
+use Rattle.type_law.specs.Below.heap_law.Follow.{Standing}
+use Rattle.type_law.specs.Below.heap_law.Sight.{sight}
+use Rattle.type_law.specs.Below.heap_law.Walking.{instr_of}
 use Rattle.type_law.specs.Names.{NameTypes}
 use Rattle.type_law.specs.ClusterTypes.{has_form, slot_form}
 use Rattle.path_law.proofs.Sole.{some_is}

@@ -14,11 +14,11 @@ use Rattle.mutex_home.specs.Mutexes.{Mutex}
 use Rattle.join_home.specs.Tasks.{Task, TaskState, kept}
 use Rattle.server_msgs.specs.declared.message.Message.{Message}
 use Rattle.server_msgs.specs.declared.message.Message.TheVariants.{Moved, Granted, Unlock, Start, Joined, Finished, Migrate}
-use Rattle.server_model.specs.Servers.{Server, Cluster}
-use Rattle.heap_law.specs.Names.{Among}
-use Rattle.heap_law.specs.Things.{Location, Spot, in_slot, in_temp, as_content, as_result, Thing, holds, shares, borrows, locks, retired, flies, sent, uses, stands, at_home, noted, counts, things_at, pin_things, value_things, slot_things, temp_things, gift_things, walk_things, thread_things, standing_things, message_things, waiting_things, leaving_things, is_free, cell_things, free_things, partition_things, copy_things, content_things, queue_things, mutex_things, result_things, task_things, server_things, servers_things, things_of}
-use Rattle.heap_law.specs.Follow.{Standing, threads_in}
-use Rattle.heap_law.proofs.Bags.{among_split}
+use Rattle.type_law.specs.Below.server_model.Servers.{Server, Cluster}
+use Rattle.type_law.specs.Below.heap_law.Names.{Among}
+use Rattle.type_law.specs.Below.heap_law.Things.{Location, Spot, in_slot, in_temp, as_content, as_result, Thing, holds, shares, borrows, locks, retired, flies, sent, uses, stands, at_home, noted, counts, things_at, pin_things, value_things, slot_things, temp_things, gift_things, walk_things, thread_things, standing_things, message_things, waiting_things, leaving_things, is_free, cell_things, free_things, partition_things, copy_things, content_things, queue_things, mutex_things, result_things, task_things, server_things, servers_things, things_of}
+use Rattle.type_law.specs.Below.heap_law.Follow.{Standing, threads_in}
+use Rattle.type_law.proofs.Below.heap_law.Bags.{among_split}
 
 -- what stands in a slot or a temporary value of a thread
 abbrev pub in_thread : Spot → ℕ

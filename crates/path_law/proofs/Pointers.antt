@@ -7,7 +7,7 @@ use Rattle.fr_store.specs.Keys.{Key, slot_k, temp_k}
 use Rattle.fr_store.specs.Store.{at_key, at_object, Val, ref_v, Store, value_at, star_hop, walk}
 use Rattle.fr_store.specs.Typed.{Resolves, Unnamed}
 use Rattle.fr_store.proofs.Sound.{walk_last}
-use Rattle.fr_sound.specs.Seen.{seen_cell}
+use Rattle.type_law.specs.Below.fr_sound.Seen.{seen_cell}
 use Rattle.heap_partition.specs.declared.value.Cell.{Cell}
 use Rattle.heap_partition.specs.declared.value.BoxPtr.{BoxPtr}
 use Rattle.heap_partition.specs.declared.value.Owned.{Owned}
@@ -18,18 +18,18 @@ use Rattle.mut_borrow.specs.declared.shared.SharedRef.{SharedRef}
 use Rattle.thread_state.specs.View.{is_over}
 use Rattle.thread_state.specs.declared.value.Value.{Value}
 use Rattle.thread_state.specs.declared.value.Value.TheVariants as value
-use Rattle.server_model.specs.Servers.{Cluster}
+use Rattle.type_law.specs.Below.server_model.Servers.{Cluster}
 use Rattle.server_msgs.specs.declared.message.Message.{Message}
 use Rattle.server_msgs.specs.declared.message.Message.TheVariants.{Drop}
-use Rattle.heap_law.specs.Names.{one, other, if_so, Among, boxes}
-use Rattle.heap_law.specs.Things.{Location, at_slot, at_temp, in_cell, Spot, in_slot, in_temp, Thing, holds, shares, borrows, lies, flies, sent, slot_things, temp_things, things_of}
-use Rattle.heap_law.specs.Follow.{Standing}
-use Rattle.heap_law.specs.Rooted.{is_end, dressed}
-use Rattle.heap_law.specs.Walking.{instr_of}
-use Rattle.heap_law.specs.Sight.{sight, Pointer, pointer_in, location_of, dropped_pointer, pointers_of, pointers_in}
-use Rattle.heap_law.specs.OneHeap.{object_n, is_in_state, object_value, if_in, first_shown, cell_value}
-use Rattle.heap_law.proofs.Bags.{among_split}
-use Rattle.heap_law.proofs.Words.{itself}
+use Rattle.type_law.specs.Below.heap_law.Names.{one, other, if_so, Among, boxes}
+use Rattle.type_law.specs.Below.heap_law.Things.{Location, at_slot, at_temp, in_cell, Spot, in_slot, in_temp, Thing, holds, shares, borrows, lies, flies, sent, slot_things, temp_things, things_of}
+use Rattle.type_law.specs.Below.heap_law.Follow.{Standing}
+use Rattle.type_law.specs.Below.heap_law.Rooted.{is_end, dressed}
+use Rattle.type_law.specs.Below.heap_law.Walking.{instr_of}
+use Rattle.type_law.specs.Below.heap_law.Sight.{sight, Pointer, pointer_in, location_of, dropped_pointer, pointers_of, pointers_in}
+use Rattle.type_law.specs.Below.heap_law.OneHeap.{object_n, is_in_state, object_value, if_in, first_shown, cell_value}
+use Rattle.type_law.proofs.Below.heap_law.Bags.{among_split}
+use Rattle.type_law.proofs.Below.heap_law.Words.{itself}
 use Rattle.path_law.specs.Above.{PointsTo, its_box, a_reference, StandsAbove}
 use Rattle.path_law.specs.HeapStore.{in_store, heap_store, GoesOn, IsUnmarked, HasPaths}
 use Rattle.path_law.specs.Pointing.{Above, MayWrite, LastHop, SolePointers}

@@ -9,19 +9,19 @@ use Rattle.fr_plain.specs.declared.value.Value.{Value as PlainValue}
 use Rattle.fr_plain.specs.State.{slot_at}
 use Rattle.fr_plain.specs.MachineThreads.{owing, loose}
 use Rattle.fr_plain.specs.PlainState.{place_in, place_of}
-use Rattle.fr_code.specs.Machine.{CodeRunning}
+use Rattle.type_law.specs.Below.fr_code.Machine.{CodeRunning}
 use Rattle.fr_typing.proofs.PlaceLemmas.{eq_cases}
 use Rattle.heap_partition.specs.Plain.{plain_of}
 use Rattle.heap_partition.specs.declared.value.Cell.{Cell}
 use Rattle.thread_state.specs.declared.value.Value.{Value}
-use Rattle.server_model.specs.Servers.{Cluster}
-use Rattle.heap_law.specs.Names.{tot, one, other, some, Among, same_object}
-use Rattle.heap_law.specs.Things.{Thing, lies, flies, stands, things_of}
-use Rattle.heap_law.specs.Follow.{Standing, threads_in, thread_at, cells_in, cell_of}
-use Rattle.heap_law.specs.Sight.{Sight, sight}
-use Rattle.heap_law.specs.Naming.{threads, started_at, zeroth_thread, uncounted_thread}
-use Rattle.heap_law.specs.Requests.{home_of}
-use Rattle.heap_law.specs.OneHeap.{one_heap, first_shown, cell_value, or_else, if_in, plain_value, going_on, was_let_go, running_at, life_of, life_at, if_given, is_given_thread, is_in_state, object_n, object_value}
+use Rattle.type_law.specs.Below.server_model.Servers.{Cluster}
+use Rattle.type_law.specs.Below.heap_law.Names.{tot, one, other, some, Among, same_object}
+use Rattle.type_law.specs.Below.heap_law.Things.{Thing, lies, flies, stands, things_of}
+use Rattle.type_law.specs.Below.heap_law.Follow.{Standing, threads_in, thread_at, cells_in, cell_of}
+use Rattle.type_law.specs.Below.heap_law.Sight.{Sight, sight}
+use Rattle.type_law.specs.Below.heap_law.Naming.{threads, started_at, zeroth_thread, uncounted_thread}
+use Rattle.type_law.specs.Below.heap_law.Requests.{home_of}
+use Rattle.type_law.specs.Below.heap_law.OneHeap.{one_heap, first_shown, cell_value, or_else, if_in, plain_value, going_on, was_let_go, running_at, life_of, life_at, if_given, is_given_thread, is_in_state, object_n, object_value}
 use Rattle.type_law.proofs.Branches.{found}
 use Rattle.path_law.proofs.Sole.{some_is}
 use Rattle.path_law.specs.HeapStore.{GoesOn, HasPaths}

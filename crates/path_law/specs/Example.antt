@@ -2,11 +2,11 @@
 use Rattle.std.specs.Prelude.{◌≡◌, pos, false, Some}
 use Rattle.fr_base.specs.declared.instruction.Operand.TheVariants as operand
 use Rattle.fr_base.specs.declared.instruction.Instr.TheVariants as instr
-use Rattle.heap_law.specs.Clusters.{place, object}
-use Rattle.heap_law.specs.Things.{at_slot}
-use Rattle.heap_law.specs.Follow.{Standing}
-use Rattle.heap_law.specs.Sight.{sight}
-use Rattle.heap_law.specs.Walking.{instr_of}
+use Rattle.type_law.specs.Below.heap_law.Clusters.{place, object}
+use Rattle.type_law.specs.Below.heap_law.Things.{at_slot}
+use Rattle.type_law.specs.Below.heap_law.Follow.{Standing}
+use Rattle.type_law.specs.Below.heap_law.Sight.{sight}
+use Rattle.type_law.specs.Below.heap_law.Walking.{instr_of}
 use Rattle.type_law.specs.Typed.{boxed_main, boxed_cluster}
 use Rattle.path_law.specs.HeapStore.{GoesOn, HasPaths}
 use Rattle.path_law.specs.Pointing.{WritesTo, LastHop}

@@ -5,20 +5,20 @@ use Rattle.fr_base.specs.declared.name.MutexNo.{MutexNo}
 use Rattle.fr_base.specs.declared.place.Lval.{Lval}
 use Rattle.thread_state.specs.View.{is_over}
 use Rattle.thread_state.specs.declared.value.Value.TheVariants as value
-use Rattle.server_model.specs.Servers.{Cluster}
+use Rattle.type_law.specs.Below.server_model.Servers.{Cluster}
 use Rattle.fr_store.specs.Keys.{Key, slot_k, temp_k}
 use Rattle.fr_store.specs.Store.{Location as StoreLocation, at_key, at_object, Store, Place as StorePlace, locate}
 use Rattle.fr_store.specs.Typed.{Exact, Resolves}
-use Rattle.fr_sound.specs.States.{store_of}
-use Rattle.fr_code.specs.Steps.{Place}
-use Rattle.heap_law.specs.Names.{Among}
-use Rattle.heap_law.specs.Things.{Location, at_slot, at_temp, in_cell, things_of}
-use Rattle.heap_law.specs.Balances.{Agree, AtMostOne}
-use Rattle.heap_law.specs.Weights.{cells, owners, is_thread}
-use Rattle.heap_law.specs.Coherent.{Holds, names_counted, counts_from_one, over_are_bare}
-use Rattle.heap_law.specs.Follow.{Standing, place_at}
-use Rattle.heap_law.specs.Sight.{sight}
-use Rattle.heap_law.specs.OneHeap.{one_heap}
+use Rattle.type_law.specs.Below.fr_sound.States.{store_of}
+use Rattle.type_law.specs.Below.fr_code.Steps.{Place}
+use Rattle.type_law.specs.Below.heap_law.Names.{Among}
+use Rattle.type_law.specs.Below.heap_law.Things.{Location, at_slot, at_temp, in_cell, things_of}
+use Rattle.type_law.specs.Below.heap_law.Balances.{Agree, AtMostOne}
+use Rattle.type_law.specs.Below.heap_law.Weights.{cells, owners, is_thread}
+use Rattle.type_law.specs.Below.heap_law.Coherent.{Holds, names_counted, counts_from_one, over_are_bare}
+use Rattle.type_law.specs.Below.heap_law.Follow.{Standing, place_at}
+use Rattle.type_law.specs.Below.heap_law.Sight.{sight}
+use Rattle.type_law.specs.Below.heap_law.OneHeap.{one_heap}
 use Rattle.type_law.specs.ClusterTypes.{Types, IsCoherent}
 
 -- a location of the cluster, in the store

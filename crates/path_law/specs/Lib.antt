@@ -1,3 +1,4 @@
+pub mod Below
 pub mod Above
 pub mod HeapStore
 pub mod Pointing

@@ -11,16 +11,16 @@ use Rattle.mut_borrow.specs.Refs.{changed}
 use Rattle.thread_state.specs.declared.value.Value.TheVariants as value
 use Rattle.thread_state.specs.View.{ThreadState}
 use Rattle.thread_state.specs.declared.phase.Phase.TheVariants as phase
-use Rattle.server_model.specs.Servers.{Cluster}
+use Rattle.type_law.specs.Below.server_model.Servers.{Cluster}
 use Rattle.fr_store.specs.Keys.{Key, slot_k}
 use Rattle.fr_store.specs.Typed.{Exact, Resolves, Unnamed}
-use Rattle.heap_law.specs.Names.{Among}
-use Rattle.heap_law.specs.Things.{Location, in_cell, shares, things_of}
-use Rattle.heap_law.specs.Follow.{Standing, Ground, value_in, locate, place_at}
-use Rattle.heap_law.specs.Walking.{instr_of}
-use Rattle.heap_law.specs.Stale.{holder_of}
-use Rattle.heap_law.specs.Sight.{Pointer, pointers_in, sight}
-use Rattle.heap_law.specs.Words.{IsStale}
+use Rattle.type_law.specs.Below.heap_law.Names.{Among}
+use Rattle.type_law.specs.Below.heap_law.Things.{Location, in_cell, shares, things_of}
+use Rattle.type_law.specs.Below.heap_law.Follow.{Standing, Ground, value_in, locate, place_at}
+use Rattle.type_law.specs.Below.heap_law.Walking.{instr_of}
+use Rattle.type_law.specs.Below.heap_law.Stale.{holder_of}
+use Rattle.type_law.specs.Below.heap_law.Sight.{Pointer, pointers_in, sight}
+use Rattle.type_law.specs.Below.heap_law.Words.{IsStale}
 use Rattle.type_law.specs.ClusterTypes.{Types}
 use Rattle.path_law.specs.HeapStore.{GoesOn, IsUnmarked, HasPaths}
 

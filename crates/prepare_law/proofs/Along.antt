@@ -15,21 +15,21 @@ use Rattle.heap_law.specs.Stale.{Reference, references}
 use Rattle.heap_law.specs.Sight.{sight, issued}
 use Rattle.heap_law.specs.Coherent.{Holds, are_issued, IsSound}
 use Rattle.heap_law.specs.Words.{IsStale}
-use Rattle.path_law.proofs.Sole.{some_is}
-use Rattle.path_law.proofs.Contained.{reference_there}
-use Rattle.word_law.specs.Reworded.{HasPlaces, LiesThere, Reworded}
-use Rattle.word_law.specs.Unmoved.{seen_at, Taking, takings, Untouched, LeavesWords}
-use Rattle.word_law.specs.Soles.{TookIt}
-use Rattle.word_law.specs.WordsAfter.{Rewrites, IsNoFirst}
-use Rattle.word_law.proofs.Standing.{borrow_stands}
-use Rattle.word_law.proofs.Takings.{leads_pointing, reference_at, seen_pointer_at}
-use Rattle.word_law.proofs.Grounds.{of_borrows, same_place}
-use Rattle.word_law.proofs.Outlines.{leads_outline, soles_stay}
-use Rattle.word_law.proofs.Words.{words_go_on, changed_rewords}
-use Rattle.word_law.proofs.Beside.{holders_go_on, dirty_goes_on}
-use Rattle.word_law.proofs.Past.{first_issued, past_goes_on}
-use Rattle.word_law.proofs.Only.{are_only}
-use Rattle.word_law.proofs.Unmoved.{stale_at, untouched_stays}
+use Rattle.read_law.proofs.Below.path_law.Sole.{some_is}
+use Rattle.read_law.proofs.Below.path_law.Contained.{reference_there}
+use Rattle.read_law.specs.Below.word_law.Reworded.{HasPlaces, LiesThere, Reworded}
+use Rattle.read_law.specs.Below.word_law.Unmoved.{seen_at, Taking, takings, Untouched, LeavesWords}
+use Rattle.read_law.specs.Below.word_law.Soles.{TookIt}
+use Rattle.read_law.specs.Below.word_law.WordsAfter.{Rewrites, IsNoFirst}
+use Rattle.read_law.proofs.Below.word_law.Standing.{borrow_stands}
+use Rattle.read_law.proofs.Below.word_law.Takings.{leads_pointing, reference_at, seen_pointer_at}
+use Rattle.read_law.proofs.Below.word_law.Grounds.{of_borrows, same_place}
+use Rattle.read_law.proofs.Below.word_law.Outlines.{leads_outline, soles_stay}
+use Rattle.read_law.proofs.Below.word_law.Words.{words_go_on, changed_rewords}
+use Rattle.read_law.proofs.Below.word_law.Beside.{holders_go_on, dirty_goes_on}
+use Rattle.read_law.proofs.Below.word_law.Past.{first_issued, past_goes_on}
+use Rattle.read_law.proofs.Below.word_law.Only.{are_only}
+use Rattle.read_law.proofs.Below.word_law.Unmoved.{stale_at, untouched_stays}
 use Rattle.stay_law.proofs.Alike.{Alike}
 use Rattle.stay_law.proofs.Seen.{seen_alike}
 use Rattle.prepare_law.specs.Requests.{WordsRise}

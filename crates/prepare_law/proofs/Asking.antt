@@ -35,10 +35,10 @@ use Rattle.server_model.specs.Commit.{goes_on, go_on, waiting, read, borrow, bor
 use Rattle.server_model.specs.Events.{enabled, begin_work, Stepped, done_step, wait_step, committed, prepared, step, step_in, stepped, does}
 use Rattle.heap_law.specs.Things.{things_of}
 use Rattle.heap_law.proofs.Names.{same_number}
-use Rattle.type_law.specs.ClusterTypes.{IsCoherent}
-use Rattle.path_law.proofs.Sole.{some_is}
-use Rattle.word_law.specs.Reworded.{HasPlaces}
-use Rattle.word_law.specs.Unmoved.{taking_by}
+use Rattle.read_law.specs.Below.type_law.ClusterTypes.{IsCoherent}
+use Rattle.read_law.proofs.Below.path_law.Sole.{some_is}
+use Rattle.read_law.specs.Below.word_law.Reworded.{HasPlaces}
+use Rattle.read_law.specs.Below.word_law.Unmoved.{taking_by}
 use Rattle.event_law.specs.Laws.{Gives, GoTo, FewEvents}
 use Rattle.event_law.proofs.Results.{map_gives, over_gives, test_gives, both_give}
 use Rattle.event_law.proofs.Applied.{go_with}

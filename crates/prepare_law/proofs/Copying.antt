@@ -22,9 +22,9 @@ use Rattle.server_model.specs.Events.{enabled, begin_work, Stepped, committed, p
 use Rattle.heap_law.specs.Names.{Among}
 use Rattle.heap_law.specs.Things.{Location, at_slot, Thing, shares, things_at, slot_things, temp_things, servers_things}
 use Rattle.heap_law.specs.Sight.{sight}
-use Rattle.type_law.specs.ClusterTypes.{IsCoherent}
-use Rattle.path_law.proofs.Origins.{among_first, among_second}
-use Rattle.word_law.proofs.Standing.{standing_among}
+use Rattle.read_law.specs.Below.type_law.ClusterTypes.{IsCoherent}
+use Rattle.read_law.proofs.Below.path_law.Origins.{among_first, among_second}
+use Rattle.read_law.proofs.Below.word_law.Standing.{standing_among}
 use Rattle.event_law.specs.Laws.{Gives}
 use Rattle.event_law.proofs.Results.{then_gives, map_gives, over_gives, both_give, weaker}
 use Rattle.event_law.proofs.RulesKeep.{sums_kept}

@@ -26,8 +26,8 @@ use Rattle.heap_law.specs.Things.{in_hand, holds, servers_things}
 use Rattle.heap_law.specs.Follow.{Standing}
 use Rattle.heap_law.specs.Sight.{sight}
 use Rattle.heap_law.specs.Requests.{is_value_of, dupped_mutex, gift_fits, gift_there}
-use Rattle.type_law.specs.ClusterTypes.{IsCoherent}
-use Rattle.path_law.proofs.Shown.{none_else}
+use Rattle.read_law.specs.Below.type_law.ClusterTypes.{IsCoherent}
+use Rattle.read_law.proofs.Below.path_law.Shown.{none_else}
 use Rattle.event_law.specs.Laws.{Gives}
 use Rattle.event_law.proofs.Results.{map_gives, over_gives, both_give, weaker}
 use Rattle.event_law.proofs.RulesKeep.{sums_kept}

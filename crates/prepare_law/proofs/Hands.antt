@@ -32,21 +32,21 @@ use Rattle.heap_law.specs.Follow.{Standing, value_in, cells_in, locate}
 use Rattle.heap_law.specs.Sight.{Pointer, pointers_of, pointers_in, taken_pointers, sight, issued}
 use Rattle.heap_law.specs.Words.{IsStale, HasWords, LeadsTo}
 use Rattle.heap_law.proofs.Bags.{among_split}
-use Rattle.type_law.specs.ClusterTypes.{IsCoherent}
-use Rattle.path_law.specs.HeapStore.{GoesOn}
-use Rattle.path_law.proofs.Alike.{coherent_has_paths}
-use Rattle.path_law.proofs.Contained.{among_thread, reference_there}
-use Rattle.path_law.proofs.Origins.{among_first, among_second}
-use Rattle.word_law.specs.Reworded.{HasPlaces, LiesThere, Reworded}
-use Rattle.word_law.specs.Unmoved.{pointing}
-use Rattle.word_law.specs.PutBack.{put_in, StandsHere, LeadsHome}
-use Rattle.word_law.proofs.Standing.{told}
-use Rattle.word_law.proofs.Grounds.{of_borrows}
-use Rattle.word_law.proofs.Put.{Split, put_split}
-use Rattle.word_law.proofs.Slots.{set_same, set_other, thread_cells, lying_in}
-use Rattle.word_law.proofs.Tints.{SlotPut, slot_put, slot_stands, tint_rewords}
-use Rattle.word_law.proofs.NewWord.{is_new}
-use Rattle.word_law.proofs.Past.{first_issued}
+use Rattle.read_law.specs.Below.type_law.ClusterTypes.{IsCoherent}
+use Rattle.read_law.specs.Below.path_law.HeapStore.{GoesOn}
+use Rattle.read_law.proofs.Below.path_law.Alike.{coherent_has_paths}
+use Rattle.read_law.proofs.Below.path_law.Contained.{among_thread, reference_there}
+use Rattle.read_law.proofs.Below.path_law.Origins.{among_first, among_second}
+use Rattle.read_law.specs.Below.word_law.Reworded.{HasPlaces, LiesThere, Reworded}
+use Rattle.read_law.specs.Below.word_law.Unmoved.{pointing}
+use Rattle.read_law.specs.Below.word_law.PutBack.{put_in, StandsHere, LeadsHome}
+use Rattle.read_law.proofs.Below.word_law.Standing.{told}
+use Rattle.read_law.proofs.Below.word_law.Grounds.{of_borrows}
+use Rattle.read_law.proofs.Below.word_law.Put.{Split, put_split}
+use Rattle.read_law.proofs.Below.word_law.Slots.{set_same, set_other, thread_cells, lying_in}
+use Rattle.read_law.proofs.Below.word_law.Tints.{SlotPut, slot_put, slot_stands, tint_rewords}
+use Rattle.read_law.proofs.Below.word_law.NewWord.{is_new}
+use Rattle.read_law.proofs.Below.word_law.Past.{first_issued}
 use Rattle.event_law.specs.Laws.{Gives}
 use Rattle.event_law.specs.Sums.{Sums}
 use Rattle.event_law.proofs.Results.{test_gives, both_give}

@@ -6,3 +6,4 @@ pub mod Untaken
 pub mod Asking
 pub mod Copying
 pub mod Dupping
+pub mod Below

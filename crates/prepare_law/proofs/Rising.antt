@@ -6,8 +6,8 @@ use Rattle.server_model.specs.Servers.{Cluster}
 use Rattle.heap_law.specs.Sight.{sight, issued}
 use Rattle.heap_law.specs.Coherent.{Holds, IsSound, first_at_holder}
 use Rattle.heap_law.specs.Dirty.{DirtyAlone, PastWords}
-use Rattle.word_law.specs.Unmoved.{LeavesWords}
-use Rattle.word_law.specs.WordsAfter.{WordsAfter}
+use Rattle.read_law.specs.Below.word_law.Unmoved.{LeavesWords}
+use Rattle.read_law.specs.Below.word_law.WordsAfter.{WordsAfter}
 use Rattle.prepare_law.specs.Requests.{WordsHold, WordsRise}
 
 -- at the start

@@ -34,8 +34,8 @@ use Rattle.server_model.specs.Events.{enabled}
 use Rattle.heap_law.specs.Things.{Location, at_slot, servers_things}
 use Rattle.heap_law.specs.Follow.{Ground, value_in, value_behind, leads, locate}
 use Rattle.heap_law.specs.Sight.{sight}
-use Rattle.type_law.specs.ClusterTypes.{IsCoherent}
-use Rattle.word_law.proofs.Tints.{slot_stands}
+use Rattle.read_law.specs.Below.type_law.ClusterTypes.{IsCoherent}
+use Rattle.read_law.proofs.Below.word_law.Tints.{slot_stands}
 use Rattle.event_law.specs.Laws.{Gives}
 use Rattle.event_law.proofs.Results.{given_by}
 use Rattle.event_law.proofs.RulesKeep.{sums_kept}

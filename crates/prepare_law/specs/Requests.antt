@@ -15,7 +15,7 @@ use Rattle.heap_law.specs.Sight.{sight, issued}
 use Rattle.heap_law.specs.Words.{HasWords}
 use Rattle.heap_law.specs.Dirty.{DirtyAlone, PastWords}
 use Rattle.heap_law.specs.Coherent.{Holds, first_at_holder}
-use Rattle.type_law.specs.ClusterTypes.{IsCoherent}
+use Rattle.read_law.specs.Below.type_law.ClusterTypes.{IsCoherent}
 use Rattle.event_law.specs.Laws.{Gives, FewEvents}
 use Rattle.read_law.specs.Reading.{Reads}
 

@@ -24,8 +24,8 @@ use Rattle.event_law.proofs.Trades.{tot-append}
 use Rattle.event_law.proofs.Unseen.{Unseen, Unnoted, thread_alone, none_at as none_in, seen_of}
 use Rattle.event_law.proofs.Askers.{other_none}
 use Rattle.read_law.specs.Answering.{AnswersTold}
-use Rattle.path_law.proofs.Contained.{among_thread}
-use Rattle.path_law.proofs.InState.{only_one}
+use Rattle.word_law.proofs.Below.path_law.Contained.{among_thread}
+use Rattle.word_law.proofs.Below.path_law.InState.{only_one}
 
 -- THINGS THAT WEIGH
 

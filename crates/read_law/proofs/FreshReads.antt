@@ -22,15 +22,15 @@ use Rattle.heap_law.specs.Sight.{sight}
 use Rattle.heap_law.specs.Walking.{instr_of}
 use Rattle.heap_law.specs.Words.{IsStale}
 use Rattle.heap_law.specs.OneHeap.{two_in, pair_of}
-use Rattle.path_law.specs.HeapStore.{in_store, heap_store, GoesOn, HasPaths}
-use Rattle.path_law.specs.Pointing.{lends as lends_to}
-use Rattle.path_law.proofs.Sole.{some_is, more_stars}
-use Rattle.path_law.proofs.Circles.{shorter}
-use Rattle.path_law.proofs.Shown.{stands_there}
-use Rattle.path_law.proofs.Alike.{leads_in_heap}
-use Rattle.path_law.proofs.Forms.{running_typed}
-use Rattle.path_law.proofs.MayWrites.{awake_thread}
-use Rattle.path_law.proofs.FreshPaths.{holds_there, HasTaken, taken_among, followed_of, chain_of}
+use Rattle.word_law.specs.Below.path_law.HeapStore.{in_store, heap_store, GoesOn, HasPaths}
+use Rattle.word_law.specs.Below.path_law.Pointing.{lends as lends_to}
+use Rattle.word_law.proofs.Below.path_law.Sole.{some_is, more_stars}
+use Rattle.word_law.proofs.Below.path_law.Circles.{shorter}
+use Rattle.word_law.proofs.Below.path_law.Shown.{stands_there}
+use Rattle.word_law.proofs.Below.path_law.Alike.{leads_in_heap}
+use Rattle.word_law.proofs.Below.path_law.Forms.{running_typed}
+use Rattle.word_law.proofs.Below.path_law.MayWrites.{awake_thread}
+use Rattle.word_law.proofs.Below.path_law.FreshPaths.{holds_there, HasTaken, taken_among, followed_of, chain_of}
 use Rattle.read_law.specs.Reading.{Reads, copies, shares, lends, dups, locks, MayRead, ReadAreFresh}
 use Rattle.read_law.proofs.Meets.{none_lent, kept_along}
 use Rattle.read_law.proofs.ReadPlaces.{may_read_there}

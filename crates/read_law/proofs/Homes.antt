@@ -22,12 +22,12 @@ use Rattle.heap_law.specs.Sight.{Pointer, pointers_in, taken_pointers, sight}
 use Rattle.heap_law.specs.Walking.{instr_of, path}
 use Rattle.heap_law.specs.Words.{IsStale, HasWords, LeadsTo}
 use Rattle.heap_law.specs.OneHeap.{two_in}
-use Rattle.type_law.specs.ClusterTypes.{IsCoherent}
-use Rattle.path_law.specs.HeapStore.{heap_store, GoesOn, HasPaths}
-use Rattle.path_law.proofs.Sole.{some_is}
-use Rattle.path_law.proofs.Shown.{stands_there}
-use Rattle.path_law.proofs.Origins.{among_first}
-use Rattle.path_law.proofs.Alike.{leads_in_heap, heap_of_shown, cell_there, coherent_has_paths}
+use Rattle.word_law.specs.Below.type_law.ClusterTypes.{IsCoherent}
+use Rattle.word_law.specs.Below.path_law.HeapStore.{heap_store, GoesOn, HasPaths}
+use Rattle.word_law.proofs.Below.path_law.Sole.{some_is}
+use Rattle.word_law.proofs.Below.path_law.Shown.{stands_there}
+use Rattle.word_law.proofs.Below.path_law.Origins.{among_first}
+use Rattle.word_law.proofs.Below.path_law.Alike.{leads_in_heap, heap_of_shown, cell_there, coherent_has_paths}
 use Rattle.word_law.proofs.Standing.{CellOf, lying, flying, cell_among, pointers_among, slot_among, temp_among, told}
 use Rattle.read_law.specs.Reading.{Reads, copies, shares as shares_it, lends, dups, locks, ReadLieThere}
 use Rattle.read_law.proofs.FreshReads.{reading_of, chain_apart, read_fresh}

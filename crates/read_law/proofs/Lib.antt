@@ -5,3 +5,4 @@ pub mod Flights
 pub mod OwnChains
 pub mod Homes
 pub mod Lookups
+pub mod Below

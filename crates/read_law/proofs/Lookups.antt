@@ -41,14 +41,14 @@ use Rattle.event_law.proofs.Events.{tot-server}
 use Rattle.event_law.proofs.Askers.{other_none}
 use Rattle.event_law.proofs.Cells.{looked}
 use Rattle.event_law.proofs.Copies.{copy_word, copy_goes}
-use Rattle.type_law.specs.ClusterTypes.{IsCoherent}
-use Rattle.path_law.specs.HeapStore.{GoesOn, HasPaths}
-use Rattle.path_law.proofs.Sole.{some_is}
-use Rattle.path_law.proofs.Origins.{among_first}
-use Rattle.path_law.proofs.InState.{only_one}
-use Rattle.path_law.proofs.Contained.{listed_in, reference_at, reference_there}
-use Rattle.path_law.proofs.FreshPaths.{same_is}
-use Rattle.path_law.proofs.Alike.{coherent_has_paths}
+use Rattle.word_law.specs.Below.type_law.ClusterTypes.{IsCoherent}
+use Rattle.word_law.specs.Below.path_law.HeapStore.{GoesOn, HasPaths}
+use Rattle.word_law.proofs.Below.path_law.Sole.{some_is}
+use Rattle.word_law.proofs.Below.path_law.Origins.{among_first}
+use Rattle.word_law.proofs.Below.path_law.InState.{only_one}
+use Rattle.word_law.proofs.Below.path_law.Contained.{listed_in, reference_at, reference_there}
+use Rattle.word_law.proofs.Below.path_law.FreshPaths.{same_is}
+use Rattle.word_law.proofs.Below.path_law.Alike.{coherent_has_paths}
 use Rattle.word_law.specs.Reworded.{HasPlaces}
 use Rattle.word_law.proofs.Standing.{CellOf, lying, flying, standing_among, told, told_standing, borrow_stands}
 use Rattle.word_law.proofs.NewWord.{is_new}

@@ -25,15 +25,15 @@ use Rattle.heap_law.specs.Walking.{instr_of, path}
 use Rattle.heap_law.specs.Passing.{HopOf}
 use Rattle.heap_law.specs.Turn.{IsAsked, AwaitsAt, read_at, before_share, at_share, before_lend, at_lend, NextHop, InTurn, by_read, by_share, by_lend, by_write, by_end, by_holder}
 use Rattle.heap_law.proofs.Passing.{paths_law}
-use Rattle.type_law.specs.ClusterTypes.{same_place, is_held_at}
-use Rattle.path_law.specs.HeapStore.{heap_store, GoesOn, HasPaths}
-use Rattle.path_law.specs.Pointing.{WritesTo, assigns, moves, lends as lends_to}
-use Rattle.path_law.proofs.Circles.{shorter, base_in}
-use Rattle.path_law.proofs.Shown.{stands_there}
-use Rattle.path_law.proofs.Alike.{IsShown, a_slot, an_object, leads_in_heap}
-use Rattle.path_law.proofs.Climbs.{held_as, and_second, ref_is}
-use Rattle.path_law.proofs.MayWrites.{may_write_there}
-use Rattle.path_law.proofs.FreshPaths.{MutThere, slot_there, temp_there, OwnSlot, own_closed}
+use Rattle.word_law.specs.Below.type_law.ClusterTypes.{same_place, is_held_at}
+use Rattle.word_law.specs.Below.path_law.HeapStore.{heap_store, GoesOn, HasPaths}
+use Rattle.word_law.specs.Below.path_law.Pointing.{WritesTo, assigns, moves, lends as lends_to}
+use Rattle.word_law.proofs.Below.path_law.Circles.{shorter, base_in}
+use Rattle.word_law.proofs.Below.path_law.Shown.{stands_there}
+use Rattle.word_law.proofs.Below.path_law.Alike.{IsShown, a_slot, an_object, leads_in_heap}
+use Rattle.word_law.proofs.Below.path_law.Climbs.{held_as, and_second, ref_is}
+use Rattle.word_law.proofs.Below.path_law.MayWrites.{may_write_there}
+use Rattle.word_law.proofs.Below.path_law.FreshPaths.{MutThere, slot_there, temp_there, OwnSlot, own_closed}
 
 -- THE INSTRUCTION OF A PATH
 

@@ -17,12 +17,12 @@ use Rattle.server_model.specs.Servers.{Cluster}
 use Rattle.heap_law.specs.Follow.{Standing}
 use Rattle.heap_law.specs.Sight.{sight}
 use Rattle.heap_law.specs.Walking.{instr_of}
-use Rattle.type_law.specs.ClusterTypes.{slot_form}
-use Rattle.path_law.specs.HeapStore.{heap_store, GoesOn, IsUnmarked, HasPaths}
-use Rattle.path_law.specs.Pointing.{MayWrite, lends as lends_to}
-use Rattle.path_law.proofs.Sole.{some_is}
-use Rattle.path_law.proofs.Forms.{running_typed, slot_part, names}
-use Rattle.path_law.proofs.MayWrites.{wait_names, top_free, awake_thread, slot_there, no_mark, may_write_there}
+use Rattle.word_law.specs.Below.type_law.ClusterTypes.{slot_form}
+use Rattle.word_law.specs.Below.path_law.HeapStore.{heap_store, GoesOn, IsUnmarked, HasPaths}
+use Rattle.word_law.specs.Below.path_law.Pointing.{MayWrite, lends as lends_to}
+use Rattle.word_law.proofs.Below.path_law.Sole.{some_is}
+use Rattle.word_law.proofs.Below.path_law.Forms.{running_typed, slot_part, names}
+use Rattle.word_law.proofs.Below.path_law.MayWrites.{wait_names, top_free, awake_thread, slot_there, no_mark, may_write_there}
 use Rattle.read_law.specs.Reading.{Reads, copies, shares, lends, dups, locks, MayRead, MayReadThere}
 use Rattle.read_law.proofs.Meets.{any_way}
 

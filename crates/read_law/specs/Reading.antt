@@ -16,8 +16,8 @@ use Rattle.heap_law.specs.Follow.{Standing, value_in, locate}
 use Rattle.heap_law.specs.Walking.{instr_of}
 use Rattle.heap_law.specs.Sight.{sight}
 use Rattle.heap_law.specs.Words.{IsStale, LeadsTo}
-use Rattle.type_law.specs.ClusterTypes.{Types, IsCoherent}
-use Rattle.path_law.specs.HeapStore.{GoesOn, IsUnmarked, HasPaths}
+use Rattle.word_law.specs.Below.type_law.ClusterTypes.{Types, IsCoherent}
+use Rattle.word_law.specs.Below.path_law.HeapStore.{GoesOn, IsUnmarked, HasPaths}
 use Rattle.word_law.specs.Reworded.{LiesThere}
 
 -- the place that an instruction reads, and how many of its stars it follows: all of them, or those before the pointer from which it borrows

@@ -29,8 +29,8 @@ use Rattle.path_law.specs.HeapStore.{GoesOn, HasPaths}
 use Rattle.path_law.specs.Pointing.{moves as moves_from, assigns as assigns_to}
 use Rattle.path_law.proofs.Alike.{coherent_has_paths}
 use Rattle.path_law.proofs.Contained.{among_thread}
-use Rattle.end_law.specs.Dropped.{GivesUp, written, dropped}
-use Rattle.end_law.proofs.Given.{given_up_may_be}
+use Rattle.carry_law.specs.Below.end_law.Dropped.{GivesUp, written, dropped}
+use Rattle.carry_law.proofs.Below.end_law.Given.{given_up_may_be}
 use Rattle.word_law.specs.Unmoved.{taking_by, LeavesWords}
 use Rattle.event_law.specs.Kinds.{instr_kind}
 use Rattle.event_law.specs.Laws.{Gives}
@@ -42,8 +42,8 @@ use Rattle.event_law.proofs.Steps.{step_keeps}
 use Rattle.event_law.proofs.ThreadThere.{thread_there}
 use Rattle.event_law.proofs.Values.{last_split}
 use Rattle.stay_law.proofs.Steps.{TakesNoneHere}
-use Rattle.prepare_law.proofs.Hands.{calm_goes}
-use Rattle.prepare_law.proofs.Asking.{found_number}
+use Rattle.carry_law.proofs.Below.prepare_law.Hands.{calm_goes}
+use Rattle.carry_law.proofs.Below.prepare_law.Asking.{found_number}
 use Rattle.carry_law.proofs.Passing.{slot, temp}
 use Rattle.carry_law.proofs.Places.{end_is}
 use Rattle.carry_law.proofs.Hands.{There, Ok, Moved, h0, first_ok, left_where, step_there}

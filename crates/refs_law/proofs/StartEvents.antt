@@ -46,8 +46,8 @@ use Rattle.stay_law.proofs.Threads.{slots_of, temps_of, thread_alike}
 use Rattle.stay_law.proofs.Sites.{replaced, servers_alike}
 use Rattle.stay_law.proofs.Seen.{seen_alike}
 use Rattle.stay_law.proofs.Steps.{TakesNoneHere}
-use Rattle.prepare_law.proofs.Hands.{calm_goes}
-use Rattle.prepare_law.proofs.Asking.{found_number}
+use Rattle.carry_law.proofs.Below.prepare_law.Hands.{calm_goes}
+use Rattle.carry_law.proofs.Below.prepare_law.Asking.{found_number}
 use Rattle.carry_law.proofs.Hands.{There, leaves_chain, left_where}
 use Rattle.refs_law.specs.Unpassed.{IsUnpassed}
 use Rattle.refs_law.specs.Starts.{StartsThreads, a_thread, a_pair, StartsLeaveWords}

@@ -32,13 +32,13 @@ use Rattle.event_law.specs.Laws.{Gives, FewEvents}
 use Rattle.event_law.proofs.Results.{over_gives, test_gives}
 use Rattle.read_law.specs.Reading.{copies, shares, dups, locks}
 use Rattle.prepare_law.specs.Requests.{WordsRise}
-use Rattle.rewrite_law.specs.Writing.{assigns as assigns_through, moves as moves_through}
+use Rattle.await_law.specs.Below.rewrite_law.Writing.{assigns as assigns_through, moves as moves_through}
 use Rattle.arrive_law.specs.Awaited.{Awaits}
 use Rattle.await_law.proofs.BorrowArrivals.{borrow_arrivals_keep}
 use Rattle.await_law.proofs.Landing.{before, landed, Kept, awaits, delivered}
 use Rattle.await_law.proofs.ReadArrivals.{read_arrivals_keep}
 use Rattle.await_law.proofs.WriteArrivals.{write_arrivals_keep}
-use Rattle.finish_law.specs.Ends.{drops, discards, assigns}
+use Rattle.return_law.specs.Below.finish_law.Ends.{drops, discards, assigns}
 use Rattle.regain_law.specs.Regained.{ArrivalsKeep}
 use Rattle.regain_law.proofs.Regained.{ends_regain}
 

@@ -29,12 +29,12 @@ use Rattle.carry_law.proofs.Events.{steps_carry}
 use Rattle.carry_law.proofs.Gives.{owned_goes}
 use Rattle.carry_law.proofs.Leaving.{moves_leave}
 use Rattle.carry_law.proofs.Locks.{holds_on, locks_keep}
-use Rattle.made_law.specs.Boxes.{HasNewWord}
-use Rattle.made_law.proofs.Boxes.{boxes_keep}
-use Rattle.borrow_law.proofs.Shares.{shared_borrows_keep}
-use Rattle.borrow_law.proofs.Takes.{mutable_borrows_keep}
-use Rattle.refs_law.specs.Starts.{a_thread, a_pair}
-use Rattle.refs_law.proofs.StartEvents.{starts_leave_words}
+use Rattle.free_law.specs.Below.made_law.Boxes.{HasNewWord}
+use Rattle.free_law.proofs.Below.made_law.Boxes.{boxes_keep}
+use Rattle.return_law.proofs.Below.borrow_law.Shares.{shared_borrows_keep}
+use Rattle.return_law.proofs.Below.borrow_law.Takes.{mutable_borrows_keep}
+use Rattle.return_law.specs.Below.refs_law.Starts.{a_thread, a_pair}
+use Rattle.return_law.proofs.Below.refs_law.StartEvents.{starts_leave_words}
 use Rattle.return_law.proofs.Each.{discards_keep_words, drops_keep_words, assignments_keep_words, moves_keep_words}
 use Rattle.free_law.proofs.Drops.{drops_leave}
 use Rattle.regain_law.specs.Events.{EventsKeepWords, WordsRiseAlways}

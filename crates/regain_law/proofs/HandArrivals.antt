@@ -46,13 +46,13 @@ use Rattle.word_law.proofs.Standing.{temp_among, told}
 use Rattle.move_law.proofs.Relaid.{relaid_rewords}
 use Rattle.stay_law.proofs.Steps.{TakesNoneHere}
 use Rattle.prepare_law.proofs.Hands.{put, places}
-use Rattle.rewrite_law.proofs.Passing.{Fits}
+use Rattle.await_law.proofs.Below.rewrite_law.Passing.{Fits}
 use Rattle.carry_law.proofs.Passing.{no_temp}
 use Rattle.arrive_law.specs.Awaited.{Awaits}
 use Rattle.arrive_law.proofs.Arrived.{relays, stands_now}
 use Rattle.await_law.proofs.Landing.{before, landed, Kept, paths, on, awaits, new as unissued, landed_ok, arrival, home, untaken, set_ok, only_gets, got}
-use Rattle.finish_law.proofs.EndHands.{newest_there}
-use Rattle.finish_law.proofs.Tops.{top_reworded}
+use Rattle.return_law.proofs.Below.finish_law.EndHands.{newest_there}
+use Rattle.return_law.proofs.Below.finish_law.Tops.{top_reworded}
 use Rattle.return_law.proofs.Placed.{placed_alone}
 
 same_reference : {q r : MutRef} → ends q ≡ ends r → q ≡ r

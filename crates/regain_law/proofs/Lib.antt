@@ -3,3 +3,4 @@ pub mod HandArrivals
 pub mod Regained
 pub mod Arrivals
 pub mod Each
+pub mod Below

@@ -36,8 +36,8 @@ use Rattle.arrive_law.specs.Awaited.{Awaits}
 use Rattle.await_law.proofs.Behind.{write_arrives}
 use Rattle.await_law.proofs.EndArrivals.{end_arrivals_keep}
 use Rattle.await_law.proofs.Landing.{before, landed, Kept, paths, on, awaits, untaken, delivered}
-use Rattle.finish_law.specs.Ends.{EndsReference, drops, discards, assigns}
-use Rattle.finish_law.proofs.EndHands.{newest_there}
+use Rattle.return_law.specs.Below.finish_law.Ends.{EndsReference, drops, discards, assigns}
+use Rattle.return_law.proofs.Below.finish_law.EndHands.{newest_there}
 use Rattle.regain_law.specs.Regained.{EndsRegain}
 use Rattle.regain_law.proofs.Held.{sole_before}
 use Rattle.regain_law.proofs.HandArrivals as by_hand

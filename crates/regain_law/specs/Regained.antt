@@ -15,7 +15,7 @@ use Rattle.type_law.specs.ClusterTypes.{IsCoherent}
 use Rattle.event_law.specs.Laws.{Gives, FewEvents}
 use Rattle.word_law.specs.Unmoved.{Delivers}
 use Rattle.prepare_law.specs.Requests.{WordsRise}
-use Rattle.finish_law.specs.Ends.{EndsReference}
+use Rattle.return_law.specs.Below.finish_law.Ends.{EndsReference}
 
 -- the message brings an object to a thread at an instruction that ends the reference, with its slot, from the hand, or where it is assigned over: its own, or one to which
 -- the place of its holder leads

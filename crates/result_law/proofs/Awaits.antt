@@ -36,7 +36,7 @@ use Rattle.heap_law.proofs.Names.{and_left, and_right}
 use Rattle.heap_law.proofs.Words.{named, itself, none_at}
 use Rattle.heap_law.proofs.Passing.{paths_law}
 use Rattle.event_law.proofs.Askers.{other_none}
-use Rattle.type_law.specs.ClusterTypes.{same_place, is_held_at}
+use Rattle.path_law.specs.Below.type_law.ClusterTypes.{same_place, is_held_at}
 use Rattle.path_law.specs.HeapStore.{heap_store, GoesOn, HasPaths}
 use Rattle.path_law.specs.Pointing.{WritesTo, assigns, moves, lends as lends_it}
 use Rattle.path_law.proofs.Alike.{leads_in_heap, IsShown, a_slot, an_object}

@@ -25,8 +25,8 @@ use Rattle.heap_law.specs.Things.{Location, at_slot, in_cell}
 use Rattle.heap_law.specs.Follow.{Standing, Ground, cell_of, value_in, value_of, slot_of, locate}
 use Rattle.heap_law.specs.Sight.{sight}
 use Rattle.heap_law.specs.OneHeap.{object_value}
-use Rattle.type_law.specs.Names.{NameTypes}
-use Rattle.type_law.specs.ClusterTypes.{has_form, slot_form}
+use Rattle.path_law.specs.Below.type_law.Names.{NameTypes}
+use Rattle.path_law.specs.Below.type_law.ClusterTypes.{has_form, slot_form}
 use Rattle.path_law.specs.HeapStore.{in_store, heap_store, store_place, GoesOn, IsUnmarked, HasPaths}
 use Rattle.path_law.proofs.Alike.{leads_in_heap, leads_in_cluster, IsShown, a_slot, an_object, slot_none}
 use Rattle.path_law.proofs.Forms.{names, slot_part}

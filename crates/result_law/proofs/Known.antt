@@ -28,8 +28,8 @@ use Rattle.event_law.proofs.Events.{tot-server}
 use Rattle.event_law.proofs.Bags.{counts_of}
 use Rattle.event_law.proofs.ThreadThere.{thread_there}
 use Rattle.event_law.proofs.HaveResults.{some_map, applied}
-use Rattle.type_law.specs.Names.{NameTypes, names_of}
-use Rattle.type_law.specs.ClusterTypes.{Types, IsCoherent, slots_wrong, temps_wrong, entry_wrong, forms_of}
+use Rattle.path_law.specs.Below.type_law.Names.{NameTypes, names_of}
+use Rattle.path_law.specs.Below.type_law.ClusterTypes.{Types, IsCoherent, slots_wrong, temps_wrong, entry_wrong, forms_of}
 use Rattle.path_law.specs.HeapStore.{GoesOn, HasPaths}
 use Rattle.path_law.proofs.Alike.{coherent_has_paths}
 use Rattle.path_law.proofs.Contained.{among_thread}

@@ -16,7 +16,7 @@ use Rattle.heap_law.specs.Things.{Location, at_slot, at_temp, Thing, borrows, th
 use Rattle.heap_law.specs.Follow.{Standing, Ground, locate}
 use Rattle.heap_law.specs.Stale.{Reference, references, holder_of, is_held_at as is_held_there}
 use Rattle.heap_law.specs.Sight.{sight}
-use Rattle.type_law.specs.ClusterTypes.{astray, is_held_at}
+use Rattle.path_law.specs.Below.type_law.ClusterTypes.{astray, is_held_at}
 use Rattle.path_law.specs.Above.{IsMadeFrom}
 use Rattle.path_law.specs.HeapStore.{in_store, heap_store, GoesOn, HasPaths}
 use Rattle.path_law.proofs.Alike.{leads_in_heap, ref_type, temp_mut}

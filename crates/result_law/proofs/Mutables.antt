@@ -18,8 +18,8 @@ use Rattle.server_model.specs.Servers.{Cluster}
 use Rattle.heap_law.specs.Things.{Location, at_slot}
 use Rattle.heap_law.specs.Follow.{Standing, Ground, value_in, slot_of, locate}
 use Rattle.heap_law.specs.Sight.{sight}
-use Rattle.type_law.specs.Names.{NameTypes}
-use Rattle.type_law.specs.ClusterTypes.{has_form, slot_form}
+use Rattle.path_law.specs.Below.type_law.Names.{NameTypes}
+use Rattle.path_law.specs.Below.type_law.ClusterTypes.{has_form, slot_form}
 use Rattle.path_law.specs.HeapStore.{in_store, heap_store, GoesOn, HasPaths}
 use Rattle.path_law.proofs.Alike.{leads_in_heap, ref_type, slot_shared, slot_shared_slot, slot_mut_slot}
 use Rattle.path_law.proofs.Circles.{shorter}

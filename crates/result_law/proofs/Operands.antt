@@ -16,8 +16,8 @@ use Rattle.thread_state.specs.declared.value.Value.TheVariants as value
 use Rattle.server_model.specs.Work.{Hand, with_temps, front_of, pop, pop_owned, pop_int, owned_of, int_of, taken_as, then_some}
 use Rattle.server_model.specs.Places.{second_of}
 use Rattle.heap_law.specs.Names.{other}
-use Rattle.type_law.specs.Names.{NameTypes}
-use Rattle.type_law.specs.ClusterTypes.{has_form, is_mark, slot_form, slots_wrong, temps_wrong}
+use Rattle.path_law.specs.Below.type_law.Names.{NameTypes}
+use Rattle.path_law.specs.Below.type_law.ClusterTypes.{has_form, is_mark, slot_form, slots_wrong, temps_wrong}
 use Rattle.event_law.proofs.Values.{last_split}
 use Rattle.path_law.proofs.Shown.{none_else, at_behind, behind_is}
 

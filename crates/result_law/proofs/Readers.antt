@@ -38,8 +38,8 @@ use Rattle.event_law.specs.Kinds.{step_read, step_dup, step_lock, instr_kind}
 use Rattle.event_law.specs.Laws.{HasResult}
 use Rattle.result_law.specs.Results.{FollowsNone, reads_variable, ReadsPlace, Anyhow, StepsHaveResults}
 use Rattle.result_law.proofs.Variables.{quiet_steps}
-use Rattle.type_law.specs.Names.{NameTypes}
-use Rattle.type_law.specs.ClusterTypes.{has_form, slot_form}
+use Rattle.path_law.specs.Below.type_law.Names.{NameTypes}
+use Rattle.path_law.specs.Below.type_law.ClusterTypes.{has_form, slot_form}
 use Rattle.path_law.specs.HeapStore.{heap_store, GoesOn, IsUnmarked, HasPaths}
 use Rattle.path_law.proofs.Forms.{running_typed, slot_part, names as names_at}
 use Rattle.path_law.proofs.MayWrites.{awake_thread, and_first, top_names, top_free}

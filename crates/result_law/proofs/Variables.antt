@@ -36,8 +36,8 @@ use Rattle.server_model.specs.Events.{begin_work, committed, prepared, step}
 use Rattle.event_law.specs.Kinds.{Kind, step_spawn, step_join, step_par, step_par_end, instr_kind}
 use Rattle.event_law.specs.Laws.{HasResult}
 use Rattle.event_law.proofs.StepResults.{steps_have_results}
-use Rattle.type_law.specs.Names.{NameTypes}
-use Rattle.type_law.specs.ClusterTypes.{slots_wrong, temps_wrong}
+use Rattle.path_law.specs.Below.type_law.Names.{NameTypes}
+use Rattle.path_law.specs.Below.type_law.ClusterTypes.{slots_wrong, temps_wrong}
 use Rattle.result_law.specs.Results.{FollowsNone, reads_variable, shares_variable, lends_variable, StepsHaveResults}
 use Rattle.result_law.proofs.Usable.{times, times_append, Usable, unpins, one_less, has_user, itself_once, walk_goes}
 use Rattle.result_law.proofs.Operands.{top_of, gets, got_owned, got_int, Stands, stands, newest_of, mutex_form, task_form, owned_form, mark_form, second_form}

@@ -10,7 +10,7 @@ use Rattle.server_model.specs.Prepare.{Access, ReadTo, ReadPointer, LendTo, acce
 use Rattle.server_model.specs.Events.{enabled}
 use Rattle.event_law.specs.Kinds.{Kind, instr_kind}
 use Rattle.event_law.specs.Laws.{FewEvents, HasResult}
-use Rattle.type_law.specs.ClusterTypes.{IsCoherent}
+use Rattle.path_law.specs.Below.type_law.ClusterTypes.{IsCoherent}
 
 -- no pointer is followed: there is no place, or it is a variable without a star
 pub data FollowsNone : Option Access → Type 0 where

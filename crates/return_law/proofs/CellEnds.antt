@@ -38,9 +38,9 @@ use Rattle.carry_law.proofs.Replaced.{tail_of, at_a, at_b, in_slots, in_temps, i
 use Rattle.carry_law.proofs.Passing.{Here, slot, temp, nowhere, located, here, no_temp}
 use Rattle.carry_law.proofs.Taken.{taker_of, taking_thread}
 use Rattle.carry_law.proofs.Hands.{RootedIn}
-use Rattle.refs_law.specs.Unpassed.{IsUnpassed}
-use Rattle.refs_law.proofs.QuietSlots.{own_slot}
-use Rattle.refs_law.proofs.Chains.{held_there}
+use Rattle.finish_law.specs.Below.refs_law.Unpassed.{IsUnpassed}
+use Rattle.finish_law.proofs.Below.refs_law.QuietSlots.{own_slot}
+use Rattle.finish_law.proofs.Below.refs_law.Chains.{held_there}
 use Rattle.through_law.proofs.Emptying.{other_side, back_split}
 use Rattle.finish_law.proofs.EndPlaces.{Without}
 

@@ -45,12 +45,12 @@ use Rattle.result_law.proofs.Known.{Steps, standing, paths, goes}
 use Rattle.result_law.proofs.Pointing.{Stands, leads_home}
 use Rattle.write_law.proofs.Memory.{Leads, looked, Sane, renewal_issued}
 use Rattle.write_law.proofs.StepRoutes.{sane_there, roomy, awake}
-use Rattle.rewrite_law.proofs.Onward.{Onward, lies_reworded}
-use Rattle.rewrite_law.proofs.Later.{Later, later_itself, later_renewed}
-use Rattle.rewrite_law.proofs.Passing.{State, Asked, first_state, requests}
-use Rattle.rewrite_law.proofs.Hops.{renewed_work}
+use Rattle.through_law.proofs.Below.rewrite_law.Onward.{Onward, lies_reworded}
+use Rattle.through_law.proofs.Below.rewrite_law.Later.{Later, later_itself, later_renewed}
+use Rattle.through_law.proofs.Below.rewrite_law.Passing.{State, Asked, first_state, requests}
+use Rattle.through_law.proofs.Below.rewrite_law.Hops.{renewed_work}
 use Rattle.path_law.proofs.Sole.{some_is}
-use Rattle.refs_law.specs.Unpassed.{IsUnpassed}
+use Rattle.finish_law.specs.Below.refs_law.Unpassed.{IsUnpassed}
 use Rattle.finish_law.specs.Ends.{EndsReference}
 use Rattle.finish_law.proofs.DirtyEnds.{Place, Worded, tint, renew}
 use Rattle.finish_law.proofs.Recoloured.{fresh_before}

@@ -28,8 +28,8 @@ use Rattle.carry_law.proofs.Hands.{Ok, Moved, seen, moved_on, moved_from, leaves
 use Rattle.carry_law.proofs.Passing.{Here, slot, temp}
 use Rattle.carry_law.proofs.Places.{end_other}
 use Rattle.carry_law.proofs.Steps.{Does, goes_over}
-use Rattle.refs_law.proofs.Chains.{cluster}
-use Rattle.refs_law.proofs.RefSteps.{emptied as emptied_hand, plain_comes, top_comes}
+use Rattle.finish_law.proofs.Below.refs_law.Chains.{cluster}
+use Rattle.finish_law.proofs.Below.refs_law.RefSteps.{emptied as emptied_hand, plain_comes, top_comes}
 use Rattle.through_law.proofs.Marking.{together_by}
 use Rattle.finish_law.proofs.EndHands.{Base, Goes}
 use Rattle.return_law.proofs.Returns.{Shape, newest, top, emptied, after, Returns}

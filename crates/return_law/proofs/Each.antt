@@ -37,8 +37,8 @@ use Rattle.carry_law.proofs.Events.{discards_carry}
 use Rattle.carry_law.proofs.Gives.{owned_goes}
 use Rattle.carry_law.proofs.Hands.{step_by}
 use Rattle.carry_law.proofs.Locks.{kept_where, holds_on}
-use Rattle.refs_law.specs.Gone.{to_slot, to_slot_mutably, shared_to, moves as moves_any, drops as drops_light, discards as discards_light, assigns as assigns_light}
-use Rattle.refs_law.proofs.RefEvents.{references_go}
+use Rattle.finish_law.specs.Below.refs_law.Gone.{to_slot, to_slot_mutably, shared_to, moves as moves_any, drops as drops_light, discards as discards_light, assigns as assigns_light}
+use Rattle.finish_law.proofs.Below.refs_law.RefEvents.{references_go}
 use Rattle.through_law.proofs.Assignments.{assignments_keep}
 use Rattle.through_law.proofs.Moves.{moves_keep}
 use Rattle.finish_law.specs.Ends.{drops, discards, assigns}

@@ -32,7 +32,7 @@ use Rattle.word_law.proofs.Takings.{lents_are, lent_by, lent_listed, lent_told}
 use Rattle.prepare_law.proofs.Hands.{put, places}
 use Rattle.result_law.proofs.Known.{Steps, standing, paths, goes}
 use Rattle.carry_law.proofs.Hands.{rooted}
-use Rattle.rewrite_law.proofs.Passing.{State}
+use Rattle.through_law.proofs.Below.rewrite_law.Passing.{State}
 use Rattle.through_law.proofs.EndTypes.{places_on, rooted_on}
 use Rattle.finish_law.proofs.EndTypes.{alone, only as only_there, untaken as untaken_there}
 use Rattle.finish_law.proofs.EndHands.{Base, AtEnd}

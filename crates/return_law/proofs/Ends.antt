@@ -53,10 +53,10 @@ use Rattle.carry_law.proofs.Locks.{Kept, kept_where, holds_on}
 use Rattle.carry_law.proofs.Passing.{Here, slot, temp, nowhere, located, here}
 use Rattle.result_law.proofs.Known.{Steps, standing, paths, goes}
 use Rattle.write_law.proofs.Holders.{route}
-use Rattle.rewrite_law.proofs.Onward.{Lies}
-use Rattle.rewrite_law.proofs.Passing.{State}
+use Rattle.through_law.proofs.Below.rewrite_law.Onward.{Lies}
+use Rattle.through_law.proofs.Below.rewrite_law.Passing.{State}
 use Rattle.through_law.proofs.Marking.{mark_state}
-use Rattle.refs_law.specs.Unpassed.{IsUnpassed}
+use Rattle.finish_law.specs.Below.refs_law.Unpassed.{IsUnpassed}
 use Rattle.finish_law.specs.Ends.{EndsReference, drops, discards, assigns}
 use Rattle.finish_law.proofs.EndHands.{length_end, newest_there, bare, Base, AtEnd}
 use Rattle.finish_law.proofs.EndEvents.{drop_takes, discard_takes, assign_takes, given_unpassed, temp_unpassed, untaken_here, ok_steps}
@@ -227,7 +227,7 @@ module _ (k : Cluster) (coherent : IsCoherent k) (few : FewEvents k) (s : Server
             }
 
         in_cells : (b : ℕ) (w : Option ℕ) (d : Rattle.heap_partition.specs.declared.value.Cell.Cell) (p : Rattle.heap_partition.specs.declared.value.BoxPtr.BoxPtr) → (q.word == q.first) ≡ false → end ≡ in_cell b w → place_of r.holder.depth ≡ Some (in_object d.object)
-            → Rattle.write_law.proofs.Memory.Leads h.work.rest.partition b d → d.value ≡ Rattle.heap_partition.specs.declared.value.Owned.TheVariants.Box p → Rattle.rewrite_law.proofs.Hops.Walk k coherent s here_it t y at h (in_cell b w) → ((m : ℕ) → w ≡ Some m → e.it.at ≡ at_slot y.number m → ⊥) → Ending h end q from
+            → Rattle.write_law.proofs.Memory.Leads h.work.rest.partition b d → d.value ≡ Rattle.heap_partition.specs.declared.value.Owned.TheVariants.Box p → Rattle.through_law.proofs.Below.rewrite_law.Hops.Walk k coherent s here_it t y at h (in_cell b w) → ((m : ℕ) → w ≡ Some m → e.it.at ≡ at_slot y.number m → ⊥) → Ending h end q from
         in_cells b w d p word at_b final lead boxed walk away =
             record {
               hb = hb;

@@ -27,9 +27,9 @@ use Rattle.write_law.proofs.Memory.{Leads}
 use Rattle.write_law.proofs.Route.{Route, Writing, begins, At, a_slot, a_cell, Fine, all_hops, rerouted}
 use Rattle.write_law.proofs.StepRoutes.{roomy}
 use Rattle.write_law.proofs.Holders.{TakesWord, C, at as place_at, short_holder, route, object_away, slot_away, Last, last_slot, last_cell, last_there}
-use Rattle.rewrite_law.proofs.Passing.{State, Asked}
-use Rattle.rewrite_law.proofs.Hops.{Through, Walk, Mine}
-use Rattle.rewrite_law.proofs.Walks.{BoxAt, in_a_slot, in_a_cell, all_mine}
+use Rattle.through_law.proofs.Below.rewrite_law.Passing.{State, Asked}
+use Rattle.through_law.proofs.Below.rewrite_law.Hops.{Through, Walk, Mine}
+use Rattle.through_law.proofs.Below.rewrite_law.Walks.{BoxAt, in_a_slot, in_a_cell, all_mine}
 use Rattle.return_law.proofs.HolderSoles.{written_there, words_there}
 use Rattle.return_law.proofs.Cleaned.{steps, End, Cleaned, CleanFine, cleans}
 

@@ -54,9 +54,9 @@ use Rattle.result_law.proofs.Known.{Steps, standing, paths, goes, types, entry, 
 use Rattle.result_law.proofs.Readers.{to_entry}
 use Rattle.write_law.proofs.StepRoutes.{awake}
 use Rattle.write_law.proofs.Holders.{C, at as place, object_away}
-use Rattle.rewrite_law.proofs.Onward.{IsWritten}
-use Rattle.rewrite_law.proofs.Walks.{BoxAt, in_a_slot, in_a_cell}
-use Rattle.rewrite_law.proofs.Ways.{leads_pointer}
+use Rattle.through_law.proofs.Below.rewrite_law.Onward.{IsWritten}
+use Rattle.through_law.proofs.Below.rewrite_law.Walks.{BoxAt, in_a_slot, in_a_cell}
+use Rattle.through_law.proofs.Below.rewrite_law.Ways.{leads_pointer}
 use Rattle.finish_law.specs.Ends.{EndsReference, drops, discards, assigns}
 use Rattle.return_law.proofs.Lending.{IsLender, refers_there, points_there}
 use Rattle.return_law.proofs.Placed.{placed_alone}

@@ -9,3 +9,4 @@ pub mod Returns
 pub mod Commits
 pub mod Ends
 pub mod Each
+pub mod Below

@@ -48,9 +48,9 @@ use Rattle.carry_law.proofs.Passing.{Here, slot, temp, located, here}
 use Rattle.carry_law.proofs.Places.{end_other}
 use Rattle.carry_law.proofs.Replaced.{places_on}
 use Rattle.read_law.proofs.Homes.{fresh_word}
-use Rattle.refs_law.proofs.Chains.{cluster}
+use Rattle.finish_law.proofs.Below.refs_law.Chains.{cluster}
 use Rattle.write_law.proofs.Memory.{Leads, looks, leads_on}
-use Rattle.rewrite_law.proofs.Onward.{Lies}
+use Rattle.through_law.proofs.Below.rewrite_law.Onward.{Lies}
 use Rattle.through_law.proofs.Emptying.{stored_split, part_among}
 use Rattle.finish_law.proofs.EndHands.{set_apart, is_so, Base, AtEnd, Goes, finishes}
 use Rattle.finish_law.proofs.EndPlaces.{Without, newest_without, emptied_without, top_without, first_finishes, word_finishes}

@@ -24,7 +24,7 @@ use Rattle.event_law.specs.Laws.{Gives, GoTo, FewEvents}
 use Rattle.event_law.proofs.Results.{map_gives, over_gives, test_gives, both_give}
 use Rattle.event_law.proofs.Applied.{go_with}
 use Rattle.event_law.proofs.Sending.{applied_part, each_event_sends}
-use Rattle.result_law.proofs.Known.{Steps}
+use Rattle.write_law.proofs.Below.result_law.Known.{Steps}
 use Rattle.stay_law.proofs.Alike.{Alike}
 use Rattle.stay_law.proofs.Sites.{handed_over}
 use Rattle.stay_law.proofs.Steps.{TakesNoneHere}

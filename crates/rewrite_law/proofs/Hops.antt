@@ -44,9 +44,9 @@ use Rattle.event_law.proofs.RulesKeep.{sums_kept}
 use Rattle.event_law.proofs.Bags.{all_standing}
 use Rattle.event_law.proofs.Events.{others_of}
 use Rattle.event_law.proofs.NewWords.{hand_renews, puts_word}
-use Rattle.read_law.proofs.Homes.{fresh_word}
-use Rattle.read_law.proofs.Lookups.{one_state}
-use Rattle.result_law.proofs.Pointing.{its_partition}
+use Rattle.prepare_law.proofs.Below.read_law.Homes.{fresh_word}
+use Rattle.prepare_law.proofs.Below.read_law.Lookups.{one_state}
+use Rattle.write_law.proofs.Below.result_law.Pointing.{its_partition}
 use Rattle.move_law.specs.Relaid.{Renewal}
 use Rattle.move_law.proofs.Relaid.{at_lies, renewals_reword}
 use Rattle.prepare_law.proofs.Hands.{put, places, stands}

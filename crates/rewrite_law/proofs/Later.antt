@@ -27,10 +27,10 @@ use Rattle.path_law.proofs.InState.{only_one}
 use Rattle.path_law.proofs.Contained.{listed_in}
 use Rattle.path_law.proofs.Origins.{among_first, among_second}
 use Rattle.path_law.proofs.Sole.{some_is}
-use Rattle.read_law.proofs.Lookups.{one_state}
-use Rattle.result_law.proofs.Flights.{has_weight}
-use Rattle.result_law.proofs.Pointing.{its_partition}
-use Rattle.still_law.proofs.Addresses.{next_empty}
+use Rattle.prepare_law.proofs.Below.read_law.Lookups.{one_state}
+use Rattle.write_law.proofs.Below.result_law.Flights.{has_weight}
+use Rattle.write_law.proofs.Below.result_law.Pointing.{its_partition}
+use Rattle.write_law.proofs.Below.still_law.Addresses.{next_empty}
 use Rattle.move_law.specs.Relaid.{NextIsVacant}
 use Rattle.write_law.proofs.Memory.{Sane}
 

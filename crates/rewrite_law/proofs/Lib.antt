@@ -5,3 +5,4 @@ pub mod Hops
 pub mod Walks
 pub mod Ways
 pub mod Asking
+pub mod Below

@@ -30,13 +30,13 @@ use Rattle.path_law.proofs.MayWrites.{may_write_there}
 use Rattle.path_law.proofs.Shown.{stands_there}
 use Rattle.word_law.specs.Unmoved.{taking_by}
 use Rattle.word_law.proofs.Alone.{written_are_sole}
-use Rattle.read_law.specs.Reading.{LiesUnder}
-use Rattle.read_law.proofs.Homes.{fresh_word}
-use Rattle.end_law.proofs.Fresh.{writes_are_fresh}
-use Rattle.end_law.proofs.Lying.{written_lie_there}
-use Rattle.result_law.proofs.Followed.{hop_from}
-use Rattle.result_law.proofs.Known.{Steps, standing, paths, goes, types, entry, typed}
-use Rattle.result_law.proofs.Readers.{to_entry}
+use Rattle.prepare_law.specs.Below.read_law.Reading.{LiesUnder}
+use Rattle.prepare_law.proofs.Below.read_law.Homes.{fresh_word}
+use Rattle.write_law.proofs.Below.end_law.Fresh.{writes_are_fresh}
+use Rattle.write_law.proofs.Below.end_law.Lying.{written_lie_there}
+use Rattle.write_law.proofs.Below.result_law.Followed.{hop_from}
+use Rattle.write_law.proofs.Below.result_law.Known.{Steps, standing, paths, goes, types, entry, typed}
+use Rattle.write_law.proofs.Below.result_law.Readers.{to_entry}
 use Rattle.write_law.proofs.Route.{Route}
 use Rattle.write_law.proofs.StepRoutes.{awake, C, at, its_route}
 use Rattle.rewrite_law.specs.Writing.{WritesThrough, assigns, moves}

@@ -10,7 +10,7 @@ use Rattle.heap_law.specs.Things.{in_cell, Thing, lies, flies, stands}
 use Rattle.heap_law.specs.Sight.{Pointer, pointers_of}
 use Rattle.heap_law.specs.Placing.{standing_of, standing_in}
 use Rattle.heap_law.proofs.Bags.{among_split}
-use Rattle.path_law.proofs.Origins.{among_first, among_second}
+use Rattle.word_law.proofs.Below.path_law.Origins.{among_first, among_second}
 use Rattle.word_law.specs.Unmoved.{pointing, owning, taking_by}
 use Rattle.word_law.proofs.Standing.{standing_among}
 use Rattle.word_law.proofs.Loose.{box_nowhere}

@@ -9,7 +9,7 @@ use Rattle.join_home.specs.Tasks.{Task, TaskState, task_in, with_state, without_
 use Rattle.server_model.specs.Work.{thread_in, set_thread, without_thread, with_thread}
 use Rattle.heap_law.specs.Names.{same_mutex}
 use Rattle.heap_law.specs.Things.{Thing, things_at}
-use Rattle.path_law.proofs.Sole.{some_is}
+use Rattle.word_law.proofs.Below.path_law.Sole.{some_is}
 use Rattle.stay_law.proofs.Alike.{Alike, itself, chain, beside, in_front}
 
 -- the item was taken out of the first list, and the second one is left

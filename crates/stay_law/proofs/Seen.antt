@@ -11,8 +11,8 @@ use Rattle.heap_law.specs.Names.{Among}
 use Rattle.heap_law.specs.Things.{Location, at_slot, at_temp, in_cell, Thing, lies, flies, stands, things_of}
 use Rattle.heap_law.specs.Follow.{Standing, thread_at, threads_in, cells_in, cell_of, slot_of, temp_of, value_of, value_in}
 use Rattle.heap_law.specs.Sight.{Pointer, pointers_of, pointers_in, sight}
-use Rattle.type_law.proofs.Branches.{found}
-use Rattle.path_law.proofs.Contained.{among_thread}
+use Rattle.word_law.proofs.Below.type_law.Branches.{found}
+use Rattle.word_law.proofs.Below.path_law.Contained.{among_thread}
 use Rattle.word_law.specs.Reworded.{HasPlaces, LiesThere}
 use Rattle.word_law.specs.Unmoved.{pointing, owning, seen_at, Taking, with_taking, taking_of, takings, Untouched}
 use Rattle.word_law.proofs.Standing.{CellOf, lying, flying, cell_among, cell_found, of_thing, pointers_among, stands_in}

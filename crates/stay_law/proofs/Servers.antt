@@ -21,8 +21,8 @@ use Rattle.heap_law.specs.Names.{Among, same_mutex}
 use Rattle.heap_law.specs.Things.{Spot, in_hand, as_gift, as_content, as_result, Thing, holds, at_home, noted, queued, copied, sent, things_at, partition_things, copy_things, mutex_things, content_things, queue_things, task_things, result_things, message_things, waiting_things, leaving_things, server_things}
 use Rattle.heap_law.specs.Sight.{pointer_in, location_of}
 use Rattle.heap_law.proofs.Names.{same_number, same_mutexes}
-use Rattle.path_law.proofs.Sole.{some_is}
-use Rattle.path_law.proofs.Origins.{among_first}
+use Rattle.word_law.proofs.Below.path_law.Sole.{some_is}
+use Rattle.word_law.proofs.Below.path_law.Origins.{among_first}
 use Rattle.event_law.proofs.Bags.{counts_of, body_things, all_standing, sent_number}
 use Rattle.stay_law.proofs.Alike.{Alike, Within, Seen, itself, turned, chain, beside, exchanged, in_front, joined, alone, inside, swapped, blank, blanks, goes}
 use Rattle.stay_law.proofs.Lists.{at_place, at_end, mutex_taken, mutex_set, task_taken, task_set, taken_alike}

@@ -14,7 +14,7 @@ use Rattle.server_model.specs.Events.{does, begin_work, begin_at, left_by, deliv
 use Rattle.server_model.specs.Clusters.{with_server, accept, accept_at, accept_all, with_outbox, hand_over_newer}
 use Rattle.heap_law.specs.Things.{Thing, things_at, partition_things, copy_things, mutex_things, task_things, thread_things, message_things, waiting_things, leaving_things, server_things, servers_things}
 use Rattle.heap_law.proofs.Names.{same_number}
-use Rattle.path_law.proofs.Sole.{some_is}
+use Rattle.word_law.proofs.Below.path_law.Sole.{some_is}
 use Rattle.event_law.specs.Laws.{Gives, GoTo}
 use Rattle.event_law.proofs.Results.{then_gives, over_gives}
 use Rattle.event_law.proofs.Bags.{counts_of, body_things, all_standing}

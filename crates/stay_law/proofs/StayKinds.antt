@@ -26,7 +26,7 @@ use Rattle.heap_law.specs.Sight.{sight}
 use Rattle.heap_law.specs.Naming.{servers_wrong, pinned_parcel}
 use Rattle.heap_law.specs.Walking.{sum_threads}
 use Rattle.heap_law.specs.Coherent.{IsSound}
-use Rattle.path_law.proofs.Sole.{some_is}
+use Rattle.word_law.proofs.Below.path_law.Sole.{some_is}
 use Rattle.word_law.specs.Reworded.{HasPlaces}
 use Rattle.word_law.specs.Unmoved.{LeavesWords}
 use Rattle.word_law.proofs.Unmoved.{untouched_stays}

@@ -36,7 +36,7 @@ use Rattle.heap_law.specs.Coherent.{Holds, IsSound, taken_stands}
 use Rattle.heap_law.proofs.Words.{itself, named, none_all}
 use Rattle.fr_base.specs.Names.{same_object}
 use Rattle.event_law.proofs.MutexResults.{has}
-use Rattle.free_law.proofs.Unled.{none_leads}
+use Rattle.walk_law.proofs.Below.free_law.Unled.{none_leads}
 use Rattle.wait_law.proofs.Found.{Weighing, weighing}
 use Rattle.type_law.specs.ClusterTypes.{IsCoherent}
 use Rattle.path_law.specs.HeapStore.{GoesOn, HasPaths}

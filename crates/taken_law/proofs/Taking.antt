@@ -24,8 +24,8 @@ use Rattle.type_law.specs.ClusterTypes.{IsCoherent}
 use Rattle.event_law.specs.Laws.{FewEvents}
 use Rattle.read_law.specs.Reading.{Reads, lends as lends_from}
 use Rattle.arrive_law.specs.Awaited.{Awaits}
-use Rattle.await_law.proofs.Behind.{IsPointer, pointed}
-use Rattle.await_law.proofs.ReadArrivals.{read_spent, SpentHop, aw, m as slot_number, there, found_at}
+use Rattle.regain_law.proofs.Below.await_law.Behind.{IsPointer, pointed}
+use Rattle.regain_law.proofs.Below.await_law.ReadArrivals.{read_spent, SpentHop, aw, m as slot_number, there, found_at}
 
 -- WHAT A MUTABLE BORROW WAITS FOR
 

@@ -12,3 +12,4 @@ pub mod Assignments
 pub mod OwnEnds
 pub mod TakenOut
 pub mod Moves
+pub mod Below

@@ -8,7 +8,7 @@ use Rattle.fr_typing.specs.Kinds.{Owned, unit, int}
 use Rattle.fr_store.specs.Keys.{Key, slot_k, temp_k, content_k, result_k, hand_k}
 use Rattle.fr_store.specs.Store.{Val, Location, at_key, at_object, box_v, int_v, ref_v, gone_v, mutex_v, task_v, Store, value_at}
 use Rattle.fr_store.specs.Typed.{Tree, hole, int_tree, box_tree, Exact, owns, KeyTypes, exact_under, Stands, Typed}
-use Rattle.server_model.specs.Figures.{run, steps_of}
+use Rattle.heap_law.specs.Below.server_model.Figures.{run, steps_of}
 use Rattle.heap_law.specs.Sight.{sight}
 use Rattle.heap_law.specs.Clusters.{options, boxed_code}
 use Rattle.fr_plain.specs.MachineThreads.{alive}

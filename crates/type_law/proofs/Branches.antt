@@ -7,7 +7,7 @@ use Rattle.thread_state.specs.View.{ThreadState}
 use Rattle.thread_state.specs.declared.phase.Phase.{Phase}
 use Rattle.thread_state.specs.declared.phase.Phase.TheVariants as phase
 use Rattle.join_home.specs.Tasks.{Task, TaskState, in_pair}
-use Rattle.server_model.specs.Servers.{Cluster}
+use Rattle.heap_law.specs.Below.server_model.Servers.{Cluster}
 use Rattle.heap_law.specs.Names.{tot, one, if_so, Among}
 use Rattle.heap_law.specs.Things.{Thing, stands, noted, things_of}
 use Rattle.heap_law.specs.Follow.{Standing, threads_in, thread_at}

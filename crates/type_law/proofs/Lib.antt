@@ -9,3 +9,4 @@ pub mod Branches
 mod Paired
 mod Locking
 pub mod Whole
+pub mod Below

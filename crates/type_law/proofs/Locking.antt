@@ -9,8 +9,8 @@ use Rattle.fr_typing.specs.Kinds.{Owned, unit, int}
 use Rattle.fr_store.specs.Keys.{Key, slot_k, temp_k, content_k, result_k, hand_k}
 use Rattle.fr_store.specs.Store.{Val, Location, at_key, at_object, box_v, int_v, ref_v, gone_v, mutex_v, task_v, Store, value_at, Place}
 use Rattle.fr_store.specs.Typed.{Tree, hole, int_tree, mutex_tree, Exact, owns, refers, KeyTypes, exact_under, here, Stands, Typed, Unnamed}
-use Rattle.server_model.specs.Figures.{run, steps_of, deliver}
-use Rattle.server_model.specs.Programs.{with_servers, locked_twice}
+use Rattle.heap_law.specs.Below.server_model.Figures.{run, steps_of, deliver}
+use Rattle.heap_law.specs.Below.server_model.Programs.{with_servers, locked_twice}
 use Rattle.heap_law.specs.Clusters.{place, the_mutex}
 use Rattle.heap_law.specs.Sight.{sight}
 use Rattle.fr_plain.specs.MachineThreads.{alive}

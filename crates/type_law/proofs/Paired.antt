@@ -11,8 +11,8 @@ use Rattle.fr_store.specs.Keys.{Key, slot_k, temp_k, content_k, result_k, hand_k
 use Rattle.fr_store.specs.Store.{Val, Location, at_key, at_object, box_v, int_v, ref_v, gone_v, mutex_v, task_v, Store, value_at, Place}
 use Rattle.fr_store.specs.Typed.{Tree, hole, int_tree, box_tree, Exact, owns, refers, KeyTypes, exact_under, here, Stands, Typed}
 use Rattle.fr_store.specs.Below.{Seen}
-use Rattle.server_model.specs.Figures.{run, steps_of, deliver}
-use Rattle.server_model.specs.Programs.{with_servers, read_by_pairs}
+use Rattle.heap_law.specs.Below.server_model.Figures.{run, steps_of, deliver}
+use Rattle.heap_law.specs.Below.server_model.Programs.{with_servers, read_by_pairs}
 use Rattle.heap_law.specs.Clusters.{place}
 use Rattle.heap_law.specs.Sight.{sight}
 use Rattle.fr_plain.specs.MachineThreads.{alive, over, owing, ended}

@@ -9,7 +9,7 @@ use Rattle.fr_typing.specs.Kinds.{Owned, unit, int, box, mutex, task, same_owned
 use Rattle.fr_store.specs.Keys.{Key, slot_k, temp_k, content_k, result_k, hand_k}
 use Rattle.fr_store.specs.Store.{Location, at_key, at_object, Val, box_v, gone_v, mutex_v, task_v, Store, value_at}
 use Rattle.fr_store.specs.Typed.{hole, Exact, owns, KeyTypes, exact_under, Stands, Typed}
-use Rattle.server_model.specs.Servers.{Cluster, start_of, main_thread, with_main, empty_servers}
+use Rattle.heap_law.specs.Below.server_model.Servers.{Cluster, start_of, main_thread, with_main, empty_servers}
 use Rattle.heap_law.specs.Names.{tot, one, some, other, if_so}
 use Rattle.heap_law.specs.Things.{Thing, counts, servers_things}
 use Rattle.heap_law.specs.Follow.{Standing, threads_in, thread_at}

@@ -1,6 +1,6 @@
 -- Coherent clusters: no sentence that is counted is broken, by computing.
 use Rattle.std.proofs.Common.{refl}
-use Rattle.server_model.specs.Servers.{start_of}
+use Rattle.heap_law.specs.Below.server_model.Servers.{start_of}
 use Rattle.heap_law.specs.Clusters.{boxed_code, options}
 use Rattle.heap_law.specs.Coherent.{IsSound}
 use Rattle.heap_law.proofs.Unbroken.{sound_law}

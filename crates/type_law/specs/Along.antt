@@ -7,12 +7,12 @@ use Rattle.journal.specs.View.{EntryView}
 use Rattle.fr_typing.specs.Kinds.{unit, int, box, shared, mutable, Piece, whole}
 use Rattle.fr_store.specs.Keys.{slot_k}
 use Rattle.fr_store.specs.Typed.{Exact, owns, refers, hole, KeyTypes}
-use Rattle.server_model.specs.declared.event.Event.{Event}
-use Rattle.server_model.specs.Servers.{Cluster, start_of}
-use Rattle.server_model.specs.Clusters.{apply}
-use Rattle.server_model.specs.Figures.{deliver}
-use Rattle.server_model.specs.Programs.{with_servers, read_by_pairs, locked_elsewhere, lent_box}
-use Rattle.server_model.specs.Rows.{reading_by_pairs, moving, locking_elsewhere, unlocked}
+use Rattle.heap_law.specs.Below.server_model.declared.event.Event.{Event}
+use Rattle.heap_law.specs.Below.server_model.Servers.{Cluster, start_of}
+use Rattle.heap_law.specs.Below.server_model.Clusters.{apply}
+use Rattle.heap_law.specs.Below.server_model.Figures.{deliver}
+use Rattle.heap_law.specs.Below.server_model.Programs.{with_servers, read_by_pairs, locked_elsewhere, lent_box}
+use Rattle.heap_law.specs.Below.server_model.Rows.{reading_by_pairs, moving, locking_elsewhere, unlocked}
 use Rattle.heap_law.specs.Follow.{Standing, thread_at}
 use Rattle.heap_law.specs.Sight.{Sight, sight}
 use Rattle.type_law.specs.Names.{NameTypes}

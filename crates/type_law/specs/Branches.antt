@@ -3,7 +3,7 @@
 use Rattle.std.specs.Prelude.{◌≡◌, ℕ, ◌<◌, Bool, Some}
 use Rattle.fr_typing.specs.Kinds.{unit}
 use Rattle.join_home.specs.Tasks.{Task, in_pair}
-use Rattle.server_model.specs.Servers.{Cluster}
+use Rattle.heap_law.specs.Below.server_model.Servers.{Cluster}
 use Rattle.heap_law.specs.Names.{Among}
 use Rattle.heap_law.specs.Things.{noted, things_of}
 use Rattle.heap_law.specs.Follow.{Standing}

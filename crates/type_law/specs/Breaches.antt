@@ -9,8 +9,8 @@ use Rattle.thread_state.specs.declared.value.Value.TheVariants as value
 use Rattle.fr_typing.specs.Kinds.{unit, int, mutable, own, whole}
 use Rattle.fr_typing.specs.Kinds as kind
 use Rattle.fr_typing.specs.Places.{Env}
-use Rattle.server_model.specs.Servers.{Server, Cluster}
-use Rattle.server_model.specs.Programs.{lent_box}
+use Rattle.heap_law.specs.Below.server_model.Servers.{Server, Cluster}
+use Rattle.heap_law.specs.Below.server_model.Programs.{lent_box}
 use Rattle.heap_law.specs.Clusters.{cell, int as one_int, box, object, place, the_mutex}
 use Rattle.heap_law.specs.Chosen.{lent_deep}
 use Rattle.heap_law.specs.Sight.{sight}

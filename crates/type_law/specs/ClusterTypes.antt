@@ -15,7 +15,7 @@ use Rattle.fr_typing.specs.Kinds.{Owned as OwnedType, same_owned, Kind, own, sha
 use Rattle.fr_typing.specs.Places.{Slot}
 use Rattle.fr_store.specs.Keys.{Key, slot_k, temp_k}
 use Rattle.fr_store.specs.Typed.{Exact, owns, refers, KeyTypes}
-use Rattle.server_model.specs.Servers.{Cluster}
+use Rattle.heap_law.specs.Below.server_model.Servers.{Cluster}
 use Rattle.heap_law.specs.Names.{one, other, if_so, some, same_object, same_mutex}
 use Rattle.heap_law.specs.Things.{Location, Spot, as_content, as_result, Thing, holds, lies, flies}
 use Rattle.heap_law.specs.Follow.{Standing, Ground, leads, place_at, value_at}

@@ -3,9 +3,9 @@ use Rattle.std.specs.Prelude.{◌≡◌, pos, List, [], ◌∷◌, ◌++◌, Som
 use Rattle.thread_state.specs.View.{ThreadState, new_thread}
 use Rattle.thread_state.specs.declared.value.Value.TheVariants as value
 use Rattle.heap_partition.specs.declared.value.Owned.TheVariants as owned
-use Rattle.server_model.specs.Servers.{Server, Cluster}
-use Rattle.server_model.specs.Figures.{run, steps_of, deliver}
-use Rattle.server_model.specs.Programs.{with_servers, locked_twice}
+use Rattle.heap_law.specs.Below.server_model.Servers.{Server, Cluster}
+use Rattle.heap_law.specs.Below.server_model.Figures.{run, steps_of, deliver}
+use Rattle.heap_law.specs.Below.server_model.Programs.{with_servers, locked_twice}
 use Rattle.fr_typing.specs.Kinds.{unit, int, mutex, own, shared, whole}
 use Rattle.fr_typing.specs.Places.{Slot, Env}
 use Rattle.heap_law.specs.Clusters.{place, the_mutex}

@@ -6,7 +6,7 @@ use Rattle.heap_partition.specs.declared.value.Owned.{Owned}
 use Rattle.thread_state.specs.View.{is_over}
 use Rattle.thread_state.specs.declared.value.Value.{Value}
 use Rattle.thread_state.specs.declared.value.Value.TheVariants as value
-use Rattle.server_model.specs.Servers.{Cluster}
+use Rattle.heap_law.specs.Below.server_model.Servers.{Cluster}
 use Rattle.heap_law.specs.Names.{Among}
 use Rattle.heap_law.specs.Things.{as_content, as_result, holds, lies, flies}
 use Rattle.heap_law.specs.Follow.{Standing}

@@ -6,9 +6,9 @@ use Rattle.thread_state.specs.declared.value.Value.{Value}
 use Rattle.thread_state.specs.declared.value.Value.TheVariants as value
 use Rattle.thread_state.specs.declared.phase.Phase.TheVariants as phase
 use Rattle.join_home.specs.Tasks.{in_pair}
-use Rattle.server_model.specs.Servers.{Server, Cluster}
-use Rattle.server_model.specs.Figures.{run, steps_of, deliver}
-use Rattle.server_model.specs.Programs.{with_servers, read_by_pairs}
+use Rattle.heap_law.specs.Below.server_model.Servers.{Server, Cluster}
+use Rattle.heap_law.specs.Below.server_model.Figures.{run, steps_of, deliver}
+use Rattle.heap_law.specs.Below.server_model.Programs.{with_servers, read_by_pairs}
 use Rattle.heap_law.specs.Clusters.{cell, int, box, object, task}
 use Rattle.type_law.specs.ClusterTypes.{Types}
 use Rattle.type_law.specs.Typed.{cluster_of}

@@ -4,7 +4,7 @@ use Rattle.fr_terms.specs.Terms.{Text}
 use Rattle.fr_typing.specs.Kinds.{unit, int, box, mutex, task, Kind, own, shared, mutable, view, Piece, whole, gone}
 use Rattle.fr_typing.specs.Places.{Slot, Env}
 use Rattle.heap_law.specs.Clusters.{place}
-use Rattle.server_model.specs.Programs.{read_by_pairs, locked_elsewhere, lent_box}
+use Rattle.heap_law.specs.Below.server_model.Programs.{read_by_pairs, locked_elsewhere, lent_box}
 use Rattle.fr_code.specs.CodeTypes.{Entry, Table, table_of, going, forked_at}
 use Rattle.fr_code.specs.CodeTable.{IsTable}
 

@@ -5,8 +5,8 @@ use Rattle.fr_base.specs.declared.settings.Options.{Options}
 use Rattle.global_addr.specs.Words.{word_of}
 use Rattle.thread_state.specs.View.{ThreadState, new_thread}
 use Rattle.thread_state.specs.declared.value.Value.TheVariants as value
-use Rattle.server_model.specs.Servers.{Server, Cluster, start_of}
-use Rattle.server_model.specs.Figures.{Ran, run, steps_of}
+use Rattle.heap_law.specs.Below.server_model.Servers.{Server, Cluster, start_of}
+use Rattle.heap_law.specs.Below.server_model.Figures.{Ran, run, steps_of}
 use Rattle.fr_code.specs.CodeTypes.{Table}
 use Rattle.fr_code.specs.CodeTable.{IsTable}
 use Rattle.heap_law.specs.Clusters.{boxed_code, options, cell, int, box}

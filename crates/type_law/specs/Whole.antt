@@ -1,5 +1,5 @@
 -- Clusters that are coherent in all parts.
-use Rattle.server_model.specs.Servers.{start_of}
+use Rattle.heap_law.specs.Below.server_model.Servers.{start_of}
 use Rattle.heap_law.specs.Clusters.{boxed_code, options}
 use Rattle.type_law.specs.ClusterTypes.{IsCoherent}
 use Rattle.type_law.specs.Typed.{boxed_cluster}

@@ -22,7 +22,7 @@ use Rattle.event_law.proofs.Results.{weaker}
 use Rattle.local_law.proofs.Messages.{on_sent}
 use Rattle.value_law.proofs.Sums.{copy_of}
 use Rattle.copy_law.proofs.Comes.{copies_come}
-use Rattle.clean_law.proofs.Asked.{asking}
+use Rattle.fresh_law.proofs.Below.clean_law.Asked.{asking}
 use Rattle.fresh_law.proofs.Turned.{Unasked}
 use Rattle.uncopied_law.specs.Passed.{NewStayUncopied}
 

@@ -10,3 +10,4 @@ pub mod Stay
 pub mod Fates
 pub mod Takers
 pub mod Steady
+pub mod Below

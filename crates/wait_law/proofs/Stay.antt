@@ -23,7 +23,7 @@ use Rattle.read_law.proofs.FreshReads.{reading_of}
 use Rattle.event_law.specs.Laws.{Gives, FewEvents}
 use Rattle.event_law.proofs.Results.{both_give, weaker}
 use Rattle.event_law.proofs.Sending.{applied_part}
-use Rattle.undone_law.proofs.Undone.{each_undone}
+use Rattle.ask_law.proofs.Below.undone_law.Undone.{each_undone}
 use Rattle.ask_law.proofs.SameHeap.{Runs, runs, SeesSame, place_kept as kept_in_heap}
 use Rattle.wait_law.specs.Places.{Follows, reads, writes, ends_at, LeadsAsItDid, OthersLeavePlaces, UndoneLeavePlaces}
 use Rattle.wait_law.proofs.Written.{chain_of, chain_of_holder}

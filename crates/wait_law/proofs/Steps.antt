@@ -24,8 +24,8 @@ use Rattle.still_law.proofs.Addresses.{InPlace, in_place}
 use Rattle.still_law.proofs.Leaving.{others, placed_here}
 use Rattle.still_law.proofs.Prepares.{prepare_shows, Fine as Shows}
 use Rattle.result_law.proofs.Known.{Steps}
-use Rattle.write_law.proofs.Memory.{Leads, looks}
-use Rattle.write_law.proofs.Route.{At, a_slot, a_cell, Fine, begins, all_hops}
+use Rattle.rewrite_law.proofs.Below.write_law.Memory.{Leads, looks}
+use Rattle.rewrite_law.proofs.Below.write_law.Route.{At, a_slot, a_cell, Fine, begins, all_hops}
 use Rattle.rewrite_law.specs.Writing.{WritesThrough, assigns, moves}
 use Rattle.rewrite_law.proofs.Ways.{cell_there, place, route}
 use Rattle.wait_law.proofs.Amounts.{SeesStanding, amount}

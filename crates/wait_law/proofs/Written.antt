@@ -25,8 +25,8 @@ use Rattle.path_law.proofs.Forms.{running_typed}
 use Rattle.path_law.proofs.FreshPaths.{OwnSlot, own_closed}
 use Rattle.path_law.proofs.Shown.{stands_there}
 use Rattle.read_law.proofs.FreshReads.{Reading, chain_apart}
-use Rattle.end_law.proofs.Ends.{EndsAt, ends_at as ends_there}
-use Rattle.end_law.proofs.Alone.{holder_stars}
+use Rattle.rewrite_law.proofs.Below.end_law.Ends.{EndsAt, ends_at as ends_there}
+use Rattle.rewrite_law.proofs.Below.end_law.Alone.{holder_stars}
 use Rattle.result_law.proofs.Known.{Steps, standing, paths, goes, types, entry, typed}
 use Rattle.result_law.proofs.Readers.{to_entry}
 use Rattle.rewrite_law.specs.Writing.{WritesThrough, assigns, moves}

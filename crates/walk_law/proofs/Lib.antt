@@ -16,3 +16,4 @@ pub mod Followed
 pub mod Steady
 pub mod Deliveries
 pub mod Delivered
+pub mod Below

@@ -27,8 +27,8 @@ use Rattle.result_law.proofs.Known.{Steps, standing, paths, goes, types, entry, 
 use Rattle.result_law.proofs.Readers.{to_entry}
 use Rattle.write_law.proofs.Memory.{looks}
 use Rattle.write_law.proofs.Route.{Route, At, a_slot, a_cell, Fine, begins, all_hops}
-use Rattle.rewrite_law.specs.Writing.{WritesThrough, assigns, moves}
-use Rattle.rewrite_law.proofs.Ways.{may, cell_there, place, route}
+use Rattle.wait_law.specs.Below.rewrite_law.Writing.{WritesThrough, assigns, moves}
+use Rattle.wait_law.proofs.Below.rewrite_law.Ways.{may, cell_there, place, route}
 use Rattle.wait_law.proofs.Written.{InChain, chain_of, Written}
 use Rattle.walk_law.proofs.Cells.{Seeing}
 use Rattle.walk_law.proofs.Ready.{Blind}

@@ -39,7 +39,7 @@ use Rattle.still_law.proofs.Addresses.{InPlace}
 use Rattle.end_law.proofs.Ends.{EndsAt, last_is, key_of}
 use Rattle.result_law.proofs.Known.{Steps, standing, paths, goes, types, entry, typed}
 use Rattle.write_law.proofs.Ends.{RefAt, in_its_slot, on_its_top}
-use Rattle.rewrite_law.specs.Writing.{WritesThrough, assigns, moves}
+use Rattle.wait_law.specs.Below.rewrite_law.Writing.{WritesThrough, assigns, moves}
 use Rattle.wait_law.proofs.Written.{Written}
 use Rattle.walk_law.proofs.Cells.{Seeing, amount}
 use Rattle.walk_law.proofs.Ready as made

@@ -1,3 +1,4 @@
+pub mod Below
 pub mod Pointers
 pub mod Steady
 pub mod Deliveries

@@ -12,7 +12,7 @@ use Rattle.fr_store.specs.Store.{Location as StoreLocation, at_key, at_object, g
 use Rattle.fr_store.specs.Typed.{Resolves}
 use Rattle.fr_store.proofs.Chains.{from_suc}
 use Rattle.fr_store.proofs.Sound.{sound}
-use Rattle.fr_sound.specs.Seen.{Gives, owned_val, seen_cell}
+use Rattle.path_law.specs.Below.fr_sound.Seen.{Gives, owned_val, seen_cell}
 use Rattle.heap_partition.specs.Plain.{plain_of}
 use Rattle.heap_partition.specs.declared.value.BoxPtr.{BoxPtr}
 use Rattle.heap_partition.specs.declared.value.Cell.{Cell}

@@ -12,8 +12,8 @@ use Rattle.heap_law.specs.Things.{at_slot, lies, things_of}
 use Rattle.heap_law.specs.Coherent.{IsSound}
 use Rattle.heap_law.proofs.Unbroken.{sound_law}
 use Rattle.server_model.specs.Servers.{Cluster}
-use Rattle.type_law.specs.Typed.{boxed_main, boxed_cluster}
-use Rattle.type_law.proofs.Whole.{coherent_compute}
+use Rattle.path_law.specs.Below.type_law.Typed.{boxed_main, boxed_cluster}
+use Rattle.path_law.proofs.Below.type_law.Whole.{coherent_compute}
 use Rattle.path_law.specs.HeapStore.{GoesOn, HasPaths}
 use Rattle.path_law.specs.Pointing.{assigns}
 use Rattle.path_law.specs.Example.{main_stands}

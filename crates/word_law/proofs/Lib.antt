@@ -22,3 +22,4 @@ pub mod Unmoved
 pub mod OneMore
 pub mod Unseen
 pub mod Fetches
+pub mod Below

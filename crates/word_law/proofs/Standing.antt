@@ -18,7 +18,7 @@ use Rattle.heap_law.specs.Placing.{standing_of, standing_in}
 use Rattle.heap_law.specs.Sight.{sight, Pointer, pointer_in, location_of, dropped_pointer, pointers_of, pointers_in}
 use Rattle.heap_law.proofs.Words.{itself, named}
 use Rattle.mut_borrow.specs.declared.shared.SharedRef.{SharedRef}
-use Rattle.type_law.proofs.Branches.{found}
+use Rattle.path_law.proofs.Below.type_law.Branches.{found}
 use Rattle.heap_law.proofs.Bags.{among_split}
 use Rattle.path_law.proofs.Sole.{some_is}
 use Rattle.path_law.proofs.Origins.{placed, Origin, of_thread, of_none, origin, Listed, in_slots, borrow_value, share_value, own_value, among_first, among_second}

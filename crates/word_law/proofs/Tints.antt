@@ -23,7 +23,7 @@ use Rattle.heap_law.specs.Follow.{Standing, threads_in, thread_at, cells_in, cel
 use Rattle.heap_law.specs.Sight.{sight}
 use Rattle.heap_law.specs.Words.{LeadsTo}
 use Rattle.heap_law.proofs.Bags.{among_split}
-use Rattle.type_law.proofs.Branches.{found}
+use Rattle.path_law.proofs.Below.type_law.Branches.{found}
 use Rattle.path_law.proofs.Sole.{some_is}
 use Rattle.path_law.proofs.Origins.{threads_joined, among_first, among_second}
 use Rattle.path_law.proofs.Contained.{rest_none}

@@ -12,7 +12,7 @@ use Rattle.heap_law.specs.Clusters.{object, box}
 use Rattle.heap_law.specs.Things.{at_slot}
 use Rattle.heap_law.specs.Sight.{sight}
 use Rattle.heap_law.specs.Words.{HasWords}
-use Rattle.type_law.specs.Typed.{boxed_main, boxed_server, boxed_cluster}
+use Rattle.path_law.specs.Below.type_law.Typed.{boxed_main, boxed_server, boxed_cluster}
 use Rattle.word_law.specs.WordsAfter.{Rewrites}
 use Rattle.heap_law.specs.Dirty.{DirtyAlone}
 use Rattle.word_law.specs.PutBack.{put_in, StandsHere}

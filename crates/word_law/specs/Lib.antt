@@ -1,3 +1,4 @@
+pub mod Below
 pub mod Reworded
 pub mod Unmoved
 pub mod OneMore

@@ -39,8 +39,8 @@ use Rattle.heap_law.specs.Walking.{path}
 use Rattle.heap_law.specs.Words.{IsStale}
 use Rattle.path_law.specs.HeapStore.{GoesOn, HasPaths}
 use Rattle.path_law.proofs.Sole.{some_is}
-use Rattle.word_law.proofs.Standing.{told, told_standing}
-use Rattle.read_law.specs.Reading.{LiesUnder}
+use Rattle.end_law.proofs.Below.word_law.Standing.{told, told_standing}
+use Rattle.end_law.specs.Below.read_law.Reading.{LiesUnder}
 use Rattle.event_law.proofs.Objects.{length_set}
 use Rattle.end_law.specs.Ending.{EndsAlone}
 use Rattle.end_law.proofs.Alone.{ended_are_alone}

@@ -36,7 +36,7 @@ use Rattle.path_law.proofs.Climbs.{one_location, ref_is}
 use Rattle.path_law.proofs.FreshPaths.{MutThere}
 use Rattle.path_law.proofs.Shown.{stands_there}
 use Rattle.path_law.proofs.Sole.{some_is}
-use Rattle.word_law.proofs.Standing.{slot_among, temp_among}
+use Rattle.end_law.proofs.Below.word_law.Standing.{slot_among, temp_among}
 use Rattle.end_law.proofs.Alone.{holder_stars}
 use Rattle.end_law.proofs.Ends.{EndsAt}
 use Rattle.result_law.proofs.Known.{Steps, standing, paths, goes}

@@ -12,3 +12,4 @@ pub mod Anyhow
 pub mod Written
 pub mod Passed
 pub mod Moved
+pub mod Below

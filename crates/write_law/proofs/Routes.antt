@@ -50,8 +50,8 @@ use Rattle.path_law.proofs.Circles.{shorter}
 use Rattle.path_law.proofs.InState.{only_one}
 use Rattle.path_law.proofs.Shown.{stands_there}
 use Rattle.path_law.proofs.Sole.{some_is}
-use Rattle.word_law.proofs.Standing.{lying, cell_found}
-use Rattle.read_law.specs.Reading.{LiesUnder}
+use Rattle.end_law.proofs.Below.word_law.Standing.{lying, cell_found}
+use Rattle.end_law.specs.Below.read_law.Reading.{LiesUnder}
 use Rattle.end_law.proofs.Fresh.{writes_are_fresh}
 use Rattle.result_law.proofs.Followed.{hop_from}
 use Rattle.result_law.proofs.Pointing.{Stands, slot_pointer, cell_pointer, its_partition, leads_home}

@@ -35,13 +35,13 @@ use Rattle.heap_law.proofs.Passing.{paths_law}
 use Rattle.path_law.specs.HeapStore.{heap_store, GoesOn, IsUnmarked, HasPaths}
 use Rattle.path_law.specs.Pointing.{WritesTo, assigns, moves, lends}
 use Rattle.path_law.proofs.Forms.{running_typed}
-use Rattle.word_law.proofs.Standing.{slot_among, temp_among}
+use Rattle.end_law.proofs.Below.word_law.Standing.{slot_among, temp_among}
 use Rattle.path_law.proofs.Alike.{mark_unnamed}
 use Rattle.path_law.proofs.Circles.{shorter}
 use Rattle.path_law.proofs.MayWrites.{may_write_there}
 use Rattle.path_law.proofs.Sole.{some_is}
-use Rattle.read_law.specs.Reading.{LiesUnder}
-use Rattle.read_law.proofs.Homes.{fresh_word}
+use Rattle.end_law.specs.Below.read_law.Reading.{LiesUnder}
+use Rattle.end_law.proofs.Below.read_law.Homes.{fresh_word}
 use Rattle.end_law.proofs.Alone.{holder_stars}
 use Rattle.end_law.proofs.Ends.{EndsAt, ends_at}
 use Rattle.end_law.proofs.Fresh.{Writing, through_it, of_holder}

@@ -1,0 +1,4 @@
+-- What this law stands on, passed on to the laws above it, which need not list that then.
+pub use Rattle.word_law.specs as word_law
+pub use Rattle.word_law.specs.Below.path_law as path_law
+pub use Rattle.word_law.specs.Below.type_law as type_law

@@ -1,0 +1,4 @@
+-- What this law stands on, passed on to the laws above it, which need not list that then.
+pub use Rattle.await_law.proofs as await_law
+pub use Rattle.return_law.proofs as return_law
+pub use Rattle.return_law.proofs.Below.finish_law as finish_law

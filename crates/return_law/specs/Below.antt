@@ -1,0 +1,3 @@
+-- What this law stands on, passed on to the laws above it, which need not list that then.
+pub use Rattle.finish_law.specs as finish_law
+pub use Rattle.finish_law.specs.Below.refs_law as refs_law
