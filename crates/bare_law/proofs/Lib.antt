@@ -1,0 +1,12 @@
+pub mod Good
+pub mod Stars
+pub mod Stands
+pub mod Start
+pub mod Writes
+pub mod Clean
+pub mod Ends
+pub mod Own
+pub mod Comes
+pub mod Left
+pub mod Landed
+pub mod Walks

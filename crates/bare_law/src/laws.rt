@@ -1,0 +1,28 @@
+//! What each event keeps of boxes that writes have passed.
+
+ghost use Rattle.heap_law.specs.Coherent.{passed_not_copied};
+ghost use Rattle.heap_law.specs.Walking.{copied_box, over_passed};
+ghost use Rattle.land_law.specs.Landed.{EachUnsteppedEventKeeps, OthersWhereItComesKeep};
+ghost use Rattle.local_law.specs.Laws.{EachCoherentEventKeeps};
+ghost use Rattle.walk_law.specs.Pointers.{OthersStepsKeep};
+ghost use Rattle.way_law.specs.Steps.{OwnStepsKeep, StepsKeep};
+
+/// Of a box that a thread's write has passed no copy exists after each step, done or not: of what another thread has passed (`others`), of what the thread itself has, where each
+/// box that is passed anew gets a word that wasn't issued (`own`), and so of all.
+pub fn steps_uncopied()
+    ensures others { OthersStepsKeep (λ s x. over_passed s (copied_box s) x) }
+    ensures own { OwnStepsKeep (λ s x. over_passed s (copied_box s) x) }
+    ensures all { StepsKeep passed_not_copied }
+{}
+
+/// Nor does one after each event that is no step. Where an object comes, the pointer at which its thread waits gets a word that wasn't issued before the hop over it is passed, and
+/// that pointer is on the way of no other thread (`others`).
+pub fn unstepped_uncopied()
+    ensures others { OthersWhereItComesKeep (λ s x. over_passed s (copied_box s) x) }
+    ensures all { EachUnsteppedEventKeeps passed_not_copied }
+{}
+
+/// So each event keeps it, from a coherent cluster with few events: of a box that a write has passed no copy exists.
+pub fn each_event_uncopied()
+    ensures { EachCoherentEventKeeps passed_not_copied }
+{}

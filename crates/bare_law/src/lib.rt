@@ -1,0 +1,6 @@
+//! Boxes that writes have passed have no copies after each event. There is no code here: a law is the contract of a function with an empty body.
+#![tactic(auto)]
+
+mod laws;
+
+pub use laws::{each_event_uncopied, steps_uncopied, unstepped_uncopied};
