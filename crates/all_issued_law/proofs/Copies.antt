@@ -24,7 +24,8 @@ use Rattle.still_law.proofs.Leaving.{others, placed_here}
 use Rattle.event_law.proofs.Results.{weaker}
 use Rattle.value_law.proofs.Sums.{copy_of}
 use Rattle.copy_law.proofs.Comes.{ServedWeighNothing, copies_come}
-use Rattle.all_issued_law.specs.Issued.{unissued, copied_words, CopiesHaveOldWords}
+use Rattle.old_words_law.specs.Old.{unissued}
+use Rattle.all_issued_law.specs.Issued.{copied_words, CopiesHaveOldWords}
 
 -- the words of a copy, that of its object and the one that it holds
 abbrev in_copy : (ℕ → ℕ) → ℕ → Cell → ℕ

@@ -1,6 +1,7 @@
 -- Addresses in a step: where an object lay one lies, or the address is retired; a free one goes on from its colour, or an object lies there; a retired one stays retired.
-use Rattle.std.proofs.Common.{◌≡◌, ◌≤◌, ℕ, ◌+◌, ◌==◌, ◌&&◌, Bool, true, false, nat_lt, if◌then◌else◌, List, [], ◌∷◌, Option, Some, None, refl, sym, ap, subst, ◌∙◌, arith}
+use Rattle.std.proofs.Common.{◌≡◌, ◌≤◌, ℕ, ◌+◌, ◌==◌, ◌&&◌, Bool, true, false, nat_lt, if◌then◌else◌, List, [], ◌∷◌, Option, Some, None, refl, sym, ap, ap₂, subst, ◌∙◌, arith}
 use Rattle.std.specs.Prelude.{length, is_some, slice_get}
+use Rattle.std.proofs.lemmas.Bool.{eq-eqb}
 use Rattle.std.proofs.lemmas.Bool.Decides.{nat_tests}
 use Rattle.fr_base.specs.declared.name.ObjNo.{ObjNo}
 use Rattle.global_addr.specs.Words.{colour_of, server_of, address_of}
@@ -8,7 +9,7 @@ use Rattle.heap_partition.specs.declared.value.Cell.{Cell}
 use Rattle.heap_partition.specs.declared.value.Owned.{Owned}
 use Rattle.colour_retire.specs.Colours.{picked}
 use Rattle.owner_box.specs.View.{PartitionState}
-use Rattle.owner_box.specs.Partition.{with_value, cell_of, stored, freed, made_again, renewed}
+use Rattle.owner_box.specs.Partition.{with_value, cell_of, stored, made, freed, made_again, renewed}
 use Rattle.server_model.specs.Servers.{Rest}
 use Rattle.server_model.specs.Work.{look, leads_here}
 use Rattle.server_model.specs.NewWords.{can_grow, is_last}
@@ -17,6 +18,7 @@ use Rattle.heap_law.specs.Things.{Thing, lies, vacant, retired, partition_things
 use Rattle.heap_law.specs.Sight.{is_spot}
 use Rattle.heap_law.specs.Weights.{states}
 use Rattle.heap_law.proofs.Names.{and_left, and_right}
+use Rattle.heap_law.proofs.Words.{itself}
 use Rattle.event_law.proofs.Cells.{left_by, looked, frees}
 use Rattle.event_law.proofs.Objects.{length_set, taken_place, makes}
 use Rattle.still_law.proofs.Addresses.{InPlace, lies_alone, next_empty, renews}
@@ -166,3 +168,44 @@ onward_renewed colours n p r v on o = record { placed = (renews (record r { numb
           λ b. (let f = lying b in omega (arith, o.lay b, t.before f, t.after f, u.before f, u.after f, left_bare b n q.limit v, taken_bare b n (freed q v).free)),
           λ w low. (let f = spotted colours w in omega (arith, o.keeps w low, t.before f, t.after f, u.before f, u.after f, retires colours w n q.limit v c low last, takes colours w n (freed q v).free (length (freed q v).cells) c)),
         )
+
+-- AN OBJECT COMES
+
+-- the object lies at that address
+abbrev pub laid : ℕ → ℕ → ObjNo → Thing → ℕ
+laid n a o (lies s b c) = one ((s == n && b == a) && same_object c.object o)
+laid n a o x = 0
+
+pub laid_sees : (n a : ℕ) (o : ObjNo) → SeesAddresses (laid n a o)
+laid_sees n a o = record { nothing = blank; object = λ s b c d e. ap (λ q. one ((s == n && b == a) && same_object q o)) e }
+  where
+    blank : (x : Thing) → NoAddress x → laid n a o x ≡ 0
+    blank (lies s b c) h = absurd h
+    blank x h = refl
+
+-- the next address that a partition has
+abbrev pub next_address : PartitionState → ℕ
+next_address p = (picked p.free (length p.cells)).0
+
+-- a partition after another one to which the object came, at the next address: no other one comes, and no word below the limit loses its place
+pub record Comes (colours n : ℕ) (o : ObjNo) (p q : PartitionState) : Type 0 where
+  pub here : 1 ≤ tot (laid n (next_address p) o) (partition_things n q)
+  pub lay : (b : ObjNo) → tot (lying b) (partition_things n q) ≤ tot (lying b) (partition_things n p) + one (same_object o b)
+  pub keeps : (w : ℕ) → nat_lt (colour_of w) colours ≡ true → tot (spotted colours w) (partition_things n p) ≤ tot (spotted colours w) (partition_things n q)
+
+pub comes_made : (colours n : ℕ) (p : PartitionState) (c : Cell) → InPlace n p → Comes colours n c.object p (made p c)
+comes_made colours n p c placed =
+    let u = makes n p c p.free (next_empty n p placed) in
+    let at : laid n (next_address p) c.object (lies n (next_address p) c) ≡ 1 =
+    ap₂ (λ x y. one ((x && y) && same_object c.object c.object)) (eq-eqb n n refl) (eq-eqb (next_address p) (next_address p) refl) ∙ ap one (itself c.object c.object refl) in record {
+      here = (let f = laid n (next_address p) c.object in omega (arith, u.after f, at));
+      lay = λ b. (let f = lying b in omega (arith, u.before f, u.after f, taken_bare b n p.free));
+      keeps = λ w low. (let f = spotted colours w in omega (arith, u.before f, u.after f, takes colours w n p.free (length p.cells) c));
+    }
+
+pub comes_stored : (colours n : ℕ) (o : ObjNo) (p q : PartitionState) (x : ℕ) (v : Owned) → Comes colours n o p q → Comes colours n o p (stored q x v)
+comes_stored colours n o p q x v k = record {
+  here = omega (arith, k.here, same_weight (laid n (next_address p) o) (laid_sees n (next_address p) o) n q (stored q x v) (stores_same q q x v (same_itself q)));
+  lay = λ b. omega (arith, k.lay b, same_weight (lying b) (lying_sees b) n q (stored q x v) (stores_same q q x v (same_itself q)));
+  keeps = λ w low. omega (arith, k.keeps w low, same_weight (spotted colours w) (spotted_sees colours w) n q (stored q x v) (stores_same q q x v (same_itself q)));
+}

@@ -2,6 +2,7 @@
 use Rattle.std.specs.Prelude.{◌≡◌, ⊤, ℕ, ◌+◌, true, nat_lt, Some, slice_get}
 use Rattle.fr_base.specs.declared.instruction.Instr.{Instr}
 use Rattle.fr_base.specs.declared.instruction.Instr.TheVariants as instr
+use Rattle.fr_base.specs.declared.instruction.Operand.{Operand}
 use Rattle.global_addr.specs.Words.{colour_of}
 use Rattle.journal.specs.View.{EntryView}
 use Rattle.thread_state.specs.View.{ThreadState}
@@ -12,18 +13,23 @@ use Rattle.server_model.specs.declared.event.What.TheVariants.{Step}
 use Rattle.server_model.specs.Servers.{Server, Cluster, server_at}
 use Rattle.server_model.specs.Work.{thread_in}
 use Rattle.server_model.specs.Clusters.{apply}
-use Rattle.heap_law.specs.Names.{tot, other}
+use Rattle.heap_law.specs.Names.{tot}
 use Rattle.heap_law.specs.Things.{Thing, copied, sent, things_of}
 use Rattle.heap_law.specs.Sight.{issued, sight}
 use Rattle.heap_law.specs.Placing.{owned_word}
 use Rattle.heap_law.specs.Coherent.{IsSound}
 use Rattle.type_law.specs.ClusterTypes.{IsCoherent}
 use Rattle.event_law.specs.Laws.{Gives, FewEvents}
+use Rattle.old_words_law.specs.Old.{unissued}
 
 -- an instruction that makes no object
 abbrev pub MakesNoObject : Instr → Type 0
 MakesNoObject (instr.Box o) = ⊥
 MakesNoObject i = ⊤
+
+-- each word below the limit that had been issued is issued after the event, its messages handed over
+abbrev pub KeepsWhatWasIssued : Cluster → Event → Type 0
+KeepsWhatWasIssued k e = Gives (λ (d : Cluster × EntryView). (w : ℕ) → nat_lt (colour_of w) k.options.colours ≡ true → issued (sight k) w ≡ true → issued (sight d.0) w ≡ true) (apply k e)
 
 -- the step of a thread at such an instruction, done or not, from a coherent cluster in which few events were done, with its messages handed over: each word below the limit that had been
 -- issued is issued
@@ -31,9 +37,10 @@ abbrev pub StepsKeepWhatWasIssued : Type 0
 StepsKeepWhatWasIssued = (k : Cluster) (number t : ℕ) (s : Server) (y : ThreadState) (i : Instr) → IsCoherent k → FewEvents k → server_at k.servers number ≡ Some s → thread_in s.threads t ≡ Some y → slice_get k.code y.pc ≡ Some i → MakesNoObject i
     → Gives (λ (d : Cluster × EntryView). (w : ℕ) → nat_lt (colour_of w) k.options.colours ≡ true → issued (sight k) w ≡ true → issued (sight d.0) w ≡ true) (apply k (record { server = number; what = Step t }))
 
--- a word that wasn't issued then weighs something
-abbrev pub unissued : Cluster → ℕ → ℕ
-unissued k w = other (issued (sight k) w)
+-- the step of a thread that makes an object
+abbrev pub BoxesKeepWhatWasIssued : Type 0
+BoxesKeepWhatWasIssued = (k : Cluster) (number t : ℕ) (s : Server) (y : ThreadState) (o : Operand) → IsCoherent k → FewEvents k → server_at k.servers number ≡ Some s → thread_in s.threads t ≡ Some y → slice_get k.code y.pc ≡ Some (instr.Box o)
+    → KeepsWhatWasIssued k (record { server = number; what = Step t })
 
 -- the words of copies, cached or on their way, and those that they hold
 abbrev pub sent_words : (ℕ → ℕ) → Message → ℕ

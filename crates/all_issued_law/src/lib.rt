@@ -1,4 +1,4 @@
-//! What was issued stays issued, after each step that makes no object. There is no code here: a law is the contract of a function with an empty body.
+//! What was issued stays issued, after each step. There is no code here: a law is the contract of a function with an empty body.
 #![tactic(auto)]
 
 mod laws;

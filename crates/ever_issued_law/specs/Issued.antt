@@ -1,0 +1,14 @@
+-- EACH EVENT ISSUES THE WORDS THAT STAND AFTER IT, or they had been issued (this project's rule).
+use Rattle.journal.specs.View.{EntryView}
+use Rattle.server_model.specs.declared.event.Event.{Event}
+use Rattle.server_model.specs.Servers.{Cluster}
+use Rattle.server_model.specs.Clusters.{apply}
+use Rattle.heap_law.specs.Coherent.{Holds, are_issued}
+use Rattle.event_law.specs.Laws.{Gives, FewEvents}
+use Rattle.type_law.specs.ClusterTypes.{IsCoherent}
+use Rattle.standing_law.specs.Standing.{Settled}
+
+-- from a coherent cluster in which few events were done, after each event that has a result, its messages handed over: each word that stands anywhere was issued, where the cluster has
+-- types, objects have words, and what is waited for, asked for and taken stands
+abbrev pub EachEventIssues : Type 0
+EachEventIssues = (k : Cluster) (e : Event) → IsCoherent k → FewEvents k → Gives (λ (d : Cluster × EntryView). Settled d.0 → Holds d.0 are_issued) (apply k e)

@@ -1,0 +1,11 @@
+//! Laws of words that stand.
+
+ghost use Rattle.old_words_law.specs.Old.{ArrivalsLeaveFirstWords, StepsLeaveFirstWords};
+
+/// From a coherent cluster in which few events were done: after the step of a thread (`steps`), and after the delivery of an object (`arrivals`), the first word of each
+/// mutable reference was issued before it. No event changes a first word; and the reference that a mutable borrow makes has that of its pointer, which has the word that it
+/// had, since what is read until the place is ready gets no word.
+pub fn first_words_are_old()
+    ensures steps { StepsLeaveFirstWords }
+    ensures arrivals { ArrivalsLeaveFirstWords }
+{}

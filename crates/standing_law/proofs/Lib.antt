@@ -1,0 +1,4 @@
+pub mod Live
+pub mod Stale
+pub mod Standing
+pub mod Events
