@@ -40,7 +40,7 @@ use Rattle.heap_law.specs.Sight.{Sight, sight}
 use Rattle.heap_law.specs.Walking.{instr_of}
 use Rattle.heap_law.specs.Paths.{joined_thread}
 use Rattle.heap_law.specs.Requests.{locked_mutex}
-use Rattle.heap_law.specs.Coherent.{IsSound}
+use Rattle.fit_law.specs.Fits.{StandsOnce}
 use Rattle.heap_law.specs.OneHeap.{one_heap, plain_value, Node, object_n, mutex_n, task_n, Owner, inside, content_owner, result_owner, gift_owner, gift_owner_of, owner_of, owns as owns_node, names, owner_in, named_in, any_named, in_state_by, is_in_state, if_in, cell_value, first_shown, share_in}
 use Rattle.heap_law.proofs.Words.{named, itself}
 use Rattle.type_law.specs.Names.{names_of, fits}
@@ -51,7 +51,7 @@ use Rattle.path_law.proofs.Shown.{at_behind, behind_is}
 use Rattle.path_law.proofs.Forms.{none_of}
 use Rattle.still_law.proofs.Rounds.{enough}
 use Rattle.still_law.proofs.Alike.{Once}
-use Rattle.still_law.proofs.Once.{shown_once}
+use Rattle.fit_law.proofs.Once.{stands_once}
 use Rattle.typed_law.specs.Counted.{has_sort, slot_sort, slots_unsorted, sorts_of, sorts_wrong}
 use Rattle.typed_law.proofs.Following.{HasHeap, heap_of, stands_there}
 use Rattle.typed_law.proofs.Values.{slot_seen, temp_seen, running, held_shown}
@@ -181,10 +181,10 @@ cell_shows : (c : Cell) (x : Thing) → CellThing c x → cell_value c.object x 
 cell_shows c _ (it_lies r a) = ap (λ q. if_in q (Some (plain_of c.value))) (itself c.object c.object refl)
 cell_shows c _ (it_flies w) = ap (λ q. if_in q (Some (plain_of c.value))) (itself c.object c.object refl)
 
-module _ (k : Cluster) (sound : IsSound k) (table : Table) (y : Typing) (state : CodeStateTypes table y (one_heap k)) (sorted : sorts_wrong table (sight k) ≡ 0) where
+module _ (k : Cluster) (each_once : StandsOnce k) (table : Table) (y : Typing) (state : CodeStateTypes table y (one_heap k)) (sorted : sorts_wrong table (sight k) ≡ 0) where
   abbrev pub c : HasHeap k
   c = record {
-    numbers = record { numbers_differ = sound.names.numbers_differ; names_counted = sound.names.names_counted; counts_from_one = sound.names.counts_from_one; over_are_bare = sound.rooted.over_are_bare };
+    numbers = each_once.numbers;
     table = table;
     typing = y;
     state = state;
@@ -362,7 +362,7 @@ module _ (k : Cluster) (sound : IsSound k) (table : Table) (y : Typing) (state :
   starts h o w at = record { key = h; owns_it = w; depth = 0; leads = ap (λ v. box_target (Some v)) at }
 
   once : Once s
-  once = shown_once k sound
+  once = stands_once k each_once
 
   -- what the cell of an object of the one heap holds stands there
   pub cell_there : (d : Cell) (x : Thing) → CellThing d x → Among x s.things → is_in_state s (object_n d.object) ≡ true → st.heap d.object ≡ Some (owned_val g (plain_of d.value))
@@ -380,30 +380,30 @@ module _ (k : Cluster) (sound : IsSound k) (table : Table) (y : Typing) (state :
     by_content : (p : Spot) (v : Owned) (m : MutexNo) → Among (holds p v) s.things → owner_of s (holds p v) ≡ inside (mutex_n m) → owns_node (object_n o) v ≡ true → in_state_by i s (mutex_n m) ≡ true → ObjectBelow o
     by_content p v m a e nm ow =
         let b = box_of o v nm in
-        let there = content_there k sound p v m a e (enough s i (mutex_n m) ow) in
+        let there = content_there k each_once p v m a e (enough s i (mutex_n m) ow) in
         starts (content_k m.home m.count) o (content_owns m v there (content_among k c (holds p v) m a e)) (content_at m v there ∙ ap (λ z. owned_val g (plain_of z)) b.1 ∙ ap box_v b.2)
 
     by_result : (p : Spot) (v : Owned) (t : ℕ) → Among (holds p v) s.things → owner_of s (holds p v) ≡ inside (task_n t) → owns_node (object_n o) v ≡ true → in_state_by i s (task_n t) ≡ true → ObjectBelow o
     by_result p v t a e nm ow =
         let b = box_of o v nm in
-        let there = result_there k sound p v t a e (enough s i (task_n t) ow) in
+        let there = result_there k each_once p v t a e (enough s i (task_n t) ow) in
         starts (result_k t) o (result_owns t v there (result_among k c (holds p v) t a e)) (result_at t v there ∙ ap (λ z. owned_val g (plain_of z)) b.1 ∙ ap box_v b.2)
 
-    by_slot : (i : ℕ) (v : Owned) → InSlot k sound i v → owns_node (object_n o) v ≡ true → ObjectBelow o
+    by_slot : (i : ℕ) (v : Owned) → InSlot k each_once i v → owns_node (object_n o) v ≡ true → ObjectBelow o
     by_slot j v q nm =
         let b = box_of o v nm in
         let w = slot_owns q.thread q.goes j b.0 (q.is ∙ ap (λ z. Some (value.Own z)) b.1) in
         starts (slot_k q.thread.thread.number j) o w.0 (w.1 ∙ ap box_v b.2)
 
-    by_temp : (i : ℕ) (v : Owned) → InTemp k sound i v → owns_node (object_n o) v ≡ true → ObjectBelow o
+    by_temp : (i : ℕ) (v : Owned) → InTemp k each_once i v → owns_node (object_n o) v ≡ true → ObjectBelow o
     by_temp j v q nm =
         let b = box_of o v nm in
         let w = temp_owns q.thread q.goes j b.0 (q.is ∙ ap (λ z. Some (value.Own z)) b.1) in
         starts (temp_k q.thread.thread.number j) o w.0 (w.1 ∙ ap box_v b.2)
 
     by_spot : (p : Spot) (v : Owned) → Among (holds p v) s.things → owns_node (object_n o) v ≡ true → owner_in (in_state_by i s) (owner_of s (holds p v)) ≡ true → ObjectBelow o
-    by_spot (in_slot t j) v a nm ow = by_slot j v (slot_stood k sound t j v a) nm
-    by_spot (in_temp t j) v a nm ow = by_temp j v (temp_stood k sound t j v a) nm
+    by_spot (in_slot t j) v a nm ow = by_slot j v (slot_stood k each_once t j v a) nm
+    by_spot (in_temp t j) v a nm ow = by_temp j v (temp_stood k each_once t j v a) nm
     by_spot (as_content m) v a nm ow = by_content (as_content m) v m a refl nm ow
     by_spot (as_result t) v a nm ow = by_result (as_result t) v t a refl nm ow
     by_spot in_hand v a nm ow = absurd (none_in_hand k v a)

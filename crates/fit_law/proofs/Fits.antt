@@ -24,7 +24,6 @@ use Rattle.heap_law.specs.Sight.{Sight, sight}
 use Rattle.heap_law.specs.Walking.{instr_of}
 use Rattle.heap_law.specs.Paths.{joined_thread}
 use Rattle.heap_law.specs.Requests.{locked_mutex}
-use Rattle.heap_law.specs.Coherent.{IsSound}
 use Rattle.heap_law.specs.OneHeap.{one_heap, object_n, mutex_n, task_n, inside, content_owner, result_owner, gift_owner, owner_of, owner_in, is_in_state, value_is_in}
 use Rattle.type_law.specs.Names.{NameTypes, names_of, fits, is_there}
 use Rattle.type_law.specs.ClusterTypes.{misfit, content_gift, result_gift, gift_misfit}
@@ -35,7 +34,7 @@ use Rattle.typed_law.proofs.Leads.{to_other, leads_follow}
 use Rattle.typed_law.proofs.Objects.{content_among, result_among, object_type}
 use Rattle.typed_law.proofs.Formed.{forms_follow}
 use Rattle.typed_law.proofs.Counts.{locked_follow, ends_follow}
-use Rattle.fit_law.specs.Fits.{gift_is_in, HeapFits, TypedHeapsFit}
+use Rattle.fit_law.specs.Fits.{StandsOnce, gift_is_in, HeapFits, TypedHeapsFit}
 use Rattle.fit_law.proofs.Depths.{whole_there}
 use Rattle.fit_law.proofs.Stood.{gift_among, gift_owned, content_there, result_there}
 use Rattle.fit_law.proofs.Chains.{OwnsKey, deep, type_at, fits_at, content_owns, content_at, result_owns, result_at, object_below, CellThing, it_lies, it_flies, cell_there, c, st, object}
@@ -59,49 +58,49 @@ both_true : (p q : Bool) → p ≡ true → q ≡ true → p && q ≡ true
 both_true true q e f = f
 both_true false q e f = absurd cc
 
-module _ (k : Cluster) (sound : IsSound k) (table : Table) (y : Typing) (state : CodeStateTypes table y (one_heap k)) (sorted : sorts_wrong table (sight k) ≡ 0) where
+module _ (k : Cluster) (each_once : StandsOnce k) (table : Table) (y : Typing) (state : CodeStateTypes table y (one_heap k)) (sorted : sorts_wrong table (sight k) ≡ 0) where
   abbrev s : Sight
   s = sight k
 
   abbrev n : NameTypes
-  n = names_of (object k sound table y state sorted) y.gives
+  n = names_of (object k each_once table y state sorted) y.gives
 
   abbrev Owns : Key → Type 0
-  Owns h = OwnsKey k sound table y state sorted h
+  Owns h = OwnsKey k each_once table y state sorted h
 
   -- CELLS
 
   cell_fits : (d : Cell) (x : Thing) → CellThing d x → Among x s.things → is_in_state s (object_n d.object) ≡ true → other (fits n (n.object d.object) d.value) ≡ 0
   cell_fits d x cell a is =
-      let w = object_below k sound table y state sorted d.object is in
-      let at = cell_there k sound table y state sorted d x cell a is in
-      let deeper = deep k sound table y state sorted w.key w.owns_it (suc w.depth) (at_object d.object) w.leads in
-      let fit = fits_at k sound table y state sorted w.key w.owns_it (suc w.depth) (at_object d.object) w.leads d.value at in
-      let type : n.object d.object ≡ deeper.type = type_at k sound table y state sorted w.key w.owns_it w.depth d.object deeper.type w.leads deeper.under in
+      let w = object_below k each_once table y state sorted d.object is in
+      let at = cell_there k each_once table y state sorted d x cell a is in
+      let deeper = deep k each_once table y state sorted w.key w.owns_it (suc w.depth) (at_object d.object) w.leads in
+      let fit = fits_at k each_once table y state sorted w.key w.owns_it (suc w.depth) (at_object d.object) w.leads d.value at in
+      let type : n.object d.object ≡ deeper.type = type_at k each_once table y state sorted w.key w.owns_it w.depth d.object deeper.type w.leads deeper.under in
       to_other (fits n (n.object d.object) d.value) (subst (λ a. fits n a d.value ≡ true) (sym type) fit)
 
   -- CONTENTS AND RESULTS
 
   -- the whole value of a key
-  key_fits : (h : Key) (w : Owns h) (a : OwnedType) (v : Owned) → w.type ≡ a → y.exact h ≡ owns (tree_of a) → (st k sound table y state sorted).at h ≡ owned_val y.gives (plain_of v) → is_there v && fits n a v ≡ true
+  key_fits : (h : Key) (w : Owns h) (a : OwnedType) (v : Owned) → w.type ≡ a → y.exact h ≡ owns (tree_of a) → (st k each_once table y state sorted).at h ≡ owned_val y.gives (plain_of v) → is_there v && fits n a v ≡ true
   key_fits h w a v type exact at =
-      let d = deep k sound table y state sorted h w 0 (at_key h) refl in
-      let fit = fits_at k sound table y state sorted h w 0 (at_key h) refl v (ap Some at) in
+      let d = deep k each_once table y state sorted h w 0 (at_key h) refl in
+      let fit = fits_at k each_once table y state sorted h w 0 (at_key h) refl v (ap Some at) in
       let same : d.type ≡ a = sym (some_is d.under) ∙ type in
-      let there = whole_there y.gives (object k sound table y state sorted) a v (subst (TopFits (tree_of a)) at (top_fits y.rank y.exact (st k sound table y state sorted) state.typed h (tree_of a) exact)) in
+      let there = whole_there y.gives (object k each_once table y state sorted) a v (subst (TopFits (tree_of a)) at (top_fits y.rank y.exact (st k each_once table y state sorted) state.typed h (tree_of a) exact)) in
       both_true (is_there v) (fits n a v) there (subst (λ b. fits n b v ≡ true) same fit)
 
   content_fits : (p : Spot) (v : Owned) (m : MutexNo) → Among (holds p v) s.things → owner_of s (holds p v) ≡ inside (mutex_n m) → is_in_state s (mutex_n m) ≡ true → misfit n (holds (as_content m) v) ≡ 0
   content_fits p v m a e is =
-      let there = content_there k sound p v m a e is in
-      let w = content_owns k sound table y state sorted m v there (content_among k (c k sound table y state sorted) (holds p v) m a e) in
-      to_other (is_there v && fits n (y.gives.mutex m) v) (key_fits (content_k m.home m.count) w (y.gives.mutex m) v refl w.exact (content_at k sound table y state sorted m v there))
+      let there = content_there k each_once p v m a e is in
+      let w = content_owns k each_once table y state sorted m v there (content_among k (c k each_once table y state sorted) (holds p v) m a e) in
+      to_other (is_there v && fits n (y.gives.mutex m) v) (key_fits (content_k m.home m.count) w (y.gives.mutex m) v refl w.exact (content_at k each_once table y state sorted m v there))
 
   result_fits : (p : Spot) (v : Owned) (t : ℕ) → Among (holds p v) s.things → owner_of s (holds p v) ≡ inside (task_n t) → is_in_state s (task_n t) ≡ true → misfit n (holds (as_result t) v) ≡ 0
   result_fits p v t a e is =
-      let there = result_there k sound p v t a e is in
-      let w = result_owns k sound table y state sorted t v there (result_among k (c k sound table y state sorted) (holds p v) t a e) in
-      to_other (is_there v && fits n (y.gives.result t) v) (key_fits (result_k t) w (y.gives.result t) v refl w.exact (result_at k sound table y state sorted t v there))
+      let there = result_there k each_once p v t a e is in
+      let w = result_owns k each_once table y state sorted t v there (result_among k (c k each_once table y state sorted) (holds p v) t a e) in
+      to_other (is_there v && fits n (y.gives.result t) v) (key_fits (result_k t) w (y.gives.result t) v refl w.exact (result_at k each_once table y state sorted t v there))
 
   -- THINGS
 
@@ -129,13 +128,13 @@ module _ (k : Cluster) (sound : IsSound k) (table : Table) (y : Typing) (state :
     lock_fits v e None f = refl
     lock_fits v e (Some m) f =
         where_so (is_in_state s (mutex_n m)) (misfit n (holds (as_content m) v) + 0)
-        (λ is. (let z = content_fits (as_gift t) v m (gift_among k sound x a v e) (gift_owned k sound x a v ∙ f) is in omega (arith, z)))
+        (λ is. (let z = content_fits (as_gift t) v m (gift_among k each_once x a v e) (gift_owned k each_once x a v ∙ f) is in omega (arith, z)))
 
     join_fits : (v : Owned) → x.thread.gift ≡ Some v → (o : Option ℕ) → gift_owner s x (instr_of s x) ≡ result_owner o → if_so (owner_in (is_in_state s) (result_owner o)) (0 + result_gift n o (Some v)) ≡ 0
     join_fits v e None f = refl
     join_fits v e (Some u) f =
         where_so (is_in_state s (task_n u)) (0 + misfit n (holds (as_result u) v))
-        (λ is. (let z = result_fits (as_gift t) v u (gift_among k sound x a v e) (gift_owned k sound x a v ∙ f) is in omega (arith, z)))
+        (λ is. (let z = result_fits (as_gift t) v u (gift_among k each_once x a v e) (gift_owned k each_once x a v ∙ f) is in omega (arith, z)))
 
     some_fits : (v : Owned) → x.thread.gift ≡ Some v → (i : Option Instr) → instr_of s x ≡ i → if_so (owner_in (is_in_state s) (gift_owner s x i)) (content_gift n (locked_mutex s x i) (Some v) + result_gift n (joined_thread i x.thread) (Some v)) ≡ 0
     some_fits v e (Some (instr.Lock w)) f = lock_fits v e (locked_mutex s x (Some (instr.Lock w))) (ap (gift_owner s x) f)
@@ -156,7 +155,7 @@ module _ (k : Cluster) (sound : IsSound k) (table : Table) (y : Typing) (state :
         by (Some v) e = some_fits v e (instr_of s x) refl
 
   abbrev heap : HasHeap k
-  heap = c k sound table y state sorted
+  heap = c k each_once table y state sorted
 
   -- what is counted follows by these types of objects
   abbrev counts : CountsFollow table y k
@@ -175,4 +174,4 @@ module _ (k : Cluster) (sound : IsSound k) (table : Table) (y : Typing) (state :
       record { counts = counts; agree = omega (arith, things, gifts) }
 
 pub typed_heaps_fit : TypedHeapsFit
-typed_heaps_fit k sound table y state sorted = heap_fits k sound table y state sorted
+typed_heaps_fit k each_once table y state sorted = heap_fits k each_once table y state sorted

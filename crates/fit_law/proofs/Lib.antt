@@ -1,3 +1,5 @@
+pub mod Homes
+pub mod Once
 pub mod Depths
 pub mod Hands
 pub mod Stood

@@ -19,7 +19,6 @@ use Rattle.heap_law.specs.Walking.{instr_of}
 use Rattle.heap_law.specs.Paths.{joined_thread}
 use Rattle.heap_law.specs.Requests.{locked_mutex}
 use Rattle.heap_law.specs.Weights.{owners}
-use Rattle.heap_law.specs.Coherent.{IsSound}
 use Rattle.heap_law.specs.OneHeap.{Node, object_n, Owner, a_thread, inside, outside, owns as owns_node, names, owner_of, owner_in, named_in, any_named, in_state_by, is_in_state, value_is_in, if_in, first_shown, cell_value}
 use Rattle.heap_law.proofs.Words.{itself}
 use Rattle.type_law.specs.Names.{NameTypes, names_of, fits, is_there}
@@ -28,7 +27,7 @@ use Rattle.path_law.proofs.Forms.{none_of}
 use Rattle.path_law.proofs.InState.{only_one}
 use Rattle.still_law.proofs.Rounds.{enough}
 use Rattle.typed_law.specs.Counted.{AreTheseTypes}
-use Rattle.fit_law.specs.Fits.{gift_is_in, HeapFits, outside_misfits, WholeAgrees, MisfitsFollow}
+use Rattle.fit_law.specs.Fits.{StandsOnce, gift_is_in, HeapFits, outside_misfits, WholeAgrees, MisfitsFollow}
 use Rattle.fit_law.proofs.Hands.{weighs}
 use Rattle.fit_law.proofs.Stood.{gift_among, gift_owned}
 use Rattle.fit_law.proofs.Chains.{named_by}
@@ -125,7 +124,7 @@ either_none : (q : Bool) (m n o : ℕ) → if_so q m ≡ 0 → if_so (not q) n �
 either_none true m n o a b f h = f refl ∙ a
 either_none false m n o a b f h = h refl ∙ b
 
-module _ (k : Cluster) (sound : IsSound k) (table : Table) (y : Typing) (heap : HeapFits table y k) (old : ObjNo → OwnedType) (agrees : outside_misfits (names_of old y.gives) (sight k) ≡ 0) where
+module _ (k : Cluster) (each_once : StandsOnce k) (table : Table) (y : Typing) (heap : HeapFits table y k) (old : ObjNo → OwnedType) (agrees : outside_misfits (names_of old y.gives) (sight k) ≡ 0) where
   abbrev s : Sight
   s = sight k
 
@@ -150,7 +149,7 @@ module _ (k : Cluster) (sound : IsSound k) (table : Table) (y : Typing) (heap : 
   alike x o a nm = same_bool (is_in_state s (object_n o)) (value_is_in s x) inward (λ ow. enough s (suc (length s.things)) (object_n o) (any_of s (is_in_state s) (object_n o) x s.things a nm ow))
     where
       few : tot (owners o) s.things ≤ 1
-      few = let p = sound.one_owner.owner_of_each o in let q = sound.one_home.home_of_each o in omega (arith, p, q)
+      few = let p = each_once.owner_of_each o in let q = each_once.home_of_each o in omega (arith, p, q)
 
       inward : is_in_state s (object_n o) ≡ true → value_is_in s x ≡ true
       inward e = by (length s.things) refl
@@ -210,7 +209,7 @@ module _ (k : Cluster) (sound : IsSound k) (table : Table) (y : Typing) (heap : 
     outside_gift = none_of (λ w. if_so (not (gift_is_in s w)) (gift_misfit (names_of old y.gives) s w)) x s.ground.threads (omega (arith, agrees)) a
 
     typed_gift : (v : Owned) → x.thread.gift ≡ Some v → (q : Bool) → gift_is_in s x ≡ q → (p : BoxPtr) → v ≡ owned.Box p → object p.object ≡ pick p.object q
-    typed_gift v e q i p b = typed_as (holds (as_gift x.thread.number) v) q (gift_among k sound x a v e) (ap (owner_in (is_in_state s)) (gift_owned k sound x a v) ∙ i) p.object (boxed_names p v b)
+    typed_gift v e q i p b = typed_as (holds (as_gift x.thread.number) v) q (gift_among k each_once x a v e) (ap (owner_in (is_in_state s)) (gift_owned k each_once x a v) ∙ i) p.object (boxed_names p v b)
 
     gift_agrees : gift_misfit (names_of object y.gives) s x ≡ 0
     gift_agrees = by x.thread.gift refl
@@ -229,4 +228,4 @@ module _ (k : Cluster) (sound : IsSound k) (table : Table) (y : Typing) (heap : 
       record { object = object; these = these; agree = omega (arith, things, gifts) }
 
 pub misfits_follow : MisfitsFollow
-misfits_follow k sound table y heap old agrees = whole_agrees k sound table y heap old agrees
+misfits_follow k each_once table y heap old agrees = whole_agrees k each_once table y heap old agrees

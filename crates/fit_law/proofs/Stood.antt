@@ -27,7 +27,7 @@ use Rattle.heap_law.specs.Rooted.{is_end, dressed}
 use Rattle.heap_law.specs.Sharing.{has_ended}
 use Rattle.heap_law.specs.Weights.{is_thread}
 use Rattle.heap_law.specs.Naming.{threads, started_at, uncounted_thread, zeroth_thread}
-use Rattle.heap_law.specs.Coherent.{IsSound}
+use Rattle.fit_law.specs.Fits.{StandsOnce}
 use Rattle.heap_law.specs.OneHeap.{one_heap, mutex_n, task_n, inside, content_owner, result_owner, gift_owner, gift_owner_of, owner_of, is_in_state, if_in, or_else, first_shown, is_gift_of, content_value, share_in, if_there, is_joined_by, result_value, result_of, ended_with, life_of, life_at, if_given, is_given_thread}
 use Rattle.event_law.proofs.MutexResults.{mutex_self}
 use Rattle.path_law.specs.HeapStore.{GoesOn}
@@ -40,7 +40,7 @@ use Rattle.still_law.proofs.Told.{told, ones, at_thread, at_most, thread_told, f
 use Rattle.still_law.proofs.Gifts.{placed, telling, places_told}
 use Rattle.still_law.proofs.Counting.{shown_result, result_shown}
 use Rattle.still_law.proofs.Alike.{Once}
-use Rattle.still_law.proofs.Once.{shown_once}
+use Rattle.fit_law.proofs.Once.{stands_once}
 use Rattle.fit_law.proofs.Hands.{weighs}
 
 -- LISTS
@@ -122,7 +122,7 @@ none_at f x (stands s p t ∷ b) z (inl e) = subst (λ (y : Standing). f (stands
 none_at f x (stands s p t ∷ b) z (inr h) = none_at f x b (omega (arith, z)) h
 none_at f x (_ ∷ b) z h = none_at f x b (omega (arith, z)) h
 
-module _ (k : Cluster) (sound : IsSound k) where
+module _ (k : Cluster) (each_once : StandsOnce k) where
   abbrev s : Sight
   s = sight k
 
@@ -133,7 +133,7 @@ module _ (k : Cluster) (sound : IsSound k) where
 
   bare : (x : Standing) → Among x s.ground.threads → is_over x.thread.phase ≡ true → (length x.thread.slots ≡ 0) × (length x.thread.temps ≡ 0)
   bare x h over =
-      let all = none_of (dressed s) x s.ground.threads sound.rooted.over_are_bare h in
+      let all = none_of (dressed s) x s.ground.threads each_once.numbers.over_are_bare h in
       let here = sym (ap (λ q. if_so q (other (is_end (instr_of s x)) + length x.thread.slots + length x.thread.temps + one (is_some x.thread.gift))) over) ∙ all in
       (omega (arith, here), omega (arith, here))
 
@@ -248,7 +248,7 @@ module _ (k : Cluster) (sound : IsSound k) where
         let a = weighs (placed (λ m. 0) (λ r. 0) mine) (holds (as_gift t) v) b h in
         let c = places_told (λ m. 0) (λ r. 0) mine k in
         let d = at_most (telling (λ m. 0) (λ r. 0) mine) (at_thread has_gift t) gift_tells b in
-        let f = thread_told has_gift t b (sound.names.numbers_differ t) in
+        let f = thread_told has_gift t b (each_once.numbers.numbers_differ t) in
         let g : told has_gift (thread_at (threads_in b) t) ≡ one (is_some x.thread.gift) = ap (told has_gift) e in
         is_true (is_some x.thread.gift) (omega (arith, here, a, c, d, f, g))
 
@@ -265,7 +265,7 @@ module _ (k : Cluster) (sound : IsSound k) where
         (inr (among_first (holds (as_gift t) v) (gift_things t x.thread.gift ++ w ++ p) q (among_first (holds (as_gift t) v) (gift_things t x.thread.gift ++ w) p (among_first (holds (as_gift t) v) (gift_things t x.thread.gift) w first))))
 
     pub gift_owned : (v : Owned) → owner_of s (holds (as_gift x.thread.number) v) ≡ gift_owner s x (instr_of s x)
-    gift_owned v = ap (gift_owner_of s) (found x b (sound.names.numbers_differ x.thread.number) a)
+    gift_owned v = ap (gift_owner_of s) (found x b (each_once.numbers.numbers_differ x.thread.number) a)
 
   -- CONTENTS
 
@@ -302,7 +302,7 @@ module _ (k : Cluster) (sound : IsSound k) where
   result_shows in_hand v t h e = absurd cc
 
   once : Once s
-  once = shown_once k sound
+  once = stands_once k each_once
 
   -- the content of a mutex that is in the one heap is shown there
   pub content_there : (p : Spot) (v : Owned) (m : MutexNo) → Among (holds p v) b → owner_of s (holds p v) ≡ inside (mutex_n m) → is_in_state s (mutex_n m) ≡ true
@@ -316,8 +316,8 @@ module _ (k : Cluster) (sound : IsSound k) where
   standing_given : (t : ℕ) (x : Standing) → thread_at s.ground.threads t ≡ Some x → is_given_thread s t ≡ true
   standing_given t x e =
       let q = among_thread s.ground.threads t x e in
-      let counted : tot (threads (uncounted_thread s)) b ≡ 0 = (let z = sound.names.names_counted in omega (arith, z)) in
-      let zeroth : tot (threads zeroth_thread) b ≡ 0 = (let z = sound.names.counts_from_one in omega (arith, z)) in
+      let counted : tot (threads (uncounted_thread s)) b ≡ 0 = (let z = each_once.numbers.names_counted in omega (arith, z)) in
+      let zeroth : tot (threads zeroth_thread) b ≡ 0 = (let z = each_once.numbers.counts_from_one in omega (arith, z)) in
       let c : uncounted_thread s x.thread.number ≡ 0 = (let z = none_at (threads (uncounted_thread s)) x b counted q.0 in omega (arith, z)) in
       let d : zeroth_thread x.thread.number ≡ 0 = (let z = none_at (threads zeroth_thread) x b zeroth q.0 in omega (arith, z)) in
       let n = x.thread.number in
@@ -343,7 +343,7 @@ module _ (k : Cluster) (sound : IsSound k) where
         let a = weighs (λ y. told ones (shown_result s t y)) x b h in
         let c = once.ends t in
         let d = at_most (has_ended t) (at_thread (λ y. one (is_over y.thread.phase)) t) ended_at b in
-        let f = thread_told (λ y. one (is_over y.thread.phase)) t b (sound.names.numbers_differ t) in
+        let f = thread_told (λ y. one (is_over y.thread.phase)) t b (each_once.numbers.numbers_differ t) in
         by (thread_at (threads_in b) t) refl (omega (arith, here, a, c, d, f))
       where
         by : (o : Option Standing) → thread_at (threads_in b) t ≡ o → 1 ≤ told (λ (y : Standing). one (is_over y.thread.phase)) (thread_at (threads_in b) t) → (y : Standing) × (thread_at s.ground.threads t ≡ Some y) × (is_over y.thread.phase ≡ true)
@@ -351,7 +351,7 @@ module _ (k : Cluster) (sound : IsSound k) where
         by (Some y) q l = (y, q, is_true (is_over y.thread.phase) (let z : told (λ (y : Standing). one (is_over y.thread.phase)) (thread_at (threads_in b) t) ≡ one (is_over y.thread.phase) = ap (told (λ (y : Standing). one (is_over y.thread.phase))) q in omega (arith, l, z)))
 
     few_ended : tot (has_ended t) b ≤ 1
-    few_ended = let a = at_most (has_ended t) (is_thread t) less b in omega (arith, a, sound.names.numbers_differ t)
+    few_ended = let a = at_most (has_ended t) (is_thread t) less b in omega (arith, a, each_once.numbers.numbers_differ t)
       where
         less : (x : Thing) → has_ended t x ≤ is_thread t x
         less (stands r p x) = by (x.number == t) (x.number == 0) (is_over x.phase)

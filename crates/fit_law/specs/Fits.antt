@@ -12,10 +12,14 @@ use Rattle.heap_law.specs.Sight.{Sight, sight}
 use Rattle.heap_law.specs.Placing.{sum_over}
 use Rattle.heap_law.specs.Walking.{sum_threads, instr_of}
 use Rattle.heap_law.specs.OneHeap.{one_heap, gift_owner, owner_in, is_in_state, value_is_in}
-use Rattle.heap_law.specs.Coherent.{IsSound}
+use Rattle.heap_law.specs.Balances.{Agree, AtMost, AtMostOne}
+use Rattle.heap_law.specs.Things.{things_of}
+use Rattle.heap_law.specs.Weights.{cells, owners, is_home_of}
+use Rattle.heap_law.specs.Sharing.{contents, results, has_ended}
+use Rattle.heap_law.specs.Coherent.{Holds, at_their_home, parts_are_typed, IsSound}
 use Rattle.type_law.specs.Names.{NameTypes, names_of}
 use Rattle.type_law.specs.ClusterTypes.{misfit, gift_misfit, misfits}
-use Rattle.typed_law.specs.Counted.{AreTheseTypes, CountsFollow, sorts_wrong}
+use Rattle.typed_law.specs.Counted.{HasNumbers, AreTheseTypes, CountsFollow, sorts_wrong}
 
 -- a gift is in the one heap where whose content or result it still is, is
 abbrev pub gift_is_in : Sight → Standing → Bool
@@ -30,9 +34,24 @@ pub record HeapFits (table : Table) (y : Typing) (k : Cluster) : Type 0 where
   pub counts : CountsFollow table y k
   pub agree : inside_misfits (names_of counts.types y.gives) (sight k) ≡ 0
 
--- so it is in each sound cluster whose one heap is typed, between events or not
+-- what these laws need of a sound cluster, none of which needs types: threads are found by their numbers, each object has one home and one owner, and mutexes and results
+-- stand once, at their home or on their way
+pub record StandsOnce (k : Cluster) : Type 0 where
+  pub numbers : HasNumbers k
+  pub home_of_each : AtMostOne cells (things_of k)
+  pub owner_of_each : Agree owners cells (things_of k)
+  pub at_their_home : Holds k at_their_home
+  pub one_content : Agree (contents (sight k)) is_home_of (things_of k)
+  pub one_result : AtMost (results (sight k)) has_ended (things_of k)
+  pub parts_are_typed : Holds k parts_are_typed
+
+-- each sound cluster is such
+abbrev pub SoundStandOnce : Type 0
+SoundStandOnce = (k : Cluster) → IsSound k → StandsOnce k
+
+-- so it is in each cluster whose one heap is typed, where each thing stands once, between events or not
 abbrev pub TypedHeapsFit : Type 0
-TypedHeapsFit = (k : Cluster) → IsSound k → (table : Table) (y : Typing) → CodeStateTypes table y (one_heap k) → sorts_wrong table (sight k) ≡ 0 → HeapFits table y k
+TypedHeapsFit = (k : Cluster) → StandsOnce k → (table : Table) (y : Typing) → CodeStateTypes table y (one_heap k) → sorts_wrong table (sight k) ≡ 0 → HeapFits table y k
 
 -- those that are outside it: what a `drop` or a `release` under way owns, and what that owns
 abbrev pub outside_misfits : NameTypes → Sight → ℕ
@@ -46,4 +65,4 @@ pub record WholeAgrees (y : Typing) (k : Cluster) (types : ObjNo → OwnedType) 
 
 -- so it is where what is outside agrees, for whatever types of objects: who is inside owns nothing outside, and the other way
 abbrev pub MisfitsFollow : Type 0
-MisfitsFollow = (k : Cluster) → IsSound k → (table : Table) (y : Typing) (heap : HeapFits table y k) (old : ObjNo → OwnedType) → outside_misfits (names_of old y.gives) (sight k) ≡ 0 → WholeAgrees y k heap.counts.types
+MisfitsFollow = (k : Cluster) → StandsOnce k → (table : Table) (y : Typing) (heap : HeapFits table y k) (old : ObjNo → OwnedType) → outside_misfits (names_of old y.gives) (sight k) ≡ 0 → WholeAgrees y k heap.counts.types

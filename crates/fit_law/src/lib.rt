@@ -3,4 +3,4 @@
 
 mod laws;
 
-pub use laws::typed_heaps_fit;
+pub use laws::{sound_stand_once, typed_heaps_fit};
