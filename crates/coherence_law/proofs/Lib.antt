@@ -1,4 +1,3 @@
 pub mod CopyKinds
 pub mod Copies
-pub mod Rest
-pub mod Walks
+pub mod Every

@@ -1,15 +1,16 @@
 //! What each event keeps, all sentences together.
 
+ghost use Rattle.coherence_law.specs.Coherence.{EventsKeepCoherence};
 ghost use Rattle.coherence_law.specs.Copies.{EventsKeepCopies};
-ghost use Rattle.coherence_law.specs.Left.{EventsKeepTheRest, UndoneKeepTheRest};
 
-use agree_law::undone_events_keep_types;
 use apart_law::objects_stay_apart;
 use ask_law::{answers_keep, gifts_keep, pairs_keep};
+use bare_law::each_event_uncopied;
 use bound_law::{counts_keep, walks_keep};
 use content_law::contents_keep;
 use end_law::objects_follow;
 use event_law::every::each_event_handed_over;
+use ever_issued_law::each_event_issues;
 use heap_law::laws::some_follow;
 use land_law::all_land;
 use local_law::{messages_keep, servers_keep, threads_keep, threads_keep_to_code};
@@ -17,6 +18,7 @@ use own_law::owners_end;
 use regain_law::events_keep_words;
 use taken_law::taken_stays;
 use typed_parts_law::parts_keep;
+use types_law::events_keep_types;
 use value_law::{askers_keep, names_keep, values_keep_to_code};
 use wait_law::waits_keep;
 use way_law::steps_keep_walks;
@@ -27,11 +29,10 @@ pub fn events_keep_copies()
     ensures { EventsKeepCopies }
 {}
 
-/// From a coherent cluster in which fewer than 2^31 - 1 events were done, each event of whatever kind, its messages handed over, leads to a coherent one where the
-/// sentences of `LeftToShow` hold afterwards, of which no law says yet that each event keeps them, and where it has types; and where no plain step is done it has types.
-pub fn events_keep_the_rest()
-    ensures events { EventsKeepTheRest }
-    ensures undone { UndoneKeepTheRest }
+/// **Coherence is kept**: from a coherent cluster in which fewer than 2^31 - 1 events were done, each event of whatever kind, where it has a result, its messages handed over, leads to a
+/// coherent one: each sentence holds and it has types. Nothing else is asked, of the order of deliveries, of evictions, migrations, colours or the number of servers.
+pub fn events_keep_coherence()
+    ensures { EventsKeepCoherence }
 {
     some_follow();
     each_event_handed_over();
@@ -56,7 +57,9 @@ pub fn events_keep_the_rest()
     taken_stays();
     all_land();
     steps_keep_walks();
+    each_event_uncopied();
+    each_event_issues();
     owners_end();
     objects_follow();
-    undone_events_keep_types();
+    events_keep_types();
 }

@@ -3,4 +3,4 @@
 
 mod laws;
 
-pub use laws::{events_keep_copies, events_keep_the_rest};
+pub use laws::{events_keep_coherence, events_keep_copies};

@@ -1,10 +1,10 @@
--- Each event leaves a coherent cluster where what is left to show holds: every other sentence is kept by a law.
+-- Each event leaves a coherent cluster: every sentence is kept by a law, and so are types.
 use Rattle.std.proofs.Common.{◌≡◌, Option, Some, None, refl, subst}
 use Rattle.journal.specs.View.{EntryView}
 use Rattle.server_model.specs.declared.event.Event.{Event}
 use Rattle.server_model.specs.Servers.{Cluster}
 use Rattle.server_model.specs.Clusters.{apply}
-use Rattle.heap_law.specs.Coherent.{Sentence, Holds, different_words, passed_lie_here, place_followed, waits_in_turn, none_owns_itself, walk_empty, join_walks_nothing, passed_in_a_walk, passed_within, parcels_ready, thread_homes, go_right, asks_others, options_in_range, at_their_home, queue_while_out, content_without_shares, par_ends, over_are_bare, below_limit, names_counted, counts_from_one, few_names, objects_made, askers_stand, return_right, marks_in_slots, holders_short, counts_bounded, parts_are_typed, carry_what_is_asked, pairs_go_on, branches_give_unit, parents_end, gifts_got, phases_stand, gifts_fit, taken_stands, taken_is_new, OneHome, OneOwner, Copies, Users, IsSound}
+use Rattle.heap_law.specs.Coherent.{Sentence, Holds, are_issued, objects_there, different_words, passed_lie_here, passed_not_copied, place_followed, waits_in_turn, none_owns_itself, walk_empty, join_walks_nothing, passed_in_a_walk, passed_within, parcels_ready, thread_homes, go_right, asks_others, options_in_range, at_their_home, queue_while_out, content_without_shares, par_ends, over_are_bare, below_limit, names_counted, counts_from_one, few_names, objects_made, askers_stand, return_right, marks_in_slots, holders_short, counts_bounded, parts_are_typed, carry_what_is_asked, pairs_go_on, branches_give_unit, parents_end, gifts_got, phases_stand, gifts_fit, taken_stands, taken_is_new, OneHome, OneOwner, Copies, Users, IsSound}
 use Rattle.heap_law.specs.Following.{TasksNoted, MutexesNoted, FollowLaw}
 use Rattle.heap_law.specs.Rooted.{ownings, parents}
 use Rattle.heap_law.specs.Sight.{sight}
@@ -27,9 +27,11 @@ use Rattle.content_law.specs.Contents.{OneContent, EachEventLeavesOneContent}
 use Rattle.regain_law.specs.Events.{EventsKeepWords}
 use Rattle.apart_law.specs.Words.{ObjectsStayApart}
 use Rattle.coherence_law.specs.Copies.{EventsKeepCopies}
+use Rattle.ever_issued_law.specs.Below.standing_law.Standing.{Settled}
+use Rattle.ever_issued_law.specs.Issued.{EachEventIssues}
 use Rattle.own_law.specs.Owning.{Agrees, EventsThatAgreeEnd}
-use Rattle.agree_law.specs.Agrees.{UndoneKeepsTypes}
-use Rattle.coherence_law.specs.Left.{LeftToShow, EventsKeepTheRest, UndoneKeepTheRest}
+use Rattle.types_law.specs.Types.{EventsKeepTypes}
+use Rattle.coherence_law.specs.Coherence.{EventsKeepCoherence}
 
 -- WHERE THERE IS A RESULT
 
@@ -95,12 +97,15 @@ pub record EventLaws : Type 0 where
   pub apart : ObjectsStayApart
   pub copies : EventsKeepCopies
   pub passed_lie_here : EachCoherentEventKeeps passed_lie_here
+  pub passed_not_copied : EachCoherentEventKeeps passed_not_copied
   pub place_followed : EachCoherentEventKeeps place_followed
   pub waits_in_turn : EachCoherentEventKeeps waits_in_turn
   pub taken_stands : EachCoherentEventKeeps taken_stands
   pub taken_is_new : EachCoherentEventKeeps taken_is_new
+  pub issued : EachEventIssues
   pub owners : EventsThatAgreeEnd
   pub objects : ObjectsFollow
+  pub types : EventsKeepTypes
 
 module _ (l : EventLaws) (k : Cluster) (e : Event) (coherent : IsCoherent k) (few : FewEvents k) (d : Cluster × EntryView) (is : apply k e ≡ Some d) where
   -- of the cluster afterwards: a part, and a sentence by a law that asks for a sound cluster, or for a coherent one
@@ -157,12 +162,26 @@ module _ (l : EventLaws) (k : Cluster) (e : Event) (coherent : IsCoherent k) (fe
     wait_in_turn = turns;
   }
 
-  pub sound_then : LeftToShow d.0 → Types d.0 → IsSound d.0
-  sound_then left types = record {
+  objects_then : Types d.0 → Holds d.0 objects_there
+  objects_then types = l.objects d.0 (paths types) words_hold.has_words told
+
+  issued_then : Types d.0 → Holds d.0 are_issued
+  issued_then types = result_has (λ (x : Cluster × EntryView). Settled x.0 → Holds x.0 are_issued) (apply k e) d is (l.issued k e coherent few) (record {
+    paths = paths types;
+    has_words = words_hold.has_words;
+    first_at_holder = words_hold.first_at_holder;
+    users = part Users l.users;
+    wait_in_turn = turns;
+    objects_there = objects_then types;
+    taken_stands = kept_typed taken_stands l.taken_stands;
+  })
+
+  pub sound_then : Types d.0 → IsSound d.0
+  sound_then types = record {
     one_home = part OneHome l.home;
     one_owner = part OneOwner l.owner;
     words = record {
-      are_issued = left.are_issued;
+      are_issued = issued_then types;
       below_limit = kept below_limit l.below_limit;
       have_words = words_hold.has_words;
       one_state = part OneState l.states;
@@ -173,7 +192,7 @@ module _ (l : EventLaws) (k : Cluster) (e : Event) (coherent : IsCoherent k) (fe
     };
     copies = result_has (λ (x : Cluster × EntryView). Copies x.0) (apply k e) d is (l.copies k e coherent few);
     walks = record {
-      have_passed = passed_law.from_counts d.0 (kept_typed passed_lie_here l.passed_lie_here) left.passed_not_copied (passed_follows d.0 (paths types) (kept passed_in_a_walk l.passed_in_a_walk) (kept passed_within l.passed_within));
+      have_passed = passed_law.from_counts d.0 (kept_typed passed_lie_here l.passed_lie_here) (kept_typed passed_not_copied l.passed_not_copied) (passed_follows d.0 (paths types) (kept passed_in_a_walk l.passed_in_a_walk) (kept passed_within l.passed_within));
       passed_in_a_walk = kept passed_in_a_walk l.passed_in_a_walk;
       passed_within = kept passed_within l.passed_within;
       walk_empty = kept walk_empty l.walk_empty;
@@ -190,7 +209,7 @@ module _ (l : EventLaws) (k : Cluster) (e : Event) (coherent : IsCoherent k) (fe
       go_right = kept go_right l.go_right;
       return_right = kept return_right l.return_right;
       askers_stand = kept askers_stand l.askers_stand;
-      objects_there = l.objects d.0 (paths types) words_hold.has_words told;
+      objects_there = objects_then types;
       phases_stand = kept_typed phases_stand l.phases_stand;
       par_ends = kept_typed par_ends l.par_ends;
       pairs_noted = part PairsNoted l.pairs;
@@ -233,16 +252,10 @@ module _ (l : EventLaws) (k : Cluster) (e : Event) (coherent : IsCoherent k) (fe
     parts = record { parts_are_typed = kept parts_are_typed l.parts_are_typed; options_in_range = kept options_in_range l.options_in_range; holders_short = kept_typed holders_short l.holders_short };
   }
 
--- with what is left to show and types an event leads to a coherent cluster
-pub keep_the_rest : EventLaws → EventsKeepTheRest
-keep_the_rest l k e coherent few =
-    at_result (λ d. LeftToShow d.0 → Types d.0 → IsCoherent d.0) (apply k e)
-    (λ d is left types. record { sound = sound_then l k e coherent few d is left types; types = types })
-
--- and without a plain step it has types
-pub undone_rest : EventLaws → UndoneKeepsTypes → UndoneKeepTheRest
-undone_rest l undone k e coherent few =
-    at_result (λ d. d.1.done ≡ None → LeftToShow d.0 → IsCoherent d.0) (apply k e)
-    (λ d is not left.
-    let types = result_has (λ (x : Cluster × EntryView). x.1.done ≡ None → Types x.0) (apply k e) d is (undone k e coherent few) not in
-    record { sound = sound_then l k e coherent few d is left types; types = types })
+-- so an event leads to a coherent cluster
+pub keep_coherence : EventLaws → EventsKeepCoherence
+keep_coherence l k e coherent few =
+    at_result (λ d. IsCoherent d.0) (apply k e)
+    (λ d is.
+    let types = result_has (λ (x : Cluster × EntryView). Types x.0) (apply k e) d is (l.types k e coherent few) in
+    record { sound = sound_then l k e coherent few d is types; types = types })

@@ -1,7 +1,7 @@
-use Rattle.coherence_law.proofs.laws.events_keep_the_rest.Goals as goal
+use Rattle.coherence_law.proofs.laws.events_keep_coherence.Goals as goal
 use Rattle.heap_law.specs.Coherent.{passed_lie_here, place_followed, waits_in_turn}
-use Rattle.coherence_law.proofs.Walks.{each_event}
-use Rattle.coherence_law.proofs.Rest.{EventLaws, keep_the_rest, undone_rest}
+use Rattle.bare_law.proofs.Walks.{each_event}
+use Rattle.coherence_law.proofs.Every.{EventLaws, keep_coherence}
 
 pub returns : goal.returns
 returns c =
@@ -58,11 +58,14 @@ returns c =
       apart = c.objects_stay_apart.ensures;
       copies = c.events_keep_copies.ensures;
       passed_lie_here = each_event passed_lie_here c.steps_keep_walks.ensures.passed_lie_here c.all_land.ensures.passed_lie_here;
+      passed_not_copied = c.each_event_uncopied.ensures;
       place_followed = each_event place_followed c.steps_keep_walks.ensures.place_followed c.all_land.ensures.place_followed;
       waits_in_turn = each_event waits_in_turn c.steps_keep_walks.ensures.waits_in_turn c.all_land.ensures.waits_in_turn;
       taken_stands = c.taken_stays.ensures.stands;
       taken_is_new = c.taken_stays.ensures.is_new;
+      issued = c.each_event_issues.ensures;
       owners = c.owners_end.ensures.events;
       objects = c.objects_follow.ensures;
+      types = c.events_keep_types.ensures;
     } in
-    record { events = keep_the_rest laws; undone = undone_rest laws c.undone_events_keep_types.ensures }
+    keep_coherence laws
