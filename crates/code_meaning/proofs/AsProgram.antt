@@ -26,7 +26,7 @@ both_run code (Some x) None p ls h o e = absurd h
 both_run code (Some x) (Some d) p ls h o e = let same : d.labels ≡ ls = ap labels_of e in (h.0 ∙ same, h.1.output ∙ o ∙ ap printed same)
 
 -- under any order of which the code's run has these labels
-alike : (code : List Instr) (r : Run) → IsCodeOf code r → (ts : List Turn) (p : CodeState) (ls : List Label) → in_plain (run code ts) ≡ Some (p, ls) → IsRunWith (term.plain r ts) ls
+pub alike : (code : List Instr) (r : Run) → IsCodeOf code r → (ts : List Turn) (p : CodeState) (ls : List Label) → in_plain (run code ts) ≡ Some (p, ls) → IsRunWith (term.plain r ts) ls
 alike code r c ts p ls e = both_run code (term.plain r ts) (run code ts) p ls (runs_alike code r c ts) (run_output (code_moves code) ts code_start) e
 
 pub runs_as_program : RunsAsProgram

@@ -1,0 +1,85 @@
+-- RUNS OF EVENTS, one after another, each with its messages handed over (this project's rule).
+use Rattle.std.specs.Prelude.{◌≡◌, ◌+◌, ◌<◌, ◌^◌, ℕ, true, List, [], ◌∷◌, length, take, Option, Some, None, option_map}
+use Rattle.fr_base.specs.declared.instruction.Instr.{Instr}
+use Rattle.fr_base.specs.declared.settings.Options.{Options}
+use Rattle.fr_code.specs.CodeTypes.{Table}
+use Rattle.fr_code.specs.CodeTable.{IsTable}
+use Rattle.journal.specs.View.{EntryView}
+use Rattle.journal.specs.Journals.{order, labels, prints}
+use Rattle.coloured_heap.specs.Heap.{Coloured}
+use Rattle.coloured_heap.specs.Legal.{entry_after}
+use Rattle.coloured_heap.specs.Reach.{is_reached}
+use Rattle.coloured_heap.specs.Sends.{all_messages}
+use Rattle.coloured_heap.specs.Figures as figures
+use Rattle.server_model.specs.declared.event.Event.{Event}
+use Rattle.server_model.specs.Servers.{Cluster, start_of}
+use Rattle.server_model.specs.Work.{then_some}
+use Rattle.server_model.specs.Clusters.{apply}
+use Rattle.heap_law.specs.Sight.{sight}
+use Rattle.heap_law.specs.Naming.{options_out, events_of}
+use Rattle.heap_law.specs.OneHeap.{one_heap}
+use Rattle.heap_law.specs.Colours.{StandsColoured}
+use Rattle.heap_law.specs.LeftBy.{LeadsTo, RunsWith, messages_of}
+use Rattle.type_law.specs.ClusterTypes.{IsCoherent}
+use Rattle.event_law.specs.Laws.{Gives, FewEvents}
+use Rattle.code_meaning.specs.Runs.{run}
+use Rattle.code_meaning.specs.OneHeap.{plain_run}
+use Rattle.code_meaning.specs.Laws.{HasPrinted}
+use Rattle.code_meaning.specs.LeftByItsCode.{LeftByItsCode}
+
+-- the cluster after these events, with the entries that they wrote; None where one of them has no result
+abbrev pub run_of : Cluster → List Event → Option (Cluster × List EntryView)
+run_of k [] = Some (k, [])
+run_of k (e ∷ es) = then_some (apply k e) (λ d. option_map (λ r. (r.0, d.1 ∷ r.1)) (run_of d.0 es))
+
+-- each event leaves a coherent cluster, in which few were done, coherent
+abbrev pub EachKeepsCoherence : Type 0
+EachKeepsCoherence = (k : Cluster) (e : Event) → IsCoherent k → FewEvents k → Gives (λ (d : Cluster × EntryView). IsCoherent d.0) (apply k e)
+
+-- the cluster is left by the journal as far as plain steps go: nothing is said of words, copies and messages
+pub record PlainlyLeft (k : Cluster) (es : List EntryView) : Type 0 where
+  -- the plain run of the code under the journal's order is there; its state is the cluster's one heap, and its labels are the journal's
+  pub plain : LeadsTo (plain_run k.code) (order es) (one_heap k) (labels es)
+  -- and so is that under each beginning of it
+  pub labelled : (n : ℕ) → RunsWith (plain_run k.code) (take n es)
+  -- it printed what the journal prints
+  pub printed : HasPrinted (run k.code (order es)) (prints es)
+  -- the cluster has done as many events as the journal has entries
+  pub events : events_of (sight k) ≡ figures.events es
+
+-- where a run leads
+pub record IsLed (d : Cluster × List EntryView) : Type 0 where
+  pub coherent : IsCoherent d.0
+  pub left : PlainlyLeft d.0 d.1
+
+-- an event without a `done` has no labels
+abbrev pub UndoneUnlabelled : Type 0
+UndoneUnlabelled = (k : Cluster) (e : Event) → Gives (λ (d : Cluster × EntryView). d.1.done ≡ None → d.1.labels ≡ []) (apply k e)
+
+-- where each event keeps coherence, few events from the start of a code with a table, under options in their ranges, lead to a coherent cluster, which is plainly left
+abbrev pub RunsLead : Type 0
+RunsLead = EachKeepsCoherence → (code : List Instr) (table : Table) (o : Options) (es : List Event) → IsTable code table → options_out o ≡ 0 → length es < 2 ^ 31 → Gives IsLed (run_of (start_of code o) es)
+
+-- THE WHOLE OF WHAT A JOURNAL LEAVES
+
+-- from a state of the coloured heap the entry is legal, reaches what it loads and stores, and leads to a state that the cluster stands for
+pub record LeadsOn (o : Options) (s : Coloured) (d : Cluster × EntryView) : Type 0 where
+  pub state : Coloured
+  pub legal : entry_after o s d.1 ≡ Some state
+  pub stands : StandsColoured d.0 state
+  pub reached : is_reached o s d.1 ≡ true
+
+-- what is asked of events one by one, from coherent clusters in which few were done
+pub record EachEventIsRight : Type 0 where
+  pub keeps : EachKeepsCoherence
+  -- the entry of each leads on from each coloured heap that the cluster stands for
+  pub leads : (k : Cluster) (e : Event) → IsCoherent k → FewEvents k → (s : Coloured) → StandsColoured k s → Gives (LeadsOn k.options s) (apply k e)
+  -- the messages that wait afterwards, and the one that it delivers, are together as many as those that waited before and those that its acts send
+  pub counts : (k : Cluster) (e : Event) → IsCoherent k → FewEvents k
+      → Gives (λ (d : Cluster × EntryView). messages_of (sight d.0) + figures.deliveries (d.1 ∷ []) ≡ messages_of (sight k) + all_messages (d.1 ∷ [])) (apply k e)
+
+-- where each event is right, few events from the start of a code with a table, under options in their ranges, lead to a coherent cluster that is left by its code
+abbrev pub RunsAreLeft : Type 0
+RunsAreLeft =
+    EachEventIsRight → (code : List Instr) (table : Table) (o : Options) (es : List Event) → IsTable code table → options_out o ≡ 0 → length es < 2 ^ 31
+    → Gives (λ (d : Cluster × List EntryView). IsCoherent d.0 × LeftByItsCode d.0 d.1) (run_of (start_of code o) es)
