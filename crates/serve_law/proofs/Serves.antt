@@ -1,0 +1,130 @@
+-- A copy is served: its wish goes, and it is on its way with the object's present value.
+use Rattle.std.proofs.Common.{◌≡◌, ℕ, ◌+◌, ◌==◌, true, false, List, [], ◌∷◌, Some, None, refl, sym, ap, subst, ◌∙◌, arith}
+use Rattle.std.specs.Prelude.{slice_get}
+use Rattle.fr_base.specs.declared.name.ObjNo.{ObjNo}
+use Rattle.heap_partition.specs.Plain.{plain_of}
+use Rattle.heap_partition.specs.declared.value.Cell.{Cell}
+use Rattle.server_msgs.specs.declared.message.Message.TheVariants as message
+use Rattle.journal.specs.declared.act.Act.TheVariants as act
+use Rattle.server_model.specs.Servers.{Server, Cluster, server_at}
+use Rattle.server_model.specs.Work.{Work, Site, note, send, look_object}
+use Rattle.server_model.specs.Events.{received, deliver_message}
+use Rattle.server_model.specs.Objects.{deliver_fetch}
+use Rattle.coloured_heap.specs.Heap.{Lies, Living, Copied, Wish, ForCopy, Coloured, same_wish}
+use Rattle.heap_law.specs.Names.{tot, one, some}
+use Rattle.heap_law.specs.Things.{Thing, sent, message_things, things_of}
+use Rattle.heap_law.specs.Sight.{is_word, sight, word}
+use Rattle.heap_law.specs.Weights.{lies_under}
+use Rattle.heap_law.specs.Placing.{sum_over}
+use Rattle.heap_law.specs.Requests.{not_under, not_there}
+use Rattle.heap_law.specs.Words.{HasWords}
+use Rattle.heap_law.specs.Colours.{StandsColoured, same_copied, served_of}
+use Rattle.heap_law.specs.Coherent.{IsSound}
+use Rattle.heap_law.proofs.Names.{and_left}
+use Rattle.heap_law.proofs.Words.{named as object_named}
+use Rattle.type_law.specs.ClusterTypes.{IsCoherent}
+use Rattle.event_law.specs.Laws.{Gives}
+use Rattle.event_law.proofs.Askers.{other_none}
+use Rattle.event_law.proofs.Results.{over_gives, map_gives}
+use Rattle.still_law.proofs.Tests.{numbers}
+use Rattle.local_law.proofs.Messages.{on_sent}
+use Rattle.copy_law.proofs.Clean.{told as word_of}
+use Rattle.clean_law.proofs.Asked.{asking}
+use Rattle.entry_law.proofs.Answers.{answers_of, fits}
+use Rattle.entry_law.proofs.Weighed.{beside, sends}
+use Rattle.entry_law.proofs.Shown.{dropped_by, wished_in}
+use Rattle.entry_law.proofs.After.{Follows, living_still, copy_still, served_after, issued_still}
+use Rattle.entry_law.proofs.Runs.{silent, runs_one, leads_on}
+use Rattle.entry_law.proofs.Applied.{Legal, server_there}
+use Rattle.entry_law.proofs.Changed.{turns_none, notes, message_there}
+use Rattle.entry_law.proofs.Partly.{wish_answered, wished_once}
+use Rattle.serve_law.proofs.Acts.{serving, copied_so, serve_allowed}
+use Rattle.serve_law.proofs.Kept.{own_cell, asked_kept}
+use Rattle.serve_law.proofs.Beside.{ObjectsOnly, objects_agree}
+use Rattle.serve_law.proofs.Lying.{word_told, has_cell, living, its_object}
+
+module _ (k : Cluster) (coherent : IsCoherent k) (number : ℕ) (s : Server) (here : server_at k.servers number ≡ Some s) (c0 : Coloured) (is_coloured : StandsColoured k c0) (i w : ℕ) (o : ObjNo) (a t : ℕ) (at : slice_get s.rest.inbox i ≡ Some (message.Fetch w o a t)) where
+  abbrev sound : IsSound k
+  sound = coherent.sound
+
+  abbrev n : ℕ
+  n = s.rest.number
+
+  abbrev x : Site
+  x = received i s
+
+  abbrev wish : Wish
+  wish = ForCopy o w a
+
+  named : is_word (word (sight k) o) w ≡ true
+  named =
+      let z : tot (not_there (sight k)) (things_of k) ≡ 0 = sound.requests.objects_there in
+      let mine : not_under (sight k) w o ≡ 0 = omega (arith, z, message_there k number s here i (message.Fetch w o a t) at (not_there (sight k))) in
+      and_left (is_word (word (sight k) o) w) (some (sum_over (sight k) (lies_under w o))) (other_none _ mine)
+
+  module _ (c : Cell) (q : look_object s.rest.partition w o ≡ Some c) where
+    abbrev olds : List Thing
+    olds = sent n (message.Fetch w o a t) ∷ []
+
+    abbrev news : List Thing
+    news = sent a (message.Fetched w c t) ∷ []
+
+    abbrev living_one : Living
+    living_one = record { object = o; place = Lies n; word = w; value = plain_of c.value; is_condemned = false }
+
+    kept : tot (dropped_by o) (things_of k) ≡ 0
+    kept =
+        let own = own_cell k o (has_cell k sound number s here w o c q) in
+        let words : HasWords (sight k) = sound.words.have_words in
+        let its : word (sight k) o ≡ Some (words.word o) = subst (λ p. word (sight k) p ≡ Some (words.word p)) own.object (word_of k words own.cell own.among) in
+        let same : w == words.word o ≡ true = ap (λ y. is_word y (words.word o)) (sym (word_told (word (sight k) o) w named) ∙ its) ∙ numbers.itself (words.word o) in
+        let one_is : one (w == words.word o) ≡ 1 = ap one same in
+        asked_kept k coherent o own (omega (arith, one_is, message_there k number s here i (message.Fetch w o a t) at (on_sent (asking (λ u. one (u == words.word o))))))
+
+    only : ObjectsOnly k olds news
+    only = record {
+      started = λ r j. refl;
+      made = λ r j. refl;
+      threads = λ u. refl;
+      running = λ u g. refl;
+      there = λ m. refl;
+      holders = λ m g. refl;
+    }
+
+    less : (b : Wish) → tot (wished_in b) olds ≡ tot (wished_in b) news + one (same_wish b wish)
+    less b = omega arith
+
+    abbrev new_copy : Copied
+    new_copy = copied_so a w o (plain_of c.value)
+
+    on_way : (d : Cluster) → Follows k d olds news → (b : Copied) → served_of (sight k) b + one (same_copied b new_copy) ≡ served_of (sight d) b
+    on_way d f b =
+        let same : one (same_copied b (copied_so a w c.object (plain_of c.value))) ≡ one (same_copied b new_copy) = ap (λ p. one (same_copied b (copied_so a w p (plain_of c.value)))) (object_named c.object o (its_object k sound number s here w o c q)) in
+        omega (arith, served_after k d olds news sound f b, same)
+
+    serves : Legal k s None (message_things n (message.Fetch w o a t)) x c0 (record x { work = send a (message.Fetched w c t) (note (act.Serve o w a) x.work) })
+    serves = record {
+      olds = [];
+      news = news;
+      acts = act.Serve o w a ∷ [];
+      turns = beside x [] news (act.Serve o w a ∷ []) (send a (message.Fetched w c t) (note (act.Serve o w a) x.work))
+          (sends x.work [] [] (act.Serve o w a ∷ []) (note (act.Serve o w a) x.work) a (message.Fetched w c t) (notes x.work [] [] [] x.work (act.Serve o w a) (turns_none x.work)));
+      leads = λ d f keeps.
+          let q0 = answers_of (sight k) in
+          let h = fits (sight k) c0 is_coloured in
+          let e = silent n None (act.Serve o w a ∷ []) in
+          let q1 = serving wish new_copy q0 in
+          leads_on k.options n None (act.Serve o w a ∷ []) c0 q0 q1 d h (server_there k sound number s here).0 tt
+          (runs_one k.options e (act.Serve o w a) c0 q1
+          (serve_allowed k.options e c0 q0 o w a living_one h (living k sound number s here w o c q named kept) (numbers.itself w) refl (numbers.itself n) (wished_once k d olds news sound f wish less)))
+          (objects_agree k d olds news sound f keeps only q1.object q1.copy q1.served q1.wishes (λ p. living_still k d olds news sound f keeps p (λ g. refl) refl) (λ r v. copy_still k d olds news sound f r v (λ g. refl)) (on_way d f)
+          (λ v. issued_still k d olds news sound f keeps (λ g r j. refl) v) (wish_answered k d olds news sound f wish less));
+    }
+
+  pub fetch_legal : Gives (Legal k s None (message_things n (message.Fetch w o a t)) x c0) (deliver_message k.code (message.Fetch w o a t) x)
+  fetch_legal =
+      over_gives P (Legal k s None (message_things n (message.Fetch w o a t)) x c0) (deliver_fetch w o a t x.work) (λ y. record x { work = y })
+      (map_gives P (look_object s.rest.partition w o) (λ c. send a (message.Fetched w c t) (note (act.Serve o w a) x.work)) (λ c q. serves c q)) (λ y l. l)
+    where
+      P : Work → Type 0
+      P y = Legal k s None (message_things n (message.Fetch w o a t)) x c0 (record x { work = y })

@@ -1,0 +1,72 @@
+-- Borrows of variables: a reference to a slot is pushed, and nothing is noted.
+use Rattle.std.proofs.Common.{◌≡◌, ℕ, true, Some, None, refl, sym, subst, ◌∙◌}
+use Rattle.std.specs.Prelude.{option_map}
+use Rattle.fr_base.specs.declared.place.Lval.{Lval}
+use Rattle.fr_base.specs.declared.instruction.Instr.{Instr}
+use Rattle.fr_base.specs.declared.instruction.Instr.TheVariants as instr
+use Rattle.thread_state.specs.View.{ThreadState}
+use Rattle.thread_state.specs.declared.value.Value.TheVariants as value
+use Rattle.journal.specs.View.{EntryView}
+use Rattle.server_model.specs.declared.event.What.TheVariants.{Step}
+use Rattle.server_model.specs.Servers.{Server, Cluster}
+use Rattle.server_model.specs.Places.{in_slot}
+use Rattle.server_model.specs.Work.{Hand, push_temp, then_some}
+use Rattle.server_model.specs.Prepare.{read_pointer, lend_pointer}
+use Rattle.server_model.specs.Commit.{goes_on, borrow_from, borrow_mut_from}
+use Rattle.server_model.specs.Events.{can_step, has_phase, enabled, does, begin_work, committed, prepared, step, step_in, stepped}
+use Rattle.server_model.specs.Clusters.{apply}
+use Rattle.event_law.specs.Laws.{Gives}
+use Rattle.event_law.proofs.Results.{over_gives, both_give}
+use Rattle.event_law.proofs.GiftsTaken.{gift_fits}
+use Rattle.event_law.proofs.QuietSteps.{GiftFits}
+use Rattle.stay_law.specs.Laws.{BorrowsVariable, shared, mutable}
+use Rattle.stay_law.proofs.StayKinds.{borrows_leave}
+use Rattle.word_law.specs.Unmoved.{LeavesWords}
+use Rattle.entry_law.specs.Entries.{LeadsOn}
+use Rattle.entry_law.proofs.Applied.{applied_by}
+use Rattle.step_entry_law.specs.Borrows.{VariableBorrowsLegal}
+use Rattle.step_entry_law.proofs.Settled.{Settles, goes_over, StepLed, settled_led}
+use Rattle.step_entry_law.proofs.PlainSteps.{lives}
+
+-- no gift is for a borrow
+no_gift : (i : Instr) (y : ThreadState) → BorrowsVariable i → GiftFits i y.gift → y.gift ≡ None
+no_gift _ y (shared {w = w} e) f = f
+no_gift _ y (mutable {w = w} e) f = f
+
+module _ (s : Server) (y : ThreadState) (bare : y.gift ≡ None) where
+  abbrev h : Hand
+  h = record { work = begin_work s.rest; thread = y }
+
+  borrow_settles : (servers : ℕ) (w : Lval) → w.depth ≡ 0 → Gives (Settles s y) (step servers (instr.Borrow w) h)
+  borrow_settles servers w e =
+      subst (λ d. Gives (Settles s y) (prepared servers (instr.Borrow w) (read_pointer w d h))) (sym e)
+      (subst (λ d. Gives (Settles s y) (committed (goes_on (borrow_from w d (in_slot w.slot) h)))) (sym e)
+      (goes_over s y (Some (push_temp (value.SharedSlot w.slot) h)) (record { rest = refl; acts = refl; labels = (λ c. refl, λ e c. refl); number = refl; slots = refl; gift = bare })))
+
+  borrow_mut_settles : (servers : ℕ) (w : Lval) → w.depth ≡ 0 → Gives (Settles s y) (step servers (instr.BorrowMut w) h)
+  borrow_mut_settles servers w e =
+      subst (λ d. Gives (Settles s y) (prepared servers (instr.BorrowMut w) (lend_pointer w d h))) (sym e)
+      (subst (λ d. Gives (Settles s y) (committed (goes_on (borrow_mut_from w d (in_slot w.slot) h)))) (sym e)
+      (goes_over s y (Some (push_temp (value.MutSlot w.slot) h)) (record { rest = refl; acts = refl; labels = (λ c. refl, λ e c. refl); number = refl; slots = refl; gift = bare })))
+
+  settles : (servers : ℕ) (i : Instr) → BorrowsVariable i → Gives (Settles s y) (step servers i h)
+  settles servers _ (shared {w = w} e) = borrow_settles servers w e
+  settles servers _ (mutable {w = w} e) = borrow_mut_settles servers w e
+
+pub borrows_legal : VariableBorrowsLegal
+borrows_legal k number t s y i sound few here at code borrows free c0 is_coloured =
+    both_give (λ (d : Cluster × EntryView). LeavesWords k d.0) (λ (d : Cluster × EntryView). LeavesWords k d.0 → LeadsOn k.options d.1 c0 d.0) (λ (d : Cluster × EntryView). LeadsOn k.options d.1 c0 d.0) (apply k (record { server = number; what = Step t }))
+    (borrows_leave k number t s y i sound few here at code borrows free)
+    (applied_by (λ (d : Cluster × EntryView). LeavesWords k d.0 → LeadsOn k.options d.1 c0 d.0) k (record { server = number; what = Step t }) sound few (λ r e on.
+    let same : r ≡ s = (let both : Some r ≡ Some s = sym e ∙ here in cc) in
+    subst (λ (x : Server). Gives (StepLed k x c0) (does k.code k.options x (Step t))) (sym same) (there (subst (λ (x : Server). enabled k.options x (Step t) ≡ true) same on))))
+    (λ d words l. l words)
+  where
+    there : enabled k.options s (Step t) ≡ true → Gives (StepLed k s c0) (does k.code k.options s (Step t))
+    there on =
+        let calm : can_step y.phase ≡ true = subst (λ x. has_phase can_step x ≡ true) at on in
+        let bare : y.gift ≡ None = no_gift i y borrows (gift_fits k sound number s here t y at i code).0 in
+        subst (λ x. Gives (StepLed k s c0) (option_map (stepped s) (then_some (option_map (λ v. record { work = begin_work s.rest; thread = v }) x) (step_in k.code k.options.servers)))) (sym at)
+        (subst (λ x. Gives (StepLed k s c0) (option_map (stepped s) (then_some x (λ j. step k.options.servers j (record { work = begin_work s.rest; thread = y }))))) (sym code)
+        (over_gives (Settles s y) (StepLed k s c0) (step k.options.servers i (record { work = begin_work s.rest; thread = y })) (stepped s) (settles s y bare k.options.servers i borrows)
+        (λ d u. settled_led k sound number s here c0 is_coloured t y at (lives y.phase calm) d bare u)))

@@ -1,0 +1,17 @@
+-- ENTRIES OF STEPS THAT ASK ARE LEGAL: such a step does no plain step, its entry notes what it asks for, and its thread waits (in the manner of DRust; the state is this project's).
+use Rattle.std.specs.Prelude.{◌≡◌, None, Some}
+use Rattle.journal.specs.View.{EntryView}
+use Rattle.server_model.specs.declared.event.Event.{Event}
+use Rattle.server_model.specs.Servers.{Cluster}
+use Rattle.server_model.specs.Clusters.{apply}
+use Rattle.coloured_heap.specs.Heap.{Coloured}
+use Rattle.heap_law.specs.Colours.{StandsColoured}
+use Rattle.heap_law.specs.Coherent.{IsSound}
+use Rattle.event_law.specs.Kinds.{Kind, kind_of}
+use Rattle.event_law.specs.Laws.{Gives, FewEvents}
+use Rattle.entry_law.specs.Entries.{LeadsOn}
+
+-- each event of that kind whose entry has no `done` has a legal one, from a sound cluster in which few events were done
+abbrev pub UndoneLegal : Kind → Type 0
+UndoneLegal kind =
+    (k : Cluster) (e : Event) → kind_of k e ≡ Some kind → IsSound k → FewEvents k → (s : Coloured) → StandsColoured k s → Gives (λ (d : Cluster × EntryView). d.1.done ≡ None → LeadsOn k.options d.1 s d.0) (apply k e)
