@@ -1,0 +1,68 @@
+-- WHOLE RUNS OF PROGRAMS on servers (in the manner of DRust; what is said of them is this project's).
+use Rattle.std.specs.Prelude.{◌≡◌, ◌+◌, ◌<◌, ◌^◌, ℕ, List, [], length}
+use Rattle.fr_base.specs.declared.instruction.Instr.{Instr}
+use Rattle.fr_base.specs.declared.settings.Options.{Options}
+use Rattle.fr_terms.specs.Terms.{Term, block_t, Items}
+use Rattle.fr_terms.specs.Limits.{HasShortPlaces}
+use Rattle.fr_typing.specs.Kinds.{Kind}
+use Rattle.fr_typing.specs.Places.{Env}
+use Rattle.fr_typing.specs.Typing.{Types}
+use Rattle.fr_plain.specs.Resolve.{program}
+use Rattle.fr_code.specs.StandsFor.{IsCodeOf}
+use Rattle.table_law.specs.Layout.{IsLaidOut}
+use Rattle.journal.specs.View.{EntryView}
+use Rattle.coloured_heap.specs.Heap.{Coloured}
+use Rattle.coloured_heap.specs.Figures.{deliveries}
+use Rattle.coloured_heap.specs.Sends.{all_messages}
+use Rattle.server_model.specs.declared.event.Event.{Event}
+use Rattle.server_model.specs.Servers.{Cluster, start_of}
+use Rattle.server_model.specs.Clusters.{apply}
+use Rattle.heap_law.specs.Sight.{sight}
+use Rattle.heap_law.specs.Naming.{options_out}
+use Rattle.heap_law.specs.Colours.{StandsColoured}
+use Rattle.heap_law.specs.LeftBy.{messages_of}
+use Rattle.type_law.specs.ClusterTypes.{IsCoherent}
+use Rattle.event_law.specs.Laws.{Gives, FewEvents}
+use Rattle.code_meaning.specs.Laws.{RunsAlike}
+use Rattle.code_meaning.specs.LeftByItsCode.{LeftByItsCode}
+use Rattle.run_law.specs.Runs.{run_of, PlainlyLeft, LeadsOn}
+use Rattle.going_law.specs.Going.{IsOnItsWay}
+
+-- a typed program, its code, and options
+pub record Given : Type 0 where
+  pub code : List Instr
+  pub at : ℕ
+  pub items : Items
+  pub kind : Kind
+  pub env : Env
+  pub options : Options
+  -- its places have at most eight stars, as those of a source
+  pub short : HasShortPlaces (block_t at items)
+  pub typed : Types [] (block_t at items) kind env
+  -- the code stands for the program, each thread's code behind the end of another's
+  pub is : IsCodeOf code (program (block_t at items))
+  pub laid : IsLaidOut code
+  pub within : options_out options ≡ 0
+
+-- where some events from the start lead: a cluster, and the journal of their entries
+pub record RunsRight (g : Given) (d : Cluster × List EntryView) : Type 0 where
+  pub coherent : IsCoherent d.0
+  -- the journal's order is one of plain steps of the code, which lead to the cluster's one heap
+  pub left : PlainlyLeft d.0 d.1
+  -- and of the program's own terms, with the journal's labels and prints
+  pub alike : RunsAlike (program (block_t g.at g.items)) d.1
+  -- no message was sent but by acts, and none is lost
+  pub messages : messages_of (sight d.0) + deliveries d.1 ≡ all_messages d.1
+  -- it goes on, or is deadlocked, or finished with nothing left
+  pub on : IsOnItsWay d.0
+
+abbrev pub ProgramsRunRight : Type 0
+ProgramsRunRight = (g : Given) (es : List Event) → length es + 1 < 2 ^ 31 → Gives (RunsRight g) (run_of (start_of g.code g.options) es)
+
+-- what is still to be shown of single events: the entry leads on from each coloured heap that the cluster stands for
+abbrev pub EntriesLead : Type 0
+EntriesLead = (k : Cluster) (e : Event) → IsCoherent k → FewEvents k → (s : Coloured) → StandsColoured k s → Gives (LeadsOn k.options s) (apply k e)
+
+-- with it the cluster is left by its code
+abbrev pub ProgramsAreLeft : Type 0
+ProgramsAreLeft = EntriesLead → (g : Given) (es : List Event) → length es < 2 ^ 31 → Gives (λ (d : Cluster × List EntryView). LeftByItsCode d.0 d.1) (run_of (start_of g.code g.options) es)
