@@ -25,6 +25,7 @@ use crate::sending::{count_sent, send_all};
 use crate::standing::ending_of;
 use crate::waiting::waits_of;
 use borrow_check::Checked;
+use coherence_law::events_keep_coherence;
 use fr_base::{Ending3, NoMemory, Options, Waits};
 use fr_compile::compile;
 use journal::Entry;
@@ -126,7 +127,7 @@ impl Cluster {
 
     /// Does an event at its server, and its messages wait last at the servers that they go to. The cluster is coherent, fewer than 1,000,000,000 events
     /// were done, and no message stands in an outbox, as `new`, `apply` and `hand_over` leave it. `NotEnabled` comes exactly where the server isn't of the
-    /// run or the event isn't enabled there, else `NoMemory` where memory is wanting; both leave all unchanged. Servers to which the event sends nothing
+    /// run or the event isn't enabled there, else `NoMemory` where memory is wanting; both leave all unchanged. The cluster stays coherent. Servers to which the event sends nothing
     /// cost no time, but once after `new`, after `from_servers` and `hand_over`, and after memory was wanting for the room that each keeps.
     pub fn apply(&mut self, event: Event) -> Result<Entry, Refused>
         requires coherent { IsCoherent self.old.state }
@@ -136,9 +137,11 @@ impl Cluster {
         ensures not_enabled { is_enabled self.old.state event ≡ false → result ≡ Err refused_by.NotEnabled }
         ensures memory { is_enabled self.old.state event ≡ true → IfErr result (λ e. e ≡ refused_by.NoMemory) }
         ensures refused { OnErr result (self.new.state ≡ self.old.state) }
+        ensures coherent { IsCoherent self.new.state }
         ensures sent { NoneSent self.new.state.servers }
         ensures program { self.new.program ≡ self.old.program }
     {
+        events_keep_coherence();
         if !can_do(&self.servers, event.server, &event.what) {
             return Err(Refused::NotEnabled);
         }

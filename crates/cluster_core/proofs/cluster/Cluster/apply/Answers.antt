@@ -1,7 +1,11 @@
 use Rattle.std.proofs.Common.{◌≡◌, ◌<◌, true, false, slice_get, sym, ap, subst, ◌∙◌, arith}
 use Rattle.std.specs.Arc.{arc_value}
 use Rattle.type_law.specs.ClusterTypes.{IsCoherent}
+use Rattle.journal.specs.View.{EntryView}
+use Rattle.server_model.specs.Servers.{Cluster}
 use Rattle.server_model.specs.Clusters.{apply}
+use Rattle.event_law.proofs.Results.{given_by}
+use Rattle.limit_law.proofs.Counts.{few_are_few}
 use Rattle.cluster_core.specs.Views.{ClusterView, AreServersOf, cluster_of, states, events_in}
 use Rattle.cluster_core.specs.Handing.{NoneSent}
 use Rattle.cluster_core.specs.Enabled.{is_enabled}
@@ -101,3 +105,10 @@ returns-in-Err-clause-sent c =
     let ws = c.apply_at.new.servers.items in
     let state : cluster_of vs ≡ c.args.self.now.state = ap (λ (v : ClusterView). v.state) c.self.view_is in
     subst NoneSent (sym (grown_states vs ws c.in-Err.ensures.refused)) (subst (λ k. NoneSent k.servers) (sym state) c.requires.sent)
+
+pub returns-in-Ok-clause-coherent : goal.returns-in-Ok-clause-coherent
+returns-in-Ok-clause-coherent c =
+    given_by (λ (d : Cluster × EntryView). IsCoherent d.0) _ _ (c.events_keep_coherence.ensures c.args.self.now.state c.args.event c.requires.coherent (few_are_few c.args.self.now.state c.requires.few)) (returns-in-Ok-clause-applied c)
+
+pub returns-in-Err-clause-coherent : goal.returns-in-Err-clause-coherent
+returns-in-Err-clause-coherent c = subst IsCoherent (sym (returns-in-Err-clause-refused c)) c.requires.coherent
