@@ -51,7 +51,7 @@ pub record RunsRight (g : Given) (d : Cluster × List EntryView) : Type 0 where
   pub left : PlainlyLeft d.0 d.1
   -- and of the program's own terms, with the journal's labels and prints
   pub alike : RunsAlike (program (block_t g.at g.items)) d.1
-  -- no message was sent but by acts, and none is lost
+  -- the messages that wait and those that were delivered are together as many as the acts send
   pub messages : messages_of (sight d.0) + deliveries d.1 ≡ all_messages d.1
   -- it goes on, or is deadlocked, or finished with nothing left
   pub on : IsOnItsWay d.0
