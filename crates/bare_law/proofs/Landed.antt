@@ -57,8 +57,8 @@ use Rattle.walk_law.proofs.Sentences.{SameOn}
 use Rattle.walk_law.proofs.Still.{places_of}
 use Rattle.way_law.proofs.Through.{stood}
 use Rattle.come_law.proofs.Sorts.{with_server}
-use Rattle.passed_law.proofs.Then.{before_uncopied, on_written, uncopied_still}
-use Rattle.passed_law.proofs.Such.{such_uncopied}
+use Rattle.bare_law.proofs.Then.{before_uncopied, on_written, uncopied_still}
+use Rattle.bare_law.proofs.Such.{such_uncopied}
 use Rattle.land_law.specs.Landed.{OthersWhereItComesKeep, EachUnsteppedEventKeeps}
 use Rattle.land_law.proofs.All.{brings_it}
 use Rattle.land_law.proofs.Itself as itself

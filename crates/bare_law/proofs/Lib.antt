@@ -1,3 +1,9 @@
+pub mod Then
+pub mod Others
+pub mod Steady
+pub mod Such
+pub mod Copied
+pub mod Passed
 pub mod Good
 pub mod Stars
 pub mod Stands

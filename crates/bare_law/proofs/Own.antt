@@ -43,10 +43,10 @@ use Rattle.way_law.proofs.EndKinds.{ends_of}
 use Rattle.way_law.proofs.Outcomes.{IsCalm, AsksHome, a_lock, a_dup, a_join, Outcome, is_done, has_asked, asks_home, outcome}
 use Rattle.way_law.proofs.Own.{Own, OwnIn, own_step, me, it_is}
 use Rattle.way_law.proofs.OwnSteps.{Facts, Asking, by_write, by_reading, by_share, by_lend, by_end, asking, leads_by}
-use Rattle.uncopied_law.proofs.Passed.{passed_uncopied}
-use Rattle.uncopied_law.proofs.Copied.{new_uncopied}
-use Rattle.passed_law.proofs.Then.{unpassed, none_passed, OnePassed}
-use Rattle.passed_law.proofs.Others.{others_passed}
+use Rattle.bare_law.proofs.Passed.{passed_uncopied}
+use Rattle.bare_law.proofs.Copied.{new_uncopied}
+use Rattle.bare_law.proofs.Then.{unpassed, none_passed, OnePassed}
+use Rattle.bare_law.proofs.Others.{others_passed}
 use Rattle.bare_law.proofs.Start.{Bare}
 use Rattle.bare_law.proofs.Writes.{write_bare}
 use Rattle.bare_law.proofs.Ends.{end_bare}

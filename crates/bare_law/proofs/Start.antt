@@ -30,8 +30,8 @@ use Rattle.result_law.proofs.Known.{Steps, standing, paths, goes}
 use Rattle.write_law.proofs.Memory.{Sane}
 use Rattle.write_law.proofs.StepRoutes.{awake}
 use Rattle.rewrite_law.proofs.Later.{Later, renewal_unissued, next_vacant}
-use Rattle.uncopied_law.specs.Passed.{HasPassed}
-use Rattle.passed_law.proofs.Then.{NoneThen}
+use Rattle.bare_law.specs.Passed.{HasPassed}
+use Rattle.bare_law.proofs.Then.{NoneThen}
 use Rattle.bare_law.proofs.Stands.{NoCopy}
 
 -- what is known of copies afterwards

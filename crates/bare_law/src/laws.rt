@@ -6,6 +6,20 @@ ghost use Rattle.land_law.specs.Landed.{EachUnsteppedEventKeeps, OthersWhereItCo
 ghost use Rattle.local_law.specs.Laws.{EachCoherentEventKeeps};
 ghost use Rattle.walk_law.specs.Pointers.{OthersStepsKeep};
 ghost use Rattle.way_law.specs.Steps.{OwnStepsKeep, StepsKeep};
+ghost use Rattle.bare_law.specs.Passed.{NewStayUncopied, PassedStayUncopied};
+ghost use Rattle.come_law.specs.Deliveries.{EachSuchEventKeeps};
+
+/// Of a box that a thread's write has passed no copy exists after each event that is no step and brings no object.
+pub fn unstepped_passed()
+    ensures uncopied { EachSuchEventKeeps passed_not_copied }
+{}
+
+/// Under the word of a box that a thread's write has passed there is no copy after whatever event, cached or on its way: there was none, and none is asked for, as who waits
+/// for one reads a pointer to the object, and nobody reads what another thread has in boxes of its slots. Nor is there one under a word that wasn't issued.
+pub fn passed_stays()
+    ensures passed { PassedStayUncopied }
+    ensures new { NewStayUncopied }
+{}
 
 /// Of a box that a thread's write has passed no copy exists after each step, done or not: of what another thread has passed (`others`), of what the thread itself has, where each
 /// box that is passed anew gets a word that wasn't issued (`own`), and so of all.

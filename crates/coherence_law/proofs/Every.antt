@@ -27,10 +27,10 @@ use Rattle.content_law.specs.Contents.{OneContent, EachEventLeavesOneContent}
 use Rattle.regain_law.specs.Events.{EventsKeepWords}
 use Rattle.apart_law.specs.Words.{ObjectsStayApart}
 use Rattle.coherence_law.specs.Copies.{EventsKeepCopies}
-use Rattle.ever_issued_law.specs.Below.standing_law.Standing.{Settled}
+use Rattle.ever_issued_law.specs.Below.ever_issued_law.Standing.{Settled}
 use Rattle.ever_issued_law.specs.Issued.{EachEventIssues}
-use Rattle.own_law.specs.Owning.{Agrees, EventsThatAgreeEnd}
-use Rattle.types_law.specs.Types.{EventsKeepTypes}
+use Rattle.coherence_law.specs.Owning.{Agrees, EventsThatAgreeEnd}
+use Rattle.coherence_law.specs.Types.{EventsKeepTypes}
 use Rattle.coherence_law.specs.Coherence.{EventsKeepCoherence}
 
 -- WHERE THERE IS A RESULT

@@ -2,7 +2,6 @@
 
 ghost use Rattle.coherence_law.specs.Coherence.{EventsKeepCoherence};
 ghost use Rattle.coherence_law.specs.Copies.{EventsKeepCopies};
-
 use apart_law::objects_stay_apart;
 use ask_law::{answers_keep, gifts_keep, pairs_keep};
 use bare_law::each_event_uncopied;
@@ -14,14 +13,47 @@ use ever_issued_law::each_event_issues;
 use heap_law::laws::some_follow;
 use land_law::all_land;
 use local_law::{messages_keep, servers_keep, threads_keep, threads_keep_to_code};
-use own_law::owners_end;
+use crate::laws::owners_end;
 use regain_law::events_keep_words;
 use taken_law::taken_stays;
 use typed_parts_law::parts_keep;
-use types_law::events_keep_types;
+use crate::laws::events_keep_types;
 use value_law::{askers_keep, names_keep, values_keep_to_code};
 use wait_law::waits_keep;
 use way_law::steps_keep_walks;
+ghost use Rattle.coherence_law.specs.Owning.{AgreeingEnd, EventsThatAgreeEnd};
+ghost use Rattle.coherence_law.specs.Types.{EventsKeepTypes, EventsStandOnce};
+ghost use Rattle.coherence_law.specs.Ends.{EndsStay};
+
+/// From a coherent cluster in which few events were done, each event that has a result, its messages handed over, leaves a cluster in which the code of each thread that is
+/// over ends with the type that its task has afterwards, by whatever types of names by which those that were given before have the types that they had: the thread was over,
+/// or it has just ended.
+pub fn ends_stay()
+    ensures { EndsStay }
+{}
+
+/// From a coherent cluster in which few events were done, each event that has a result, its messages handed over, leaves a cluster in which each thing stands once: what the
+/// types of the one heap need of soundness, none of which needs types.
+pub fn events_stand_once()
+    ensures { EventsStandOnce }
+{
+    parts_keep();
+}
+
+/// So each event, whatever it is, leaves a cluster that has types: where it does no plain step by `undone_events_keep_types` of `agree_law`, and else by what laws say of the one heap
+/// and of each count of types afterwards. No soundness of the cluster afterwards is asked, so that this can be shown with types.
+pub fn events_keep_types()
+    ensures { EventsKeepTypes }
+{
+    events_stand_once();
+}
+
+/// Where each cell, content and result agrees with the type of its name, and no two threads have one number, going from owners to what they own comes to an end: no
+/// object, mutex or result owns itself, directly or through others. So it is after each event of a sound cluster that leaves such types.
+pub fn owners_end()
+    ensures agreeing { AgreeingEnd }
+    ensures events { EventsThatAgreeEnd }
+{}
 
 /// From a coherent cluster in which few events were done each event leaves copies right, once its messages are handed over: a copy under the word of a live object that isn't
 /// changed through a reference is its present cell, words included, and each copy that is asked for, or on its way, is one of such an object.

@@ -40,8 +40,8 @@ use Rattle.result_law.proofs.Borrowing.{borrows_have_results}
 use Rattle.result_law.proofs.Lending.{mutable_borrows_have_results}
 use Rattle.write_law.proofs.Anyhow.{each_read, each_assignment, each_discard, each_drop}
 use Rattle.write_law.proofs.Moved.{each_moved}
-use Rattle.begin_law.proofs.Spawns.{each_spawn}
-use Rattle.begin_law.proofs.Pars.{each_par}
+use Rattle.enabled_law.proofs.Spawns.{each_spawn}
+use Rattle.enabled_law.proofs.Pars.{each_par}
 use Rattle.enabled_law.specs.Events.{EventsHaveResults}
 
 stands_at : {X : Type 0} (xs : List X) (i : ℕ) → i < length xs → (v : X) × (slice_get xs i ≡ Some v)

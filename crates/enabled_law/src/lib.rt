@@ -3,4 +3,4 @@
 
 mod laws;
 
-pub use laws::enabled_events_have_results;
+pub use laws::{enabled_events_have_results, pars_have_results, spawns_have_results};

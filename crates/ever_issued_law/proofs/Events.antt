@@ -27,21 +27,21 @@ use Rattle.event_law.proofs.Results.{both_give, weaker}
 use Rattle.type_law.specs.ClusterTypes.{IsCoherent}
 use Rattle.path_law.specs.HeapStore.{HasPaths}
 use Rattle.word_law.specs.Unmoved.{Delivers}
-use Rattle.comes_issued_law.specs.Below.issue_law.Issuing.{LandsNone}
-use Rattle.comes_issued_law.proofs.Below.issue_law.Steady.{issued_steady}
-use Rattle.issued_law.proofs.Standing.{deliveries_stand_issued}
-use Rattle.comes_issued_law.proofs.Below.regain_law.Arrivals.{none_done}
-use Rattle.comes_issued_law.proofs.Below.apart_law.UnderWay.{FlightsIssued, step_flights, landing_flights}
+use Rattle.ever_issued_law.specs.Below.issue_law.Issuing.{LandsNone}
+use Rattle.ever_issued_law.proofs.Below.issue_law.Steady.{issued_steady}
+use Rattle.ever_issued_law.proofs.Kinds.{deliveries_stand_issued}
+use Rattle.ever_issued_law.proofs.Below.regain_law.Arrivals.{none_done}
+use Rattle.ever_issued_law.proofs.Below.apart_law.UnderWay.{FlightsIssued, step_flights, landing_flights}
 use Rattle.old_words_law.specs.Old.{unissued, first_words, lent_words}
-use Rattle.comes_issued_law.specs.Below.all_issued_law.Issued.{MakesNoObject}
+use Rattle.ever_issued_law.specs.Below.all_issued_law.Issued.{MakesNoObject}
 use Rattle.old_words_law.proofs.Firsts.{steps_leave_firsts, arrivals_leave_firsts}
-use Rattle.comes_issued_law.proofs.Below.all_issued_law.Boxes.{boxes_keep_issued}
-use Rattle.comes_issued_law.proofs.Below.all_issued_law.Still.{steps_keep_issued}
-use Rattle.standing_law.specs.Standing.{flown_words, Settled, KeepsIssued}
-use Rattle.standing_law.proofs.Events.{events_issue_words}
-use Rattle.comes_issued_law.proofs.Arrivals.{arrivals_keep_issued}
-use Rattle.lent_law.proofs.Steps.{steps_leave_lent}
-use Rattle.lent_law.proofs.Landings.{landings_leave_lent}
+use Rattle.ever_issued_law.proofs.Below.all_issued_law.Boxes.{boxes_keep_issued}
+use Rattle.ever_issued_law.proofs.Below.all_issued_law.Still.{steps_keep_issued}
+use Rattle.ever_issued_law.specs.Standing.{flown_words, Settled, KeepsIssued}
+use Rattle.ever_issued_law.proofs.Settled.{events_issue_words}
+use Rattle.ever_issued_law.proofs.Arrivals.{arrivals_keep_issued}
+use Rattle.ever_issued_law.proofs.Steps.{steps_leave_lent}
+use Rattle.ever_issued_law.proofs.Landings.{landings_leave_lent}
 use Rattle.ever_issued_law.specs.Issued.{EachEventIssues}
 
 -- what was issued in one cluster is issued in the other

@@ -1,1 +1,14 @@
+pub mod Kinds
+pub mod Put
+pub mod There
+pub mod Fresh
+pub mod Arrivals
+pub mod Below
+pub mod Taken
+pub mod Steps
+pub mod Landings
+pub mod Live
+pub mod Stale
+pub mod Standing
+pub mod Settled
 pub mod Events

@@ -6,7 +6,7 @@ use Rattle.server_model.specs.Clusters.{apply}
 use Rattle.heap_law.specs.Coherent.{Holds, are_issued}
 use Rattle.event_law.specs.Laws.{Gives, FewEvents}
 use Rattle.type_law.specs.ClusterTypes.{IsCoherent}
-use Rattle.standing_law.specs.Standing.{Settled}
+use Rattle.ever_issued_law.specs.Standing.{Settled}
 
 -- from a coherent cluster in which few events were done, after each event that has a result, its messages handed over: each word that stands anywhere was issued, where the cluster has
 -- types, objects have words, and what is waited for, asked for and taken stands

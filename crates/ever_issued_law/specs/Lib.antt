@@ -1,2 +1,6 @@
+pub mod Kinds
+pub mod Arrivals
+pub mod Lent
+pub mod Standing
 pub mod Below
 pub mod Issued

@@ -1,2 +1,5 @@
 pub mod Plain
 pub mod Waiting
+pub mod Contents
+pub mod Locks
+pub mod Deadlocks

@@ -3,4 +3,4 @@
 
 mod laws;
 
-pub use laws::waits_agree;
+pub use laws::{locks_wait, waits_agree};

@@ -1,5 +1,5 @@
 use Rattle.bare_law.proofs.laws.steps_uncopied.Goals as goal
-use Rattle.passed_law.proofs.Others.{others_passed}
+use Rattle.bare_law.proofs.Others.{others_passed}
 use Rattle.bare_law.proofs.Own.{own_uncopied, steps_bare}
 
 pub returns : goal.returns

@@ -1,4 +1,0 @@
-pub mod Then
-pub mod Others
-pub mod Steady
-pub mod Such

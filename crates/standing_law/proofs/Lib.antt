@@ -1,4 +1,0 @@
-pub mod Live
-pub mod Stale
-pub mod Standing
-pub mod Events

@@ -1,5 +1,0 @@
-use Rattle.standing_law.proofs.laws.words_follow.Goals as goal
-use Rattle.standing_law.proofs.Standing.{issued_follows}
-
-pub returns : goal.returns
-returns c = issued_follows
