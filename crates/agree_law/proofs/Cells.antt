@@ -1,48 +1,48 @@
 -- An event that does no plain step leaves cells in agreement with the types of their objects: each is as it was but for words, or is gone.
 use Rattle.std.proofs.Common.{◌≡◌, ℕ, true, List, [], ◌∷◌, Option, Some, None, refl, sym, subst, ◌∙◌, arith}
 use Rattle.std.specs.Prelude.{slice_get, option_map}
-use Rattle.fr_base.specs.declared.name.ObjNo.{ObjNo}
-use Rattle.fr_typing.specs.Kinds.{Owned as OwnedType, own}
-use Rattle.global_addr.specs.Words.{address_of}
-use Rattle.heap_partition.specs.Plain.{plain_of}
-use Rattle.heap_partition.specs.declared.value.Owned.{Owned}
-use Rattle.heap_partition.specs.declared.value.Owned.TheVariants as owned
-use Rattle.owner_box.specs.Partition.{freed}
-use Rattle.thread_state.specs.declared.value.Value.TheVariants as value
-use Rattle.server_msgs.specs.declared.message.Message.{Message}
-use Rattle.server_msgs.specs.declared.message.Message.TheVariants as message
-use Rattle.journal.specs.declared.act.Act.TheVariants as act
-use Rattle.journal.specs.View.{EntryView}
-use Rattle.server_model.specs.declared.event.What.{What}
-use Rattle.server_model.specs.declared.event.What.TheVariants.{Step, Deliver, Evict, Migrate}
-use Rattle.server_model.specs.Servers.{Rest, Server, Cluster, server_at}
-use Rattle.server_model.specs.Work.{Work, then_some, note, with_partition, look_object}
-use Rattle.server_model.specs.Objects.{deliver_drop}
-use Rattle.server_model.specs.Events.{enabled, deliver_message, received, left_by, does}
-use Rattle.heap_law.specs.Names.{tot, other}
-use Rattle.heap_law.specs.Things.{Thing, lies, flies, noted, message_things, server_things}
-use Rattle.heap_law.specs.Sight.{sight}
-use Rattle.heap_law.specs.Coherent.{IsSound}
-use Rattle.event_law.specs.Laws.{Gives}
-use Rattle.event_law.proofs.Trades.{tot-append}
-use Rattle.event_law.proofs.Results.{map_gives, over_gives, weaker}
-use Rattle.event_law.proofs.Bags.{all_standing, rest_things, of_partition, of_receiving}
-use Rattle.event_law.proofs.Cells.{looked, frees}
-use Rattle.event_law.proofs.ObjectMessages.{looked_object}
-use Rattle.type_law.specs.Names.{NameTypes, fits}
-use Rattle.type_law.specs.ClusterTypes.{misfit}
-use Rattle.still_law.specs.Shows.{Sign, an_object, sign_of}
-use Rattle.still_law.proofs.Told.{tot_same}
-use Rattle.still_law.proofs.PlainValues.{unnoted}
-use Rattle.still_law.proofs.Counting.{no_values}
-use Rattle.still_law.proofs.Sites.{shown, begins, Moves, AlikeBy, ServerStill, TakesBy, RestTakesBy, site_takes_by, deliveries_in}
-use Rattle.still_law.proofs.Addresses.{address_unseen, in_place, lies_alone}
-use Rattle.still_law.proofs.Leaving.{others, placed_here}
-use Rattle.still_law.proofs.Back.{gives_up}
-use Rattle.still_law.proofs.StillKinds.{message_still}
-use Rattle.still_law.proofs.Evictions.{evictions}
-use Rattle.still_law.proofs.Arrivals.{migrations}
-use Rattle.still_law.proofs.Undone.{steps}
+use Rattle.local_law.specs.Below.fr_base.declared.name.ObjNo.{ObjNo}
+use Rattle.local_law.specs.Below.fr_typing.Kinds.{Owned as OwnedType, own}
+use Rattle.local_law.specs.Below.global_addr.Words.{address_of}
+use Rattle.local_law.specs.Below.heap_partition.Plain.{plain_of}
+use Rattle.local_law.specs.Below.heap_partition.declared.value.Owned.{Owned}
+use Rattle.local_law.specs.Below.heap_partition.declared.value.Owned.TheVariants as owned
+use Rattle.local_law.specs.Below.owner_box.Partition.{freed}
+use Rattle.local_law.specs.Below.thread_state.declared.value.Value.TheVariants as value
+use Rattle.local_law.specs.Below.server_msgs.declared.message.Message.{Message}
+use Rattle.local_law.specs.Below.server_msgs.declared.message.Message.TheVariants as message
+use Rattle.local_law.specs.Below.journal.declared.act.Act.TheVariants as act
+use Rattle.local_law.specs.Below.journal.View.{EntryView}
+use Rattle.local_law.specs.Below.server_model.declared.event.What.{What}
+use Rattle.local_law.specs.Below.server_model.declared.event.What.TheVariants.{Step, Deliver, Evict, Migrate}
+use Rattle.local_law.specs.Below.server_model.Servers.{Rest, Server, Cluster, server_at}
+use Rattle.local_law.specs.Below.server_model.Work.{Work, then_some, note, with_partition, look_object}
+use Rattle.local_law.specs.Below.server_model.Objects.{deliver_drop}
+use Rattle.local_law.specs.Below.server_model.Events.{enabled, deliver_message, received, left_by, does}
+use Rattle.local_law.specs.Below.heap_law.Names.{tot, other}
+use Rattle.local_law.specs.Below.heap_law.Things.{Thing, lies, flies, noted, message_things, server_things}
+use Rattle.local_law.specs.Below.heap_law.Sight.{sight}
+use Rattle.local_law.specs.Below.heap_law.Coherent.{IsSound}
+use Rattle.local_law.specs.Below.event_law.Laws.{Gives}
+use Rattle.local_law.proofs.Below.event_law.Trades.{tot-append}
+use Rattle.local_law.proofs.Below.event_law.Results.{map_gives, over_gives, weaker}
+use Rattle.local_law.proofs.Below.event_law.Bags.{all_standing, rest_things, of_partition, of_receiving}
+use Rattle.local_law.proofs.Below.event_law.Cells.{looked, frees}
+use Rattle.local_law.proofs.Below.event_law.ObjectMessages.{looked_object}
+use Rattle.local_law.specs.Below.type_law.Names.{NameTypes, fits}
+use Rattle.local_law.specs.Below.type_law.ClusterTypes.{misfit}
+use Rattle.frame_law.specs.Below.still_law.Shows.{Sign, an_object, sign_of}
+use Rattle.frame_law.proofs.Below.still_law.Told.{tot_same}
+use Rattle.frame_law.proofs.Below.still_law.PlainValues.{unnoted}
+use Rattle.frame_law.proofs.Below.still_law.Counting.{no_values}
+use Rattle.frame_law.proofs.Below.still_law.Sites.{shown, begins, Moves, AlikeBy, ServerStill, TakesBy, RestTakesBy, site_takes_by, deliveries_in}
+use Rattle.frame_law.proofs.Below.still_law.Addresses.{address_unseen, in_place, lies_alone}
+use Rattle.frame_law.proofs.Below.still_law.Leaving.{others, placed_here}
+use Rattle.frame_law.proofs.Below.still_law.Back.{gives_up}
+use Rattle.frame_law.proofs.Below.still_law.StillKinds.{message_still}
+use Rattle.frame_law.proofs.Below.still_law.Evictions.{evictions}
+use Rattle.frame_law.proofs.Below.still_law.Arrivals.{migrations}
+use Rattle.frame_law.proofs.Below.still_law.Undone.{steps}
 use Rattle.frame_law.proofs.Bare.{bare_owned, temps_bare}
 
 -- WHAT A CELL SHOWS

@@ -1,23 +1,23 @@
 -- An event that does no plain step leaves contents, results and gifts at its server with what is wanted of them.
 use Rattle.std.proofs.Common.{◌≡◌, ℕ, true, List, Option, Some, None, refl}
 use Rattle.std.specs.Prelude.{slice_get, option_map}
-use Rattle.fr_base.specs.declared.settings.Options.{Options}
-use Rattle.fr_base.specs.declared.instruction.Instr.{Instr}
-use Rattle.read_cache.specs.Cache.{Copy, can_evict}
-use Rattle.migration.specs.Packing.{unpin_all, used_words, packed}
-use Rattle.thread_state.specs.View.{ThreadState}
-use Rattle.journal.specs.View.{EntryView}
-use Rattle.server_msgs.specs.declared.message.Message.{Message}
-use Rattle.server_msgs.specs.declared.message.Message.TheVariants as message
-use Rattle.server_model.specs.declared.event.What.{What}
-use Rattle.server_model.specs.declared.event.What.TheVariants.{Step, Deliver, Evict, Migrate}
-use Rattle.server_model.specs.Servers.{Server}
-use Rattle.server_model.specs.Work.{then_some, thread_in, without_thread, beside_threads}
-use Rattle.server_model.specs.Moving.{migrate, depart}
-use Rattle.server_model.specs.Events.{begin_work, begin_at, left_by, received, deliver_message, evict_copy, does}
-use Rattle.event_law.specs.Laws.{Gives}
-use Rattle.event_law.proofs.Results.{then_gives, over_gives, test_gives, weaker}
-use Rattle.event_law.proofs.Known.{all_at}
+use Rattle.local_law.specs.Below.fr_base.declared.settings.Options.{Options}
+use Rattle.local_law.specs.Below.fr_base.declared.instruction.Instr.{Instr}
+use Rattle.local_law.specs.Below.read_cache.Cache.{Copy, can_evict}
+use Rattle.local_law.specs.Below.migration.Packing.{unpin_all, used_words, packed}
+use Rattle.local_law.specs.Below.thread_state.View.{ThreadState}
+use Rattle.local_law.specs.Below.journal.View.{EntryView}
+use Rattle.local_law.specs.Below.server_msgs.declared.message.Message.{Message}
+use Rattle.local_law.specs.Below.server_msgs.declared.message.Message.TheVariants as message
+use Rattle.local_law.specs.Below.server_model.declared.event.What.{What}
+use Rattle.local_law.specs.Below.server_model.declared.event.What.TheVariants.{Step, Deliver, Evict, Migrate}
+use Rattle.local_law.specs.Below.server_model.Servers.{Server}
+use Rattle.local_law.specs.Below.server_model.Work.{then_some, thread_in, without_thread, beside_threads}
+use Rattle.local_law.specs.Below.server_model.Moving.{migrate, depart}
+use Rattle.local_law.specs.Below.server_model.Events.{begin_work, begin_at, left_by, received, deliver_message, evict_copy, does}
+use Rattle.local_law.specs.Below.event_law.Laws.{Gives}
+use Rattle.local_law.proofs.Below.event_law.Results.{then_gives, over_gives, test_gives, weaker}
+use Rattle.local_law.proofs.Below.event_law.Known.{all_at}
 use Rattle.local_law.proofs.Threads.{remove_all, without_all, found_all}
 use Rattle.agree_law.proofs.Kept.{Wanted, GiftHas, MessageHas, sent_has}
 use Rattle.agree_law.proofs.Deliveries.{WorkHas, SiteHas, Comes, message_leaves}

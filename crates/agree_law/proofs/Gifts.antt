@@ -1,45 +1,45 @@
 -- What a thread's gift counts as: what comes to a thread that waits for it, and that it counts as the same after an event that does no plain step.
 use Rattle.std.proofs.Common.{◌≡◌, ℕ, ◌+◌, ◌≤◌, ◌==◌, Bool, true, false, List, map, Option, Some, None, option_map, refl, sym, ap, ap₂, ◌∙◌, arith}
 use Rattle.std.specs.Prelude.{slice_get}
-use Rattle.fr_base.specs.declared.name.MutexNo.{MutexNo}
-use Rattle.fr_base.specs.declared.place.Lval.{Lval}
-use Rattle.fr_base.specs.declared.instruction.Instr.{Instr}
-use Rattle.fr_base.specs.declared.instruction.Instr.TheVariants as instr
-use Rattle.fr_base.specs.declared.instruction.Operand.{Operand}
-use Rattle.heap_partition.specs.declared.value.Owned.{Owned}
-use Rattle.heap_partition.specs.declared.value.Owned.TheVariants as owned
-use Rattle.thread_state.specs.View.{ThreadState}
-use Rattle.thread_state.specs.declared.phase.Phase.{Phase}
-use Rattle.thread_state.specs.declared.phase.Phase.TheVariants as phase
-use Rattle.server_model.specs.Servers.{Server, Cluster, server_at}
-use Rattle.server_model.specs.Work.{thread_in}
-use Rattle.server_model.specs.Sharing.{waits_for_lock, waits_for_dup}
-use Rattle.server_model.specs.Joining.{waits_for_join}
-use Rattle.heap_law.specs.Names.{tot, other, if_so, Among}
-use Rattle.heap_law.specs.Things.{Spot, as_content, as_result, Thing, stands, noted, things_of}
-use Rattle.heap_law.specs.Follow.{Standing, threads_in, thread_at, value_at}
-use Rattle.heap_law.specs.Sight.{Sight, sight}
-use Rattle.heap_law.specs.Paths.{popped, task_in, joined_thread}
-use Rattle.heap_law.specs.Walking.{instr_of}
-use Rattle.heap_law.specs.Weights.{is_thread}
-use Rattle.heap_law.specs.Requests.{mutex_of, locked_mutex, dupped_mutex, is_mutex, is_task, stands_wrong}
-use Rattle.heap_law.specs.Coherent.{IsSound}
-use Rattle.heap_law.proofs.Names.{same_mutexes, same_number}
-use Rattle.event_law.proofs.Bags.{thread_number}
-use Rattle.event_law.proofs.ThreadThere.{thread_there}
-use Rattle.event_law.proofs.GiftsTaken.{none_here}
-use Rattle.type_law.specs.Names.{NameTypes}
-use Rattle.type_law.specs.ClusterTypes.{content_gift, result_gift, gift_misfit}
-use Rattle.path_law.specs.HeapStore.{HasPaths}
-use Rattle.still_law.specs.Shows.{ShownThread, Sign, a_thread, plain_frame, sign_of, gift_spot_at, gift_spot_of, gift_spot}
-use Rattle.still_law.proofs.Tests.{same_part, threads as thread_test}
-use Rattle.still_law.proofs.Told.{ones, tot_same, same_told, at_thread, thread_told, found}
-use Rattle.still_law.proofs.PlainValues.{told_map, one_so, unnoted, plain_task, task_plain, popped_plain, pop_plain, shown_of, all_framed}
-use Rattle.still_law.proofs.Once.{shown_once}
-use Rattle.still_law.proofs.Drops.{named}
-use Rattle.still_law.proofs.Counting.{no_stray, no_values}
-use Rattle.still_law.proofs.Alike.{HeedAlike, Heeds, mutex_same}
-use Rattle.undone_law.proofs.Locks.{locks_see}
+use Rattle.local_law.specs.Below.fr_base.declared.name.MutexNo.{MutexNo}
+use Rattle.local_law.specs.Below.fr_base.declared.place.Lval.{Lval}
+use Rattle.local_law.specs.Below.fr_base.declared.instruction.Instr.{Instr}
+use Rattle.local_law.specs.Below.fr_base.declared.instruction.Instr.TheVariants as instr
+use Rattle.local_law.specs.Below.fr_base.declared.instruction.Operand.{Operand}
+use Rattle.local_law.specs.Below.heap_partition.declared.value.Owned.{Owned}
+use Rattle.local_law.specs.Below.heap_partition.declared.value.Owned.TheVariants as owned
+use Rattle.local_law.specs.Below.thread_state.View.{ThreadState}
+use Rattle.local_law.specs.Below.thread_state.declared.phase.Phase.{Phase}
+use Rattle.local_law.specs.Below.thread_state.declared.phase.Phase.TheVariants as phase
+use Rattle.local_law.specs.Below.server_model.Servers.{Server, Cluster, server_at}
+use Rattle.local_law.specs.Below.server_model.Work.{thread_in}
+use Rattle.local_law.specs.Below.server_model.Sharing.{waits_for_lock, waits_for_dup}
+use Rattle.local_law.specs.Below.server_model.Joining.{waits_for_join}
+use Rattle.local_law.specs.Below.heap_law.Names.{tot, other, if_so, Among}
+use Rattle.local_law.specs.Below.heap_law.Things.{Spot, as_content, as_result, Thing, stands, noted, things_of}
+use Rattle.local_law.specs.Below.heap_law.Follow.{Standing, threads_in, thread_at, value_at}
+use Rattle.local_law.specs.Below.heap_law.Sight.{Sight, sight}
+use Rattle.local_law.specs.Below.heap_law.Paths.{popped, task_in, joined_thread}
+use Rattle.local_law.specs.Below.heap_law.Walking.{instr_of}
+use Rattle.local_law.specs.Below.heap_law.Weights.{is_thread}
+use Rattle.local_law.specs.Below.heap_law.Requests.{mutex_of, locked_mutex, dupped_mutex, is_mutex, is_task, stands_wrong}
+use Rattle.local_law.specs.Below.heap_law.Coherent.{IsSound}
+use Rattle.local_law.proofs.Below.heap_law.Names.{same_mutexes, same_number}
+use Rattle.local_law.proofs.Below.event_law.Bags.{thread_number}
+use Rattle.local_law.proofs.Below.event_law.ThreadThere.{thread_there}
+use Rattle.local_law.proofs.Below.event_law.GiftsTaken.{none_here}
+use Rattle.local_law.specs.Below.type_law.Names.{NameTypes}
+use Rattle.local_law.specs.Below.type_law.ClusterTypes.{content_gift, result_gift, gift_misfit}
+use Rattle.frame_law.specs.Below.path_law.HeapStore.{HasPaths}
+use Rattle.frame_law.specs.Below.still_law.Shows.{ShownThread, Sign, a_thread, plain_frame, sign_of, gift_spot_at, gift_spot_of, gift_spot}
+use Rattle.frame_law.proofs.Below.still_law.Tests.{same_part, threads as thread_test}
+use Rattle.frame_law.proofs.Below.still_law.Told.{ones, tot_same, same_told, at_thread, thread_told, found}
+use Rattle.frame_law.proofs.Below.still_law.PlainValues.{told_map, one_so, unnoted, plain_task, task_plain, popped_plain, pop_plain, shown_of, all_framed}
+use Rattle.frame_law.proofs.Below.still_law.Once.{shown_once}
+use Rattle.frame_law.proofs.Below.still_law.Drops.{named}
+use Rattle.frame_law.proofs.Below.still_law.Counting.{no_stray, no_values}
+use Rattle.frame_law.proofs.Below.still_law.Alike.{HeedAlike, Heeds, mutex_same}
+use Rattle.frame_law.proofs.Below.undone_law.Locks.{locks_see}
 use Rattle.agree_law.proofs.Deliveries.{Comes}
 use Rattle.agree_law.proofs.Things.{spot_misfit, given_misfit, agreeing}
 

@@ -2,27 +2,27 @@
 use Rattle.std.proofs.Common.{◌≡◌, ℕ, ◌+◌, ◌-◌, ◌^◌, ◌==◌, ◌&&◌, nat_lt, Bool, true, false, if◌then◌else◌, List, [], ◌∷◌, ◌++◌, Option, Some, None, refl, sym, subst}
 use Rattle.std.specs.List.{AllByRecursion}
 use Rattle.std.specs.Bool.{⊤}
-use Rattle.fr_base.specs.declared.name.MutexNo.{MutexNo}
-use Rattle.heap_partition.specs.declared.value.Owned.{Owned}
-use Rattle.mutex_home.specs.Mutexes.{Mutex, Mutexes, mutex_in, put_mutex, end_mutex, asked_of, asked_in, ask, back_to, back_out, back_in, give_back, more_in, more, last_less, less_of, less_in, less}
-use Rattle.mutex_home.specs.declared.answers.Asked.{Asked}
-use Rattle.mutex_home.specs.declared.answers.Asked.TheVariants as answer
-use Rattle.mutex_home.specs.declared.answers.Back.{Back}
-use Rattle.mutex_home.specs.declared.answers.Back.TheVariants as back
-use Rattle.join_home.specs.Tasks.{Task, TaskState, going, let_go, kept, asked, in_pair, task_in, state_in, state_of, with_state, without_task, over_in, pair_ended, ended_from, ended, asked_from, let_go_from, let_go_of}
-use Rattle.join_home.specs.Tasks as tasks
-use Rattle.join_home.specs.declared.answers.EndedAs.{EndedAs}
-use Rattle.join_home.specs.declared.answers.EndedAs.TheVariants as over
-use Rattle.thread_state.specs.View.{ThreadState}
-use Rattle.server_msgs.specs.declared.message.Message.{Message}
-use Rattle.server_msgs.specs.declared.message.Message.TheVariants as message
-use Rattle.server_model.specs.Servers.{Sent, Rest}
-use Rattle.server_model.specs.Work.{sent_from}
-use Rattle.heap_law.specs.Names.{same_mutex}
-use Rattle.heap_law.proofs.Names.{same_mutexes, same_number}
-use Rattle.event_law.specs.Laws.{Gives}
-use Rattle.event_law.proofs.Results.{test_gives}
-use Rattle.event_law.proofs.Known.{all_append}
+use Rattle.local_law.specs.Below.fr_base.declared.name.MutexNo.{MutexNo}
+use Rattle.local_law.specs.Below.heap_partition.declared.value.Owned.{Owned}
+use Rattle.local_law.specs.Below.mutex_home.Mutexes.{Mutex, Mutexes, mutex_in, put_mutex, end_mutex, asked_of, asked_in, ask, back_to, back_out, back_in, give_back, more_in, more, last_less, less_of, less_in, less}
+use Rattle.local_law.specs.Below.mutex_home.declared.answers.Asked.{Asked}
+use Rattle.local_law.specs.Below.mutex_home.declared.answers.Asked.TheVariants as answer
+use Rattle.local_law.specs.Below.mutex_home.declared.answers.Back.{Back}
+use Rattle.local_law.specs.Below.mutex_home.declared.answers.Back.TheVariants as back
+use Rattle.local_law.specs.Below.join_home.Tasks.{Task, TaskState, going, let_go, kept, asked, in_pair, task_in, state_in, state_of, with_state, without_task, over_in, pair_ended, ended_from, ended, asked_from, let_go_from, let_go_of}
+use Rattle.local_law.specs.Below.join_home.Tasks as tasks
+use Rattle.local_law.specs.Below.join_home.declared.answers.EndedAs.{EndedAs}
+use Rattle.local_law.specs.Below.join_home.declared.answers.EndedAs.TheVariants as over
+use Rattle.local_law.specs.Below.thread_state.View.{ThreadState}
+use Rattle.local_law.specs.Below.server_msgs.declared.message.Message.{Message}
+use Rattle.local_law.specs.Below.server_msgs.declared.message.Message.TheVariants as message
+use Rattle.local_law.specs.Below.server_model.Servers.{Sent, Rest}
+use Rattle.local_law.specs.Below.server_model.Work.{sent_from}
+use Rattle.local_law.specs.Below.heap_law.Names.{same_mutex}
+use Rattle.local_law.proofs.Below.heap_law.Names.{same_mutexes, same_number}
+use Rattle.local_law.specs.Below.event_law.Laws.{Gives}
+use Rattle.local_law.proofs.Below.event_law.Results.{test_gives}
+use Rattle.local_law.proofs.Below.event_law.Known.{all_append}
 use Rattle.local_law.proofs.MutexLists.{put_all, ends_all}
 
 -- what is wanted of a value as the content of a mutex, as the result of a thread, as the gift of a thread

@@ -1,19 +1,19 @@
 -- Where an event leaves nothing of a weight at its server, it leaves nothing of it in the cluster, once its messages are handed over.
 use Rattle.std.proofs.Common.{◌≡◌, true, ℕ, length, take, drop, Some, arith}
-use Rattle.journal.specs.View.{EntryView}
-use Rattle.server_model.specs.declared.event.Event.{Event}
-use Rattle.server_model.specs.Servers.{Server, Cluster, server_at}
-use Rattle.server_model.specs.Events.{enabled, does}
-use Rattle.server_model.specs.Clusters.{with_server, done_at, apply}
-use Rattle.heap_law.specs.Names.{tot}
-use Rattle.heap_law.specs.Things.{Thing, server_things, things_of}
-use Rattle.heap_law.specs.Coherent.{IsSound}
-use Rattle.event_law.specs.Laws.{Gives, GoTo, FewEvents}
-use Rattle.event_law.proofs.Results.{then_gives, over_gives, both_give, test_gives}
-use Rattle.event_law.proofs.Events.{tot-server}
-use Rattle.event_law.proofs.Applied.{go_with}
-use Rattle.event_law.proofs.Handing.{hand_over_newer_law}
-use Rattle.event_law.proofs.Sending.{each_event_sends}
+use Rattle.local_law.specs.Below.journal.View.{EntryView}
+use Rattle.local_law.specs.Below.server_model.declared.event.Event.{Event}
+use Rattle.local_law.specs.Below.server_model.Servers.{Server, Cluster, server_at}
+use Rattle.local_law.specs.Below.server_model.Events.{enabled, does}
+use Rattle.local_law.specs.Below.server_model.Clusters.{with_server, done_at, apply}
+use Rattle.local_law.specs.Below.heap_law.Names.{tot}
+use Rattle.local_law.specs.Below.heap_law.Things.{Thing, server_things, things_of}
+use Rattle.local_law.specs.Below.heap_law.Coherent.{IsSound}
+use Rattle.local_law.specs.Below.event_law.Laws.{Gives, GoTo, FewEvents}
+use Rattle.local_law.proofs.Below.event_law.Results.{then_gives, over_gives, both_give, test_gives}
+use Rattle.local_law.proofs.Below.event_law.Events.{tot-server}
+use Rattle.local_law.proofs.Below.event_law.Applied.{go_with}
+use Rattle.local_law.proofs.Below.event_law.Handing.{hand_over_newer_law}
+use Rattle.local_law.proofs.Below.event_law.Sending.{each_event_sends}
 
 -- where the entry is of that sort
 module _ (f : Thing → ℕ) (Sort : EntryView → Type 0) where

@@ -3,26 +3,26 @@ use Rattle.std.proofs.Common.{◌≡◌, ℕ, List, Option, Some, None, refl}
 use Rattle.std.specs.Prelude.{slice_get, option_map}
 use Rattle.std.specs.Bool.{⊤}
 use Rattle.std.specs.List.{AllByRecursion}
-use Rattle.fr_base.specs.declared.name.MutexNo.{MutexNo}
-use Rattle.fr_base.specs.declared.step.Fresh.{Fresh}
-use Rattle.fr_base.specs.declared.settings.Options.{Options}
-use Rattle.fr_base.specs.declared.instruction.Instr.{Instr}
-use Rattle.fr_base.specs.declared.instruction.Instr.TheVariants as instr
-use Rattle.global_addr.specs.Words.{server_of}
-use Rattle.heap_partition.specs.declared.value.Owned.{Owned}
-use Rattle.thread_state.specs.View.{ThreadState}
-use Rattle.journal.specs.View.{EntryView}
-use Rattle.server_msgs.specs.declared.message.Message.TheVariants as message
-use Rattle.server_model.specs.declared.event.What.TheVariants.{Step}
-use Rattle.server_model.specs.Servers.{Rest, Server}
-use Rattle.server_model.specs.Work.{Hand, then_some, pop, task_of, thread_in}
-use Rattle.server_model.specs.Drop.{home_of}
-use Rattle.server_model.specs.Places.{Spot}
-use Rattle.server_model.specs.Prepare.{Prepared, ready, requested, nothing, access_of, prepare}
-use Rattle.server_model.specs.Commit.{Committed, done, waits, refused, done_where, waiting, ask_join, join, ask_dup, dup, ask_lock, lock, mutex_at, commit, settle}
-use Rattle.server_model.specs.Events.{begin_work, Stepped, done_step, committed, prepared, step, step_in, stepped, does}
-use Rattle.event_law.specs.Laws.{Gives}
-use Rattle.event_law.proofs.Results.{then_gives, map_gives, over_gives}
+use Rattle.local_law.specs.Below.fr_base.declared.name.MutexNo.{MutexNo}
+use Rattle.local_law.specs.Below.fr_base.declared.step.Fresh.{Fresh}
+use Rattle.local_law.specs.Below.fr_base.declared.settings.Options.{Options}
+use Rattle.local_law.specs.Below.fr_base.declared.instruction.Instr.{Instr}
+use Rattle.local_law.specs.Below.fr_base.declared.instruction.Instr.TheVariants as instr
+use Rattle.local_law.specs.Below.global_addr.Words.{server_of}
+use Rattle.local_law.specs.Below.heap_partition.declared.value.Owned.{Owned}
+use Rattle.local_law.specs.Below.thread_state.View.{ThreadState}
+use Rattle.local_law.specs.Below.journal.View.{EntryView}
+use Rattle.local_law.specs.Below.server_msgs.declared.message.Message.TheVariants as message
+use Rattle.local_law.specs.Below.server_model.declared.event.What.TheVariants.{Step}
+use Rattle.local_law.specs.Below.server_model.Servers.{Rest, Server}
+use Rattle.local_law.specs.Below.server_model.Work.{Hand, then_some, pop, task_of, thread_in}
+use Rattle.local_law.specs.Below.server_model.Drop.{home_of}
+use Rattle.local_law.specs.Below.server_model.Places.{Spot}
+use Rattle.local_law.specs.Below.server_model.Prepare.{Prepared, ready, requested, nothing, access_of, prepare}
+use Rattle.local_law.specs.Below.server_model.Commit.{Committed, done, waits, refused, done_where, waiting, ask_join, join, ask_dup, dup, ask_lock, lock, mutex_at, commit, settle}
+use Rattle.local_law.specs.Below.server_model.Events.{begin_work, Stepped, done_step, committed, prepared, step, step_in, stepped, does}
+use Rattle.local_law.specs.Below.event_law.Laws.{Gives}
+use Rattle.local_law.proofs.Below.event_law.Results.{then_gives, map_gives, over_gives}
 use Rattle.local_law.proofs.Small.{Places, Small, Passes, Made, prepare_makes}
 use Rattle.local_law.proofs.Goes.{puts_by, Any, AnyWord}
 use Rattle.local_law.proofs.Threads.{set_all, found_all}

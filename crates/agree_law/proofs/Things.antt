@@ -1,24 +1,24 @@
 -- Contents, results and gifts of a server agree with types exactly where its things weigh nothing.
 use Rattle.std.proofs.Common.{◌≡◌, ℕ, ◌+◌, Bool, true, false, if◌then◌else◌, List, [], ◌∷◌, ◌++◌, Option, Some, None, refl, arith}
-use Rattle.fr_base.specs.declared.name.MutexNo.{MutexNo}
-use Rattle.heap_partition.specs.declared.value.Cell.{Cell}
-use Rattle.heap_partition.specs.declared.value.Owned.{Owned}
-use Rattle.mut_borrow.specs.declared.shared.SharedRef.{SharedRef}
-use Rattle.owner_box.specs.View.{PartitionState}
-use Rattle.mutex_home.specs.Mutexes.{Mutex}
-use Rattle.join_home.specs.Tasks.{TaskState, going, let_go, kept, asked, in_pair}
-use Rattle.thread_state.specs.View.{ThreadState}
-use Rattle.thread_state.specs.declared.value.Value.{Value}
-use Rattle.thread_state.specs.declared.value.Value.TheVariants as value
-use Rattle.server_msgs.specs.declared.message.Message.{Message}
-use Rattle.server_msgs.specs.declared.message.Message.TheVariants as message
-use Rattle.server_model.specs.Servers.{Sent, Server}
-use Rattle.heap_law.specs.Names.{tot}
-use Rattle.heap_law.specs.Things.{Location, Spot, in_slot, in_temp, as_content, as_result, Thing, holds, stands, retired, uses, things_at, pin_things, value_things, slot_things, temp_things, gift_things, walk_things, thread_things, standing_things, is_free, cell_things, free_things, partition_things, copy_things, content_things, queue_things, mutex_things, result_things, task_things, message_things, waiting_things, leaving_things, server_things}
-use Rattle.heap_law.proofs.Sums.{tot-append, server_parts}
-use Rattle.event_law.specs.Laws.{Gives}
-use Rattle.type_law.specs.Names.{NameTypes}
-use Rattle.type_law.specs.ClusterTypes.{misfit}
+use Rattle.local_law.specs.Below.fr_base.declared.name.MutexNo.{MutexNo}
+use Rattle.local_law.specs.Below.heap_partition.declared.value.Cell.{Cell}
+use Rattle.local_law.specs.Below.heap_partition.declared.value.Owned.{Owned}
+use Rattle.local_law.specs.Below.mut_borrow.declared.shared.SharedRef.{SharedRef}
+use Rattle.local_law.specs.Below.owner_box.View.{PartitionState}
+use Rattle.local_law.specs.Below.mutex_home.Mutexes.{Mutex}
+use Rattle.local_law.specs.Below.join_home.Tasks.{TaskState, going, let_go, kept, asked, in_pair}
+use Rattle.local_law.specs.Below.thread_state.View.{ThreadState}
+use Rattle.local_law.specs.Below.thread_state.declared.value.Value.{Value}
+use Rattle.local_law.specs.Below.thread_state.declared.value.Value.TheVariants as value
+use Rattle.local_law.specs.Below.server_msgs.declared.message.Message.{Message}
+use Rattle.local_law.specs.Below.server_msgs.declared.message.Message.TheVariants as message
+use Rattle.local_law.specs.Below.server_model.Servers.{Sent, Server}
+use Rattle.local_law.specs.Below.heap_law.Names.{tot}
+use Rattle.local_law.specs.Below.heap_law.Things.{Location, Spot, in_slot, in_temp, as_content, as_result, Thing, holds, stands, retired, uses, things_at, pin_things, value_things, slot_things, temp_things, gift_things, walk_things, thread_things, standing_things, is_free, cell_things, free_things, partition_things, copy_things, content_things, queue_things, mutex_things, result_things, task_things, message_things, waiting_things, leaving_things, server_things}
+use Rattle.local_law.proofs.Below.heap_law.Sums.{tot-append, server_parts}
+use Rattle.local_law.specs.Below.event_law.Laws.{Gives}
+use Rattle.local_law.specs.Below.type_law.Names.{NameTypes}
+use Rattle.local_law.specs.Below.type_law.ClusterTypes.{misfit}
 use Rattle.local_law.proofs.Handed.{all_none, none_all}
 use Rattle.agree_law.proofs.Kept.{Wanted, GiftHas, MessageHas, ContentHas, StateHas, NoteHas}
 use Rattle.agree_law.proofs.Steps.{ServerHas}

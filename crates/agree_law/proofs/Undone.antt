@@ -1,32 +1,32 @@
 -- Event by event: whatever does no plain step leaves a cluster that has types.
 use Rattle.std.proofs.Common.{◌≡◌, ℕ, ◌+◌, ◌≤◌, List, [], ◌∷◌, Option, None, sym, ap₂, ◌∙◌, subst, arith}
 use Rattle.std.proofs.Math.Path.{fun_ext}
-use Rattle.fr_plain.specs.PlainState.{SameState}
-use Rattle.fr_code.specs.Machine.{CodeState}
-use Rattle.fr_code.specs.CodeTable.{IsTable}
-use Rattle.heap_partition.specs.declared.value.Owned.{Owned}
-use Rattle.journal.specs.View.{EntryView}
-use Rattle.server_model.specs.declared.event.Event.{Event}
-use Rattle.server_model.specs.Servers.{Server, Cluster}
-use Rattle.server_model.specs.Clusters.{apply}
-use Rattle.heap_law.specs.Names.{tot}
-use Rattle.heap_law.specs.Things.{Spot, in_slot, in_temp, as_gift, as_content, as_result, in_hand, Thing, holds, lies, flies, stands, server_things, things_of}
-use Rattle.heap_law.specs.Follow.{Standing, threads_in}
-use Rattle.heap_law.specs.Sight.{sight}
-use Rattle.heap_law.specs.OneHeap.{one_heap}
-use Rattle.heap_law.specs.Coherent.{IsSound}
-use Rattle.event_law.specs.Laws.{Gives, FewEvents}
-use Rattle.event_law.proofs.Results.{both_give, weaker}
-use Rattle.event_law.proofs.KnownSound.{on_standing, sum_standing}
-use Rattle.type_law.specs.Names.{NameTypes, names_of}
-use Rattle.type_law.specs.ClusterTypes.{Types, IsCoherent, CodeStateTypes, misfit, gift_misfit, misfits}
-use Rattle.path_law.proofs.Alike.{coherent_has_paths}
-use Rattle.still_law.specs.Shows.{gift_spot}
-use Rattle.still_law.proofs.Told.{at_most, found}
-use Rattle.still_law.proofs.Sites.{leads_by}
-use Rattle.still_law.proofs.Drops.{named}
-use Rattle.still_law.proofs.Alike.{HeedAlike, Heeds}
-use Rattle.undone_law.proofs.Undone.{event_goes, each_undone}
+use Rattle.local_law.specs.Below.fr_plain.PlainState.{SameState}
+use Rattle.local_law.specs.Below.fr_code.Machine.{CodeState}
+use Rattle.local_law.specs.Below.fr_code.CodeTable.{IsTable}
+use Rattle.local_law.specs.Below.heap_partition.declared.value.Owned.{Owned}
+use Rattle.local_law.specs.Below.journal.View.{EntryView}
+use Rattle.local_law.specs.Below.server_model.declared.event.Event.{Event}
+use Rattle.local_law.specs.Below.server_model.Servers.{Server, Cluster}
+use Rattle.local_law.specs.Below.server_model.Clusters.{apply}
+use Rattle.local_law.specs.Below.heap_law.Names.{tot}
+use Rattle.local_law.specs.Below.heap_law.Things.{Spot, in_slot, in_temp, as_gift, as_content, as_result, in_hand, Thing, holds, lies, flies, stands, server_things, things_of}
+use Rattle.local_law.specs.Below.heap_law.Follow.{Standing, threads_in}
+use Rattle.local_law.specs.Below.heap_law.Sight.{sight}
+use Rattle.local_law.specs.Below.heap_law.OneHeap.{one_heap}
+use Rattle.local_law.specs.Below.heap_law.Coherent.{IsSound}
+use Rattle.local_law.specs.Below.event_law.Laws.{Gives, FewEvents}
+use Rattle.local_law.proofs.Below.event_law.Results.{both_give, weaker}
+use Rattle.local_law.proofs.Below.event_law.KnownSound.{on_standing, sum_standing}
+use Rattle.local_law.specs.Below.type_law.Names.{NameTypes, names_of}
+use Rattle.local_law.specs.Below.type_law.ClusterTypes.{Types, IsCoherent, CodeStateTypes, misfit, gift_misfit, misfits}
+use Rattle.frame_law.proofs.Below.path_law.Alike.{coherent_has_paths}
+use Rattle.frame_law.specs.Below.still_law.Shows.{gift_spot}
+use Rattle.frame_law.proofs.Below.still_law.Told.{at_most, found}
+use Rattle.frame_law.proofs.Below.still_law.Sites.{leads_by}
+use Rattle.frame_law.proofs.Below.still_law.Drops.{named}
+use Rattle.frame_law.proofs.Below.still_law.Alike.{HeedAlike, Heeds}
+use Rattle.frame_law.proofs.Below.undone_law.Undone.{event_goes, each_undone}
 use Rattle.frame_law.specs.Threads.{TypesThreads}
 use Rattle.frame_law.proofs.Viewing.{all_none}
 use Rattle.frame_law.proofs.Undone.{undone_keep}

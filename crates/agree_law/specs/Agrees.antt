@@ -1,12 +1,12 @@
 -- TYPES STAY, whole, where no plain step is done (this project's rule).
 use Rattle.std.specs.Prelude.{◌≡◌, None}
-use Rattle.journal.specs.View.{EntryView}
-use Rattle.server_model.specs.declared.event.Event.{Event}
-use Rattle.server_model.specs.Servers.{Cluster}
-use Rattle.server_model.specs.Clusters.{apply}
-use Rattle.heap_law.specs.Coherent.{IsSound}
-use Rattle.type_law.specs.ClusterTypes.{Types, IsCoherent}
-use Rattle.event_law.specs.Laws.{Gives, FewEvents}
+use Rattle.local_law.specs.Below.journal.View.{EntryView}
+use Rattle.local_law.specs.Below.server_model.declared.event.Event.{Event}
+use Rattle.local_law.specs.Below.server_model.Servers.{Cluster}
+use Rattle.local_law.specs.Below.server_model.Clusters.{apply}
+use Rattle.local_law.specs.Below.heap_law.Coherent.{IsSound}
+use Rattle.local_law.specs.Below.type_law.ClusterTypes.{Types, IsCoherent}
+use Rattle.local_law.specs.Below.event_law.Laws.{Gives, FewEvents}
 
 -- each event of a coherent cluster, in which few were done, leads to one that has types, where its entry has no `done`
 abbrev pub UndoneKeepsTypes : Type 0

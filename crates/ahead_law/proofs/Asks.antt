@@ -1,40 +1,40 @@
 -- After a step of its own that asks on a read, no more is ahead of a thread.
 use Rattle.std.proofs.Common.{◌≡◌, ◌≤◌, ℕ, zero, suc, false, Option, Some, None, refl, sym, ap, subst, ◌∙◌, arith}
 use Rattle.std.specs.Prelude.{slice_get}
-use Rattle.fr_base.specs.declared.place.Lval.{Lval}
-use Rattle.fr_base.specs.declared.instruction.Instr.{Instr}
-use Rattle.fr_base.specs.declared.instruction.Instr.TheVariants as instr
-use Rattle.journal.specs.View.{EntryView}
-use Rattle.thread_state.specs.View.{ThreadState}
-use Rattle.thread_state.specs.declared.phase.Phase.{Phase}
-use Rattle.thread_state.specs.declared.phase.Phase.TheVariants as phase
-use Rattle.server_model.specs.declared.event.Event.{Event}
-use Rattle.server_model.specs.declared.event.What.TheVariants.{Step}
-use Rattle.server_model.specs.Servers.{Server, Cluster}
-use Rattle.server_model.specs.Clusters.{apply}
-use Rattle.server_model.specs.Work.{Hand}
-use Rattle.server_model.specs.Places.{in_slot}
-use Rattle.server_model.specs.Prepare.{requested, read_or_taken, access_of, prepare, read_stars}
-use Rattle.server_model.specs.Events.{Stepped, begin_work, wait_step}
-use Rattle.heap_law.specs.Names.{Among}
-use Rattle.heap_law.specs.Things.{things_of}
-use Rattle.heap_law.specs.Follow.{Standing, thread_at}
-use Rattle.heap_law.specs.Paths.{reads, path_of}
-use Rattle.heap_law.specs.Sight.{sight}
-use Rattle.heap_law.specs.Walking.{instr_of, path, words_kept}
-use Rattle.type_law.specs.ClusterTypes.{IsCoherent}
-use Rattle.path_law.specs.HeapStore.{GoesOn}
-use Rattle.path_law.proofs.Sole.{some_is}
-use Rattle.word_law.specs.Reworded.{HasPlaces}
-use Rattle.event_law.specs.Laws.{Gives, FewEvents}
-use Rattle.event_law.proofs.Results.{both_give, weaker}
-use Rattle.event_law.proofs.Sending.{applied_part}
-use Rattle.still_law.proofs.Told.{found}
-use Rattle.read_law.specs.Reading.{Reads, copies, shares, lends, dups, locks}
-use Rattle.result_law.proofs.Known.{Steps, goes, standing}
-use Rattle.wait_law.specs.Places.{LeadsAsItDid}
-use Rattle.wait_law.proofs.Stay.{undone_leave}
-use Rattle.walk_law.proofs.Followed.{same_settings}
+use Rattle.way_law.specs.Below.fr_base.declared.place.Lval.{Lval}
+use Rattle.way_law.specs.Below.fr_base.declared.instruction.Instr.{Instr}
+use Rattle.way_law.specs.Below.fr_base.declared.instruction.Instr.TheVariants as instr
+use Rattle.way_law.specs.Below.journal.View.{EntryView}
+use Rattle.way_law.specs.Below.thread_state.View.{ThreadState}
+use Rattle.way_law.specs.Below.thread_state.declared.phase.Phase.{Phase}
+use Rattle.way_law.specs.Below.thread_state.declared.phase.Phase.TheVariants as phase
+use Rattle.way_law.specs.Below.server_model.declared.event.Event.{Event}
+use Rattle.way_law.specs.Below.server_model.declared.event.What.TheVariants.{Step}
+use Rattle.way_law.specs.Below.server_model.Servers.{Server, Cluster}
+use Rattle.way_law.specs.Below.server_model.Clusters.{apply}
+use Rattle.way_law.specs.Below.server_model.Work.{Hand}
+use Rattle.way_law.specs.Below.server_model.Places.{in_slot}
+use Rattle.way_law.specs.Below.server_model.Prepare.{requested, read_or_taken, access_of, prepare, read_stars}
+use Rattle.way_law.specs.Below.server_model.Events.{Stepped, begin_work, wait_step}
+use Rattle.way_law.specs.Below.heap_law.Names.{Among}
+use Rattle.way_law.specs.Below.heap_law.Things.{things_of}
+use Rattle.way_law.specs.Below.heap_law.Follow.{Standing, thread_at}
+use Rattle.way_law.specs.Below.heap_law.Paths.{reads, path_of}
+use Rattle.way_law.specs.Below.heap_law.Sight.{sight}
+use Rattle.way_law.specs.Below.heap_law.Walking.{instr_of, path, words_kept}
+use Rattle.way_law.specs.Below.type_law.ClusterTypes.{IsCoherent}
+use Rattle.way_law.specs.Below.path_law.HeapStore.{GoesOn}
+use Rattle.way_law.proofs.Below.path_law.Sole.{some_is}
+use Rattle.way_law.specs.Below.word_law.Reworded.{HasPlaces}
+use Rattle.way_law.specs.Below.event_law.Laws.{Gives, FewEvents}
+use Rattle.way_law.proofs.Below.event_law.Results.{both_give, weaker}
+use Rattle.way_law.proofs.Below.event_law.Sending.{applied_part}
+use Rattle.way_law.proofs.Below.still_law.Told.{found}
+use Rattle.way_law.specs.Below.read_law.Reading.{Reads, copies, shares, lends, dups, locks}
+use Rattle.way_law.proofs.Below.result_law.Known.{Steps, goes, standing}
+use Rattle.way_law.specs.Below.wait_law.Places.{LeadsAsItDid}
+use Rattle.way_law.proofs.Below.wait_law.Stay.{undone_leave}
+use Rattle.way_law.proofs.Below.walk_law.Followed.{same_settings}
 use Rattle.way_law.proofs.Own.{Own, OwnIn, own_step, me, it_is}
 use Rattle.way_law.proofs.Outcomes.{IsCalm, AsksHome, a_lock, a_dup, a_join, Outcome, is_done, has_asked, asks_home, outcome}
 use Rattle.way_law.proofs.Behind.{number_then}

@@ -1,16 +1,16 @@
 -- How much is ahead on a read, star by star, and where no more is.
 use Rattle.std.proofs.Common.{◌≡◌, ◌≤◌, ◌<◌, ℕ, zero, suc, ◌+◌, not, nat_lt, Bool, true, false, if◌then◌else◌, List, [], ◌∷◌, ◌++◌, length, Option, Some, None, refl, sym, ap, ◌∙◌, arith, append-nil, append_assoc, length-append}
 use Rattle.std.proofs.lemmas.Bool.Decides.{nat_tests}
-use Rattle.fr_base.specs.declared.place.Lval.{Lval}
-use Rattle.heap_partition.specs.declared.value.Owned.TheVariants as owned
-use Rattle.thread_state.specs.declared.value.Value.{Value}
-use Rattle.thread_state.specs.declared.value.Value.TheVariants as value
-use Rattle.heap_law.specs.Names.{other}
-use Rattle.heap_law.specs.Things.{Location, at_slot, at_temp, in_cell}
-use Rattle.heap_law.specs.Follow.{Ground, leads, locate, hop_at, hops}
-use Rattle.heap_law.specs.Paths.{Awaited, to_read, all_to, is_at_hand, is_readable}
-use Rattle.heap_law.specs.Walking.{loose_hop}
-use Rattle.heap_law.proofs.Passing.{one_more}
+use Rattle.way_law.specs.Below.fr_base.declared.place.Lval.{Lval}
+use Rattle.way_law.specs.Below.heap_partition.declared.value.Owned.TheVariants as owned
+use Rattle.way_law.specs.Below.thread_state.declared.value.Value.{Value}
+use Rattle.way_law.specs.Below.thread_state.declared.value.Value.TheVariants as value
+use Rattle.way_law.specs.Below.heap_law.Names.{other}
+use Rattle.way_law.specs.Below.heap_law.Things.{Location, at_slot, at_temp, in_cell}
+use Rattle.way_law.specs.Below.heap_law.Follow.{Ground, leads, locate, hop_at, hops}
+use Rattle.way_law.specs.Below.heap_law.Paths.{Awaited, to_read, all_to, is_at_hand, is_readable}
+use Rattle.way_law.specs.Below.heap_law.Walking.{loose_hop}
+use Rattle.way_law.proofs.Below.heap_law.Passing.{one_more}
 use Rattle.ahead_law.specs.Ahead.{ahead_from}
 use Rattle.ahead_law.proofs.Lists.{from_few, read_single}
 

@@ -2,27 +2,27 @@
 use Rattle.std.proofs.Common.{◌≡◌, ◌≤◌, inl, ℕ, zero, suc, ◌+◌, ◌-◌, nat_le, Bool, true, false, List, ◌∷◌, ◌++◌, length, Option, Some, None, refl, sym, subst, arith}
 use Rattle.std.proofs.lemmas.Bool.Decides.{nat_tests}
 use Rattle.std.specs.Prelude.{slice_get}
-use Rattle.fr_base.specs.declared.instruction.Instr.{Instr}
-use Rattle.fr_base.specs.declared.instruction.Instr.TheVariants as instr
-use Rattle.fr_code.specs.CodeTypes.{Entry, Table, InstrTypes, i_assign, i_copy, i_move, i_borrow, i_borrow_mut, i_dup, i_lock}
-use Rattle.fr_code.specs.CodeTable.{Successors, Leads, to_next, ends as ends_thread, IsTable}
-use Rattle.thread_state.specs.View.{ThreadState}
-use Rattle.thread_state.specs.declared.value.Value.{Value}
-use Rattle.thread_state.specs.declared.value.Value.TheVariants as value
-use Rattle.server_model.specs.Servers.{Cluster}
-use Rattle.heap_law.specs.Names.{Among, other}
-use Rattle.heap_law.specs.Things.{Thing, at_slot, at_temp, borrows, stands, things_of, things_at, gift_things, walk_things, slot_things, temp_things}
-use Rattle.heap_law.specs.Follow.{Standing}
-use Rattle.heap_law.specs.Sight.{sight}
-use Rattle.heap_law.specs.Paths.{ending, taking, assigning, path_of}
-use Rattle.heap_law.specs.Walking.{path}
-use Rattle.heap_law.specs.Naming.{long_holder}
-use Rattle.heap_law.specs.Coherent.{IsSound}
-use Rattle.heap_law.proofs.Words.{none_at}
-use Rattle.type_law.specs.Names.{names_of}
-use Rattle.type_law.specs.ClusterTypes.{IsCoherent, Types, entry_wrong, gives_other}
-use Rattle.path_law.proofs.Origins.{among_first, among_second}
-use Rattle.path_law.proofs.Contained.{servers_contain, listed_in}
+use Rattle.way_law.specs.Below.fr_base.declared.instruction.Instr.{Instr}
+use Rattle.way_law.specs.Below.fr_base.declared.instruction.Instr.TheVariants as instr
+use Rattle.way_law.specs.Below.fr_code.CodeTypes.{Entry, Table, InstrTypes, i_assign, i_copy, i_move, i_borrow, i_borrow_mut, i_dup, i_lock}
+use Rattle.way_law.specs.Below.fr_code.CodeTable.{Successors, Leads, to_next, ends as ends_thread, IsTable}
+use Rattle.way_law.specs.Below.thread_state.View.{ThreadState}
+use Rattle.way_law.specs.Below.thread_state.declared.value.Value.{Value}
+use Rattle.way_law.specs.Below.thread_state.declared.value.Value.TheVariants as value
+use Rattle.way_law.specs.Below.server_model.Servers.{Cluster}
+use Rattle.way_law.specs.Below.heap_law.Names.{Among, other}
+use Rattle.way_law.specs.Below.heap_law.Things.{Thing, at_slot, at_temp, borrows, stands, things_of, things_at, gift_things, walk_things, slot_things, temp_things}
+use Rattle.way_law.specs.Below.heap_law.Follow.{Standing}
+use Rattle.way_law.specs.Below.heap_law.Sight.{sight}
+use Rattle.way_law.specs.Below.heap_law.Paths.{ending, taking, assigning, path_of}
+use Rattle.way_law.specs.Below.heap_law.Walking.{path}
+use Rattle.way_law.specs.Below.heap_law.Naming.{long_holder}
+use Rattle.way_law.specs.Below.heap_law.Coherent.{IsSound}
+use Rattle.way_law.proofs.Below.heap_law.Words.{none_at}
+use Rattle.way_law.specs.Below.type_law.Names.{names_of}
+use Rattle.way_law.specs.Below.type_law.ClusterTypes.{IsCoherent, Types, entry_wrong, gives_other}
+use Rattle.way_law.proofs.Below.path_law.Origins.{among_first, among_second}
+use Rattle.way_law.proofs.Below.path_law.Contained.{servers_contain, listed_in}
 use Rattle.ahead_law.specs.Ahead.{path_stars, EightAhead}
 use Rattle.ahead_law.proofs.Lists.{within_stars}
 

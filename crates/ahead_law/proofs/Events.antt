@@ -1,31 +1,31 @@
 -- What events leave of the hops ahead of a thread.
 use Rattle.std.proofs.Common.{◌≡◌, ◌≤◌, ℕ, ◌+◌, true, false, List, [], ◌∷◌, ◌++◌, Option, Some, None, refl, ap, arith}
-use Rattle.fr_base.specs.declared.instruction.Instr.{Instr}
-use Rattle.fr_base.specs.declared.instruction.Instr.TheVariants as instr
-use Rattle.thread_state.specs.View.{ThreadState}
-use Rattle.fr_base.specs.declared.name.ObjNo.{ObjNo}
-use Rattle.fr_base.specs.declared.place.Lval.{Lval}
-use Rattle.journal.specs.View.{EntryView}
-use Rattle.server_msgs.specs.declared.message.Message.TheVariants.{Move, Drop}
-use Rattle.server_model.specs.declared.event.Event.{Event}
-use Rattle.server_model.specs.Servers.{Cluster}
-use Rattle.server_model.specs.Clusters.{apply}
-use Rattle.heap_law.specs.Follow.{Standing}
-use Rattle.heap_law.specs.Paths.{Path, no_path, reads, shares, lends, writes, ends, path_of}
-use Rattle.heap_law.specs.Sight.{sight}
-use Rattle.heap_law.specs.Walking.{instr_of, path}
-use Rattle.event_law.specs.Kinds.{fetched}
-use Rattle.event_law.specs.Laws.{Gives}
-use Rattle.event_law.proofs.Results.{both_give, weaker}
-use Rattle.wait_law.specs.Places.{Follows}
-use Rattle.walk_law.specs.Pointers.{SamePointers}
-use Rattle.walk_law.specs.Steady.{AlikePointers}
-use Rattle.walk_law.proofs.Sentences.{SameOn}
-use Rattle.walk_law.proofs.Ways.{same_on}
-use Rattle.walk_law.proofs.Followed.{same_settings}
-use Rattle.walk_law.proofs.Others.{others_step}
-use Rattle.walk_law.proofs.Steady.{steady_pointers}
-use Rattle.walk_law.proofs.Delivered.{moves_pointers, drops_pointers}
+use Rattle.way_law.specs.Below.fr_base.declared.instruction.Instr.{Instr}
+use Rattle.way_law.specs.Below.fr_base.declared.instruction.Instr.TheVariants as instr
+use Rattle.way_law.specs.Below.thread_state.View.{ThreadState}
+use Rattle.way_law.specs.Below.fr_base.declared.name.ObjNo.{ObjNo}
+use Rattle.way_law.specs.Below.fr_base.declared.place.Lval.{Lval}
+use Rattle.way_law.specs.Below.journal.View.{EntryView}
+use Rattle.way_law.specs.Below.server_msgs.declared.message.Message.TheVariants.{Move, Drop}
+use Rattle.way_law.specs.Below.server_model.declared.event.Event.{Event}
+use Rattle.way_law.specs.Below.server_model.Servers.{Cluster}
+use Rattle.way_law.specs.Below.server_model.Clusters.{apply}
+use Rattle.way_law.specs.Below.heap_law.Follow.{Standing}
+use Rattle.way_law.specs.Below.heap_law.Paths.{Path, no_path, reads, shares, lends, writes, ends, path_of}
+use Rattle.way_law.specs.Below.heap_law.Sight.{sight}
+use Rattle.way_law.specs.Below.heap_law.Walking.{instr_of, path}
+use Rattle.way_law.specs.Below.event_law.Kinds.{fetched}
+use Rattle.way_law.specs.Below.event_law.Laws.{Gives}
+use Rattle.way_law.proofs.Below.event_law.Results.{both_give, weaker}
+use Rattle.way_law.specs.Below.wait_law.Places.{Follows}
+use Rattle.way_law.specs.Below.walk_law.Pointers.{SamePointers}
+use Rattle.way_law.specs.Below.walk_law.Steady.{AlikePointers}
+use Rattle.way_law.proofs.Below.walk_law.Sentences.{SameOn}
+use Rattle.way_law.proofs.Below.walk_law.Ways.{same_on}
+use Rattle.way_law.proofs.Below.walk_law.Followed.{same_settings}
+use Rattle.way_law.proofs.Below.walk_law.Others.{others_step}
+use Rattle.way_law.proofs.Below.walk_law.Steady.{steady_pointers}
+use Rattle.way_law.proofs.Below.walk_law.Delivered.{moves_pointers, drops_pointers}
 use Rattle.ahead_law.specs.Ahead.{ahead, ahead_on, SameAhead, OthersStepsLeaveAhead, SteadyEventsLeaveAhead, DeliveryLeavesAhead, with_copy, CopiesLeadOn}
 use Rattle.ahead_law.proofs.Same.{ahead_same}
 use Rattle.ahead_law.proofs.Lists.{copy_leads}

@@ -3,17 +3,17 @@ use Rattle.std.proofs.Common.{◌≡◌, ◌≤◌, ℕ, zero, suc, ◌+◌, ◌
 use Rattle.std.proofs.lemmas.List.{reverse-append}
 use Rattle.std.proofs.lemmas.Bool.Decides.{nat_tests}
 use Rattle.std.specs.Prelude.{reverse}
-use Rattle.fr_base.specs.Lists.{is_in}
-use Rattle.fr_base.specs.declared.place.Lval.{Lval}
-use Rattle.global_addr.specs.Words.{server_of}
-use Rattle.heap_partition.specs.declared.value.Owned.TheVariants as owned
-use Rattle.migration.specs.Packing.{pinned_words}
-use Rattle.thread_state.specs.declared.value.Value.{Value}
-use Rattle.thread_state.specs.declared.value.Value.TheVariants as value
-use Rattle.heap_law.specs.Follow.{Standing, Ground, hop_at, hops_from, hops}
-use Rattle.heap_law.specs.Sight.{Sight}
-use Rattle.heap_law.specs.Paths.{Path, no_path, reads, shares, lends, writes, ends, Awaited, is_spent, to_read, to_write, to_clean, all_to, borrow_to, awaited, is_readable, first_unreadable}
-use Rattle.heap_law.specs.Walking.{path, words_kept, first_of, next_hop, in_turn}
+use Rattle.way_law.specs.Below.fr_base.Lists.{is_in}
+use Rattle.way_law.specs.Below.fr_base.declared.place.Lval.{Lval}
+use Rattle.way_law.specs.Below.global_addr.Words.{server_of}
+use Rattle.way_law.specs.Below.heap_partition.declared.value.Owned.TheVariants as owned
+use Rattle.way_law.specs.Below.migration.Packing.{pinned_words}
+use Rattle.way_law.specs.Below.thread_state.declared.value.Value.{Value}
+use Rattle.way_law.specs.Below.thread_state.declared.value.Value.TheVariants as value
+use Rattle.way_law.specs.Below.heap_law.Follow.{Standing, Ground, hop_at, hops_from, hops}
+use Rattle.way_law.specs.Below.heap_law.Sight.{Sight}
+use Rattle.way_law.specs.Below.heap_law.Paths.{Path, no_path, reads, shares, lends, writes, ends, Awaited, is_spent, to_read, to_write, to_clean, all_to, borrow_to, awaited, is_readable, first_unreadable}
+use Rattle.way_law.specs.Below.heap_law.Walking.{path, words_kept, first_of, next_hop, in_turn}
 use Rattle.ahead_law.specs.Ahead.{ahead_from, ahead_on, path_stars, AheadWithinStars, with_copy}
 
 -- LENGTHS

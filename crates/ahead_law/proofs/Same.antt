@@ -2,18 +2,18 @@
 use Rattle.std.proofs.Common.{◌≡◌, ℕ, zero, suc, ◌≤◌, List, [], ◌∷◌, ◌++◌, Option, Some, None, refl, sym, ap, ◌∙◌, arith}
 use Rattle.std.specs.Prelude.{slice_get, reverse, map}
 use Rattle.std.proofs.lemmas.List.{map-append, reverse-append}
-use Rattle.fr_base.specs.declared.place.Lval.{Lval}
-use Rattle.heap_partition.specs.declared.value.Owned.TheVariants as owned
-use Rattle.thread_state.specs.declared.value.Value.{Value}
-use Rattle.thread_state.specs.declared.value.Value.TheVariants as value
-use Rattle.fr_base.specs.declared.settings.Options.{Options}
-use Rattle.server_model.specs.Servers.{Cluster}
-use Rattle.heap_law.specs.Follow.{Standing, Ground, hop_at, hops_from, hops}
-use Rattle.heap_law.specs.Paths.{Path, no_path, reads, shares, lends, writes, ends, path_of, Awaited, to_read, to_write, to_clean, all_to, borrow_to, awaited}
-use Rattle.heap_law.specs.Sight.{sight}
-use Rattle.heap_law.specs.Walking.{path, words_kept}
-use Rattle.word_law.specs.Unmoved.{pointing}
-use Rattle.walk_law.proofs.Sentences.{SameHops, SameOn}
+use Rattle.way_law.specs.Below.fr_base.declared.place.Lval.{Lval}
+use Rattle.way_law.specs.Below.heap_partition.declared.value.Owned.TheVariants as owned
+use Rattle.way_law.specs.Below.thread_state.declared.value.Value.{Value}
+use Rattle.way_law.specs.Below.thread_state.declared.value.Value.TheVariants as value
+use Rattle.way_law.specs.Below.fr_base.declared.settings.Options.{Options}
+use Rattle.way_law.specs.Below.server_model.Servers.{Cluster}
+use Rattle.way_law.specs.Below.heap_law.Follow.{Standing, Ground, hop_at, hops_from, hops}
+use Rattle.way_law.specs.Below.heap_law.Paths.{Path, no_path, reads, shares, lends, writes, ends, path_of, Awaited, to_read, to_write, to_clean, all_to, borrow_to, awaited}
+use Rattle.way_law.specs.Below.heap_law.Sight.{sight}
+use Rattle.way_law.specs.Below.heap_law.Walking.{path, words_kept}
+use Rattle.way_law.specs.Below.word_law.Unmoved.{pointing}
+use Rattle.way_law.proofs.Below.walk_law.Sentences.{SameHops, SameOn}
 use Rattle.ahead_law.specs.Ahead.{ahead_from, ahead_on, ahead}
 
 -- WHAT SEES NO PIN

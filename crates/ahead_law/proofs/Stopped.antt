@@ -2,45 +2,45 @@
 use Rattle.std.proofs.Common.{◌≡◌, ℕ, zero, suc, ◌<◌, ◌≤◌, ◌==◌, ◌&&◌, ◌||◌, not, nat_lt, Bool, true, false, List, Some, refl, sym, ap, subst, ◌∙◌, arith}
 use Rattle.std.specs.Prelude.{slice_get, slice_set}
 use Rattle.std.proofs.lemmas.Bool.Decides.{nat_tests}
-use Rattle.fr_base.specs.Lists.{is_in}
-use Rattle.fr_base.specs.declared.name.ObjNo.{ObjNo}
-use Rattle.fr_base.specs.declared.place.Lval.{Lval}
-use Rattle.fr_base.specs.declared.instruction.Instr.{Instr}
-use Rattle.fr_base.specs.declared.instruction.Instr.TheVariants as instr
-use Rattle.global_addr.specs.Words.{server_of, next_word}
-use Rattle.heap_partition.specs.declared.value.Cell.{Cell}
-use Rattle.journal.specs.View.{EntryView}
-use Rattle.migration.specs.Packing.{used_words}
-use Rattle.mut_borrow.specs.declared.mutable.MutRef.{MutRef}
-use Rattle.thread_state.specs.View.{ThreadState}
-use Rattle.thread_state.specs.declared.phase.Phase.TheVariants as phase
-use Rattle.thread_state.specs.declared.value.Value.{Value}
-use Rattle.thread_state.specs.declared.value.Value.TheVariants as value
-use Rattle.server_model.specs.Servers.{Server, Cluster}
-use Rattle.server_model.specs.Work.{Hand}
-use Rattle.server_model.specs.Places.{Spot, in_slot, value_at, took}
-use Rattle.server_model.specs.Prepare.{Prepared, ready, requested, nothing, and_then, access_of, prepare, read_star, read_stars}
-use Rattle.server_model.specs.Events.{begin_work, wait_step}
-use Rattle.heap_law.specs.Names.{other}
-use Rattle.heap_law.specs.Things.{Location, at_slot}
-use Rattle.heap_law.specs.Follow.{Standing, Ground, cell_of, value_of, value_behind, locate, hop_at}
-use Rattle.heap_law.specs.Paths.{is_at_hand}
-use Rattle.heap_law.specs.Sight.{sight}
-use Rattle.heap_law.specs.Walking.{words_kept, loose_hop}
-use Rattle.path_law.specs.HeapStore.{GoesOn, HasPaths}
-use Rattle.path_law.proofs.Sole.{some_is}
-use Rattle.word_law.specs.Reworded.{HasPlaces}
-use Rattle.read_law.specs.Reading.{Reads, MayRead}
-use Rattle.read_law.proofs.ReadPlaces.{may_read_there}
-use Rattle.result_law.proofs.Followed.{Place}
-use Rattle.result_law.proofs.Known.{Steps, goes, paths, standing}
-use Rattle.result_law.proofs.Readers.{IsFree, never_taken, begins}
-use Rattle.result_law.proofs.Reading.{Alike, Reading, parts, pinned_set}
-use Rattle.result_law.proofs.Starred.{bound, At, a_slot, a_cell, a_copy, seen}
-use Rattle.result_law.proofs.Usable.{times}
-use Rattle.write_law.proofs.Route.{set_other}
-use Rattle.ask_law.proofs.Unasked.{Unasked, stars_near}
-use Rattle.wait_law.specs.Places.{LeadsAsItDid}
+use Rattle.way_law.specs.Below.fr_base.Lists.{is_in}
+use Rattle.way_law.specs.Below.fr_base.declared.name.ObjNo.{ObjNo}
+use Rattle.way_law.specs.Below.fr_base.declared.place.Lval.{Lval}
+use Rattle.way_law.specs.Below.fr_base.declared.instruction.Instr.{Instr}
+use Rattle.way_law.specs.Below.fr_base.declared.instruction.Instr.TheVariants as instr
+use Rattle.way_law.specs.Below.global_addr.Words.{server_of, next_word}
+use Rattle.way_law.specs.Below.heap_partition.declared.value.Cell.{Cell}
+use Rattle.way_law.specs.Below.journal.View.{EntryView}
+use Rattle.way_law.specs.Below.migration.Packing.{used_words}
+use Rattle.way_law.specs.Below.mut_borrow.declared.mutable.MutRef.{MutRef}
+use Rattle.way_law.specs.Below.thread_state.View.{ThreadState}
+use Rattle.way_law.specs.Below.thread_state.declared.phase.Phase.TheVariants as phase
+use Rattle.way_law.specs.Below.thread_state.declared.value.Value.{Value}
+use Rattle.way_law.specs.Below.thread_state.declared.value.Value.TheVariants as value
+use Rattle.way_law.specs.Below.server_model.Servers.{Server, Cluster}
+use Rattle.way_law.specs.Below.server_model.Work.{Hand}
+use Rattle.way_law.specs.Below.server_model.Places.{Spot, in_slot, value_at, took}
+use Rattle.way_law.specs.Below.server_model.Prepare.{Prepared, ready, requested, nothing, and_then, access_of, prepare, read_star, read_stars}
+use Rattle.way_law.specs.Below.server_model.Events.{begin_work, wait_step}
+use Rattle.way_law.specs.Below.heap_law.Names.{other}
+use Rattle.way_law.specs.Below.heap_law.Things.{Location, at_slot}
+use Rattle.way_law.specs.Below.heap_law.Follow.{Standing, Ground, cell_of, value_of, value_behind, locate, hop_at}
+use Rattle.way_law.specs.Below.heap_law.Paths.{is_at_hand}
+use Rattle.way_law.specs.Below.heap_law.Sight.{sight}
+use Rattle.way_law.specs.Below.heap_law.Walking.{words_kept, loose_hop}
+use Rattle.way_law.specs.Below.path_law.HeapStore.{GoesOn, HasPaths}
+use Rattle.way_law.proofs.Below.path_law.Sole.{some_is}
+use Rattle.way_law.specs.Below.word_law.Reworded.{HasPlaces}
+use Rattle.way_law.specs.Below.read_law.Reading.{Reads, MayRead}
+use Rattle.way_law.proofs.Below.read_law.ReadPlaces.{may_read_there}
+use Rattle.way_law.proofs.Below.result_law.Followed.{Place}
+use Rattle.way_law.proofs.Below.result_law.Known.{Steps, goes, paths, standing}
+use Rattle.way_law.proofs.Below.result_law.Readers.{IsFree, never_taken, begins}
+use Rattle.way_law.proofs.Below.result_law.Reading.{Alike, Reading, parts, pinned_set}
+use Rattle.way_law.proofs.Below.result_law.Starred.{bound, At, a_slot, a_cell, a_copy, seen}
+use Rattle.way_law.proofs.Below.result_law.Usable.{times}
+use Rattle.way_law.proofs.Below.write_law.Route.{set_other}
+use Rattle.way_law.proofs.Below.ask_law.Unasked.{Unasked, stars_near}
+use Rattle.way_law.specs.Below.wait_law.Places.{LeadsAsItDid}
 use Rattle.way_law.proofs.Own.{Own}
 use Rattle.way_law.proofs.Stops.{ReadStops, read_stops}
 use Rattle.way_law.proofs.ReadStars.{Grows, ReadAsks, for_copy, for_tint, for_object, read_asks}

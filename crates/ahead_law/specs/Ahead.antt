@@ -1,29 +1,29 @@
 -- HOW MANY HOPS ARE AHEAD OF A THREAD on the place that it follows (this project's rule): those of a write that it hasn't passed, and those of a read from the
 -- first pointer on that it can't read. A step asks at most once for each.
 use Rattle.std.specs.Prelude.{◌≡◌, ◌≤◌, ℕ, suc, ◌+◌, ◌-◌, true, if◌then◌else◌, List, [], ◌∷◌, ◌++◌, length, Some}
-use Rattle.fr_base.specs.declared.instruction.Instr.{Instr}
-use Rattle.fr_base.specs.declared.place.Lval.{Lval}
-use Rattle.thread_state.specs.declared.phase.Phase.TheVariants as phase
-use Rattle.journal.specs.View.{EntryView}
-use Rattle.server_msgs.specs.declared.message.Message.{Message}
-use Rattle.server_model.specs.declared.event.Event.{Event}
-use Rattle.server_model.specs.declared.event.What.TheVariants.{Step}
-use Rattle.server_model.specs.Servers.{Cluster}
-use Rattle.server_model.specs.Clusters.{apply}
-use Rattle.heap_law.specs.Names.{Among}
-use Rattle.heap_law.specs.Follow.{Standing}
-use Rattle.heap_law.specs.Paths.{Path, no_path, reads, shares, lends, writes, ends, Awaited, awaited, is_readable}
-use Rattle.heap_law.specs.Sight.{Sight, sight}
-use Rattle.heap_law.specs.Walking.{instr_of, path, words_kept, in_turn}
-use Rattle.heap_law.specs.Coherent.{IsSound}
-use Rattle.type_law.specs.ClusterTypes.{IsCoherent}
-use Rattle.path_law.specs.HeapStore.{GoesOn}
-use Rattle.word_law.specs.Unmoved.{Delivers}
-use Rattle.event_law.specs.Kinds.{Kind, fetched}
-use Rattle.event_law.specs.Laws.{Gives, FewEvents}
-use Rattle.stay_law.specs.Laws.{IsOfKind}
-use Rattle.read_law.specs.Reading.{Reads}
-use Rattle.wait_law.specs.Steady.{IsSteady}
+use Rattle.way_law.specs.Below.fr_base.declared.instruction.Instr.{Instr}
+use Rattle.way_law.specs.Below.fr_base.declared.place.Lval.{Lval}
+use Rattle.way_law.specs.Below.thread_state.declared.phase.Phase.TheVariants as phase
+use Rattle.way_law.specs.Below.journal.View.{EntryView}
+use Rattle.way_law.specs.Below.server_msgs.declared.message.Message.{Message}
+use Rattle.way_law.specs.Below.server_model.declared.event.Event.{Event}
+use Rattle.way_law.specs.Below.server_model.declared.event.What.TheVariants.{Step}
+use Rattle.way_law.specs.Below.server_model.Servers.{Cluster}
+use Rattle.way_law.specs.Below.server_model.Clusters.{apply}
+use Rattle.way_law.specs.Below.heap_law.Names.{Among}
+use Rattle.way_law.specs.Below.heap_law.Follow.{Standing}
+use Rattle.way_law.specs.Below.heap_law.Paths.{Path, no_path, reads, shares, lends, writes, ends, Awaited, awaited, is_readable}
+use Rattle.way_law.specs.Below.heap_law.Sight.{Sight, sight}
+use Rattle.way_law.specs.Below.heap_law.Walking.{instr_of, path, words_kept, in_turn}
+use Rattle.way_law.specs.Below.heap_law.Coherent.{IsSound}
+use Rattle.way_law.specs.Below.type_law.ClusterTypes.{IsCoherent}
+use Rattle.way_law.specs.Below.path_law.HeapStore.{GoesOn}
+use Rattle.way_law.specs.Below.word_law.Unmoved.{Delivers}
+use Rattle.way_law.specs.Below.event_law.Kinds.{Kind, fetched}
+use Rattle.way_law.specs.Below.event_law.Laws.{Gives, FewEvents}
+use Rattle.way_law.specs.Below.stay_law.Laws.{IsOfKind}
+use Rattle.way_law.specs.Below.read_law.Reading.{Reads}
+use Rattle.way_law.specs.Below.wait_law.Steady.{IsSteady}
 
 -- those from the first one on that can't be read, with so many words kept at that server
 abbrev pub ahead_from : List ℕ → ℕ → List Awaited → ℕ

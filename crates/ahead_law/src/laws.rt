@@ -1,8 +1,8 @@
 //! Laws of how many hops a thread has ahead of it.
 
 ghost use Rattle.std.specs.Prelude.{ℕ};
-ghost use Rattle.server_msgs.specs.declared.message.Message.TheVariants.{Drop, Move};
-ghost use Rattle.fr_base.specs.declared.name.ObjNo.{ObjNo};
+ghost use Rattle.way_law.specs.Below.server_msgs.declared.message.Message.TheVariants.{Drop, Move};
+ghost use Rattle.way_law.specs.Below.fr_base.declared.name.ObjNo.{ObjNo};
 ghost use Rattle.ahead_law.specs.Ahead.{AheadWithinStars, CopiesLeadOn, DeliveryLeavesAhead, EightAhead, OthersStepsLeaveAhead, OwnReadsLeaveNoMore, SteadyEventsLeaveAhead};
 
 /// A thread has at most as many hops ahead of it as the place that it follows has stars, or the place of the holder of a reference that it ends: in a coherent

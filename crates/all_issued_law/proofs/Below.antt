@@ -1,3 +1,21 @@
 -- What this law stands on, passed on to the laws above it, which need not list that then.
+pub use Rattle.copy_law.proofs.Below.carry_law as carry_law
+pub use Rattle.copy_law.proofs as copy_law
+pub use Rattle.old_words_law.proofs.Below.event_law as event_law
+pub use Rattle.old_words_law.proofs.Below.fr_typing as fr_typing
+pub use Rattle.regain_law.proofs.Below.free_law as free_law
+pub use Rattle.old_words_law.proofs.Below.heap_law as heap_law
 pub use Rattle.issue_law.proofs as issue_law
+pub use Rattle.old_words_law.proofs as old_words_law
+pub use Rattle.old_words_law.proofs.Below.owner_box as owner_box
+pub use Rattle.copy_law.proofs.Below.path_law as path_law
+pub use Rattle.copy_law.proofs.Below.prepare_law as prepare_law
+pub use Rattle.copy_law.proofs.Below.read_law as read_law
+pub use Rattle.regain_law.proofs.Below.refs_law as refs_law
 pub use Rattle.regain_law.proofs as regain_law
+pub use Rattle.old_words_law.proofs.Below.result_law as result_law
+pub use Rattle.copy_law.proofs.Below.stay_law as stay_law
+pub use Rattle.old_words_law.proofs.Below.still_law as still_law
+pub use Rattle.copy_law.proofs.Below.value_law as value_law
+pub use Rattle.issue_law.proofs.Below.wait_law as wait_law
+pub use Rattle.old_words_law.proofs.Below.word_law as word_law

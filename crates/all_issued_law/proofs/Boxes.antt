@@ -1,44 +1,44 @@
 -- The step of a thread that makes an object: its server's partition takes it, and its word is new.
 use Rattle.std.proofs.Common.{◌≡◌, ℕ, true, nat_lt, Option, Some, None, option_map, refl, sym, ap, subst, ◌∙◌}
 use Rattle.std.specs.Prelude.{slice_get}
-use Rattle.fr_base.specs.Lists.{last_of}
-use Rattle.fr_base.specs.declared.name.ObjNo.{ObjNo}
-use Rattle.fr_base.specs.declared.instruction.Instr.TheVariants as instr
-use Rattle.fr_base.specs.declared.instruction.Operand.{Operand}
-use Rattle.fr_base.specs.declared.instruction.Operand.TheVariants as operand
-use Rattle.fr_base.specs.declared.step.Fresh.TheVariants as fresh
-use Rattle.global_addr.specs.Words.{colour_of}
-use Rattle.heap_partition.specs.declared.value.Cell.{Cell}
-use Rattle.heap_partition.specs.declared.value.Owned.{Owned}
-use Rattle.journal.specs.View.{EntryView}
-use Rattle.journal.specs.declared.act.Act.TheVariants as act
-use Rattle.migration.specs.Packing.{unpin_all}
-use Rattle.owner_box.specs.View.{PartitionState}
-use Rattle.owner_box.specs.Partition.{made}
-use Rattle.thread_state.specs.View.{ThreadState}
-use Rattle.thread_state.specs.declared.value.Value.{Value}
-use Rattle.server_model.specs.declared.event.Event.{Event}
-use Rattle.server_model.specs.declared.event.What.TheVariants.{Step}
-use Rattle.server_model.specs.Servers.{Rest, Server, Cluster, server_at}
-use Rattle.server_model.specs.Work.{Hand, Popped, pop, pop_owned, taken_as, owned_of, then_some, thread_in}
-use Rattle.server_model.specs.NewWords.{NewWord, can_grow, issue_placed}
-use Rattle.server_model.specs.Commit.{go_on, goes_on, next_object, push_box, make_box, box_up, settle}
-use Rattle.server_model.specs.Events.{Stepped, begin_work, done_step, committed, step, step_in, stepped, does}
-use Rattle.server_model.specs.Clusters.{apply}
-use Rattle.heap_law.specs.Names.{Among}
-use Rattle.heap_law.specs.Things.{lies, things_of}
-use Rattle.heap_law.specs.Sight.{issued, sight}
-use Rattle.heap_law.specs.Words.{HasWords, WordsLaw}
-use Rattle.heap_law.proofs.Words.{words_law}
-use Rattle.type_law.specs.ClusterTypes.{IsCoherent}
-use Rattle.path_law.proofs.Sole.{some_is}
-use Rattle.event_law.specs.Laws.{Gives, FewEvents}
-use Rattle.event_law.proofs.Results.{map_gives, over_gives, bind_gives, test_gives, both_give}
-use Rattle.still_law.proofs.Addresses.{InPlace, in_place}
-use Rattle.still_law.proofs.Leaving.{others, placed_here}
-use Rattle.prepare_law.specs.Requests.{WordsRise}
-use Rattle.made_law.specs.Boxes.{HasNewWord}
-use Rattle.made_law.proofs.Boxes.{boxes_keep}
+use Rattle.old_words_law.specs.Below.fr_base.Lists.{last_of}
+use Rattle.old_words_law.specs.Below.fr_base.declared.name.ObjNo.{ObjNo}
+use Rattle.old_words_law.specs.Below.fr_base.declared.instruction.Instr.TheVariants as instr
+use Rattle.old_words_law.specs.Below.fr_base.declared.instruction.Operand.{Operand}
+use Rattle.old_words_law.specs.Below.fr_base.declared.instruction.Operand.TheVariants as operand
+use Rattle.old_words_law.specs.Below.fr_base.declared.step.Fresh.TheVariants as fresh
+use Rattle.old_words_law.specs.Below.global_addr.Words.{colour_of}
+use Rattle.old_words_law.specs.Below.heap_partition.declared.value.Cell.{Cell}
+use Rattle.old_words_law.specs.Below.heap_partition.declared.value.Owned.{Owned}
+use Rattle.old_words_law.specs.Below.journal.View.{EntryView}
+use Rattle.old_words_law.specs.Below.journal.declared.act.Act.TheVariants as act
+use Rattle.old_words_law.specs.Below.migration.Packing.{unpin_all}
+use Rattle.old_words_law.specs.Below.owner_box.View.{PartitionState}
+use Rattle.old_words_law.specs.Below.owner_box.Partition.{made}
+use Rattle.old_words_law.specs.Below.thread_state.View.{ThreadState}
+use Rattle.old_words_law.specs.Below.thread_state.declared.value.Value.{Value}
+use Rattle.old_words_law.specs.Below.server_model.declared.event.Event.{Event}
+use Rattle.old_words_law.specs.Below.server_model.declared.event.What.TheVariants.{Step}
+use Rattle.old_words_law.specs.Below.server_model.Servers.{Rest, Server, Cluster, server_at}
+use Rattle.old_words_law.specs.Below.server_model.Work.{Hand, Popped, pop, pop_owned, taken_as, owned_of, then_some, thread_in}
+use Rattle.old_words_law.specs.Below.server_model.NewWords.{NewWord, can_grow, issue_placed}
+use Rattle.old_words_law.specs.Below.server_model.Commit.{go_on, goes_on, next_object, push_box, make_box, box_up, settle}
+use Rattle.old_words_law.specs.Below.server_model.Events.{Stepped, begin_work, done_step, committed, step, step_in, stepped, does}
+use Rattle.old_words_law.specs.Below.server_model.Clusters.{apply}
+use Rattle.old_words_law.specs.Below.heap_law.Names.{Among}
+use Rattle.old_words_law.specs.Below.heap_law.Things.{lies, things_of}
+use Rattle.old_words_law.specs.Below.heap_law.Sight.{issued, sight}
+use Rattle.old_words_law.specs.Below.heap_law.Words.{HasWords, WordsLaw}
+use Rattle.old_words_law.proofs.Below.heap_law.Words.{words_law}
+use Rattle.old_words_law.specs.Below.type_law.ClusterTypes.{IsCoherent}
+use Rattle.copy_law.proofs.Below.path_law.Sole.{some_is}
+use Rattle.old_words_law.specs.Below.event_law.Laws.{Gives, FewEvents}
+use Rattle.old_words_law.proofs.Below.event_law.Results.{map_gives, over_gives, bind_gives, test_gives, both_give}
+use Rattle.old_words_law.proofs.Below.still_law.Addresses.{InPlace, in_place}
+use Rattle.old_words_law.proofs.Below.still_law.Leaving.{others, placed_here}
+use Rattle.copy_law.specs.Below.prepare_law.Requests.{WordsRise}
+use Rattle.regain_law.specs.Below.made_law.Boxes.{HasNewWord}
+use Rattle.regain_law.proofs.Below.made_law.Boxes.{boxes_keep}
 use Rattle.regain_law.proofs.Each.{words_rise}
 use Rattle.all_issued_law.specs.Issued.{BoxesKeepWhatWasIssued}
 use Rattle.all_issued_law.proofs.Places.{next_address, Comes, comes_made}

@@ -1,27 +1,27 @@
 -- An object comes to a server, from its partition to the cluster with the messages handed over.
 use Rattle.std.proofs.Common.{◌≡◌, ◌≤◌, inl, inr, ℕ, ◌+◌, true, false, Bool, nat_lt, Some, option_map, refl, sym, ap, subst, ◌∙◌, arith}
-use Rattle.fr_base.specs.declared.name.ObjNo.{ObjNo}
-use Rattle.global_addr.specs.Words.{colour_of}
-use Rattle.heap_partition.specs.declared.value.Cell.{Cell}
-use Rattle.journal.specs.View.{EntryView}
-use Rattle.server_model.specs.declared.event.Event.{Event}
-use Rattle.server_model.specs.Servers.{Server, Cluster, server_at}
-use Rattle.server_model.specs.Work.{then_some}
-use Rattle.server_model.specs.Events.{enabled, does}
-use Rattle.server_model.specs.Clusters.{with_server, done_at, act_at, apply}
-use Rattle.heap_law.specs.Names.{Among, tot, one, same_object}
-use Rattle.heap_law.specs.Things.{Thing, lies, partition_things, servers_things, things_of}
-use Rattle.heap_law.specs.Sight.{issued, sight}
-use Rattle.heap_law.specs.Coherent.{IsSound}
-use Rattle.heap_law.proofs.Words.{named, itself}
-use Rattle.event_law.specs.Laws.{Gives, FewEvents}
-use Rattle.event_law.proofs.Sound.{sound_has_sums}
-use Rattle.event_law.proofs.Results.{over_gives, test_gives}
-use Rattle.event_law.proofs.Events.{others_of, tot-server}
-use Rattle.event_law.proofs.Applied.{handed_on}
-use Rattle.event_law.proofs.Sending.{each_event_sends}
+use Rattle.old_words_law.specs.Below.fr_base.declared.name.ObjNo.{ObjNo}
+use Rattle.old_words_law.specs.Below.global_addr.Words.{colour_of}
+use Rattle.old_words_law.specs.Below.heap_partition.declared.value.Cell.{Cell}
+use Rattle.old_words_law.specs.Below.journal.View.{EntryView}
+use Rattle.old_words_law.specs.Below.server_model.declared.event.Event.{Event}
+use Rattle.old_words_law.specs.Below.server_model.Servers.{Server, Cluster, server_at}
+use Rattle.old_words_law.specs.Below.server_model.Work.{then_some}
+use Rattle.old_words_law.specs.Below.server_model.Events.{enabled, does}
+use Rattle.old_words_law.specs.Below.server_model.Clusters.{with_server, done_at, act_at, apply}
+use Rattle.old_words_law.specs.Below.heap_law.Names.{Among, tot, one, same_object}
+use Rattle.old_words_law.specs.Below.heap_law.Things.{Thing, lies, partition_things, servers_things, things_of}
+use Rattle.old_words_law.specs.Below.heap_law.Sight.{issued, sight}
+use Rattle.old_words_law.specs.Below.heap_law.Coherent.{IsSound}
+use Rattle.old_words_law.proofs.Below.heap_law.Words.{named, itself}
+use Rattle.old_words_law.specs.Below.event_law.Laws.{Gives, FewEvents}
+use Rattle.old_words_law.proofs.Below.event_law.Sound.{sound_has_sums}
+use Rattle.old_words_law.proofs.Below.event_law.Results.{over_gives, test_gives}
+use Rattle.old_words_law.proofs.Below.event_law.Events.{others_of, tot-server}
+use Rattle.old_words_law.proofs.Below.event_law.Applied.{handed_on}
+use Rattle.old_words_law.proofs.Below.event_law.Sending.{each_event_sends}
 use Rattle.issue_law.proofs.Elsewhere.{SeesAddresses, partition_alone}
-use Rattle.prepare_law.specs.Requests.{WordsRise}
+use Rattle.copy_law.specs.Below.prepare_law.Requests.{WordsRise}
 use Rattle.all_issued_law.proofs.Places.{spotted, spotted_sees, lying, lying_sees, laid, laid_sees, next_address, Comes}
 use Rattle.all_issued_law.proofs.Rising.{weighs, Lay, still_issued, states_differ}
 

@@ -1,28 +1,28 @@
 -- No word of a copy is new, and none in what a copy holds, cached or on its way: after each event.
 use Rattle.std.proofs.Common.{◌≡◌, ◌≤◌, ℕ, ◌+◌, refl, arith}
-use Rattle.global_addr.specs.Words.{address_of}
-use Rattle.heap_partition.specs.declared.value.Cell.{Cell}
-use Rattle.journal.specs.View.{EntryView}
-use Rattle.server_msgs.specs.declared.message.Message.{Message}
-use Rattle.server_msgs.specs.declared.message.Message.TheVariants as message
-use Rattle.server_model.specs.declared.event.Event.{Event}
-use Rattle.server_model.specs.Servers.{Cluster}
-use Rattle.server_model.specs.Clusters.{apply}
-use Rattle.heap_law.specs.Names.{tot}
-use Rattle.heap_law.specs.Things.{Thing, copied, sent, things_of}
-use Rattle.heap_law.specs.Placing.{owned_word, message_word, words}
-use Rattle.heap_law.specs.Coherent.{IsSound}
-use Rattle.event_law.specs.Laws.{Gives, FewEvents}
-use Rattle.heap_law.proofs.Sums.{server_parts}
-use Rattle.event_law.proofs.Boxes.{tot_le}
-use Rattle.event_law.proofs.Cells.{looked, frees}
-use Rattle.event_law.proofs.Events.{tot-server}
-use Rattle.event_law.proofs.MutexResults.{has}
-use Rattle.event_law.proofs.ObjectMessages.{looked_object}
-use Rattle.still_law.proofs.Addresses.{lies_alone, in_place}
-use Rattle.still_law.proofs.Leaving.{others, placed_here}
-use Rattle.event_law.proofs.Results.{weaker}
-use Rattle.value_law.proofs.Sums.{copy_of}
+use Rattle.old_words_law.specs.Below.global_addr.Words.{address_of}
+use Rattle.old_words_law.specs.Below.heap_partition.declared.value.Cell.{Cell}
+use Rattle.old_words_law.specs.Below.journal.View.{EntryView}
+use Rattle.old_words_law.specs.Below.server_msgs.declared.message.Message.{Message}
+use Rattle.old_words_law.specs.Below.server_msgs.declared.message.Message.TheVariants as message
+use Rattle.old_words_law.specs.Below.server_model.declared.event.Event.{Event}
+use Rattle.old_words_law.specs.Below.server_model.Servers.{Cluster}
+use Rattle.old_words_law.specs.Below.server_model.Clusters.{apply}
+use Rattle.old_words_law.specs.Below.heap_law.Names.{tot}
+use Rattle.old_words_law.specs.Below.heap_law.Things.{Thing, copied, sent, things_of}
+use Rattle.old_words_law.specs.Below.heap_law.Placing.{owned_word, message_word, words}
+use Rattle.old_words_law.specs.Below.heap_law.Coherent.{IsSound}
+use Rattle.old_words_law.specs.Below.event_law.Laws.{Gives, FewEvents}
+use Rattle.old_words_law.proofs.Below.heap_law.Sums.{server_parts}
+use Rattle.old_words_law.proofs.Below.event_law.Boxes.{tot_le}
+use Rattle.old_words_law.proofs.Below.event_law.Cells.{looked, frees}
+use Rattle.old_words_law.proofs.Below.event_law.Events.{tot-server}
+use Rattle.old_words_law.proofs.Below.event_law.MutexResults.{has}
+use Rattle.old_words_law.proofs.Below.event_law.ObjectMessages.{looked_object}
+use Rattle.old_words_law.proofs.Below.still_law.Addresses.{lies_alone, in_place}
+use Rattle.old_words_law.proofs.Below.still_law.Leaving.{others, placed_here}
+use Rattle.old_words_law.proofs.Below.event_law.Results.{weaker}
+use Rattle.copy_law.proofs.Below.value_law.Sums.{copy_of}
 use Rattle.copy_law.proofs.Comes.{ServedWeighNothing, copies_come}
 use Rattle.old_words_law.specs.Old.{unissued}
 use Rattle.all_issued_law.specs.Issued.{copied_words, CopiesHaveOldWords}

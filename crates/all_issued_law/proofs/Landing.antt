@@ -1,26 +1,26 @@
 -- The delivery of an object that comes: its server's partition takes it, and one pointer there gets its word.
 use Rattle.std.proofs.Common.{◌≡◌, ℕ, zero, suc, ◌+◌, ◌-◌, ◌==◌, Bool, true, false, if◌then◌else◌, List, Option, Some, None}
 use Rattle.std.specs.Prelude.{slice_get, option_map}
-use Rattle.fr_base.specs.declared.name.ObjNo.{ObjNo}
-use Rattle.fr_base.specs.declared.instruction.Instr.{Instr}
-use Rattle.fr_base.specs.declared.place.Lval.{Lval}
-use Rattle.heap_partition.specs.declared.value.Cell.{Cell}
-use Rattle.owner_box.specs.View.{PartitionState}
-use Rattle.thread_state.specs.View.{ThreadState}
-use Rattle.thread_state.specs.declared.phase.Phase.TheVariants as phase
-use Rattle.thread_state.specs.declared.value.Value.{Value}
-use Rattle.thread_state.specs.declared.value.Value.TheVariants as value
-use Rattle.journal.specs.declared.act.Act.TheVariants as act
-use Rattle.server_model.specs.Servers.{Rest}
-use Rattle.server_model.specs.Work.{Hand, Site, with_phase, then_some, put_back, thread_in, at_thread}
-use Rattle.server_model.specs.NewWords.{NewWord, can_grow, issue_placed}
-use Rattle.server_model.specs.Places.{Spot, in_slot, value_at, with_word, set_pointer}
-use Rattle.server_model.specs.Prepare.{Access, ReadTo, ReadPointer, WriteTo, LendTo, EndRef, passing, write_stars}
-use Rattle.server_model.specs.Objects.{waits_for_cell, chased, waits_under, arrived_at, arrived_slot, passed_spot, arrived_write, arrived_lend, arrived_end, arrived, instr_access, deliver_moved}
-use Rattle.event_law.specs.Laws.{Gives}
-use Rattle.event_law.proofs.Results.{then_gives, over_gives, bind_gives, test_gives}
-use Rattle.local_law.proofs.Goes.{puts_by}
-use Rattle.still_law.proofs.Addresses.{InPlace}
+use Rattle.old_words_law.specs.Below.fr_base.declared.name.ObjNo.{ObjNo}
+use Rattle.old_words_law.specs.Below.fr_base.declared.instruction.Instr.{Instr}
+use Rattle.old_words_law.specs.Below.fr_base.declared.place.Lval.{Lval}
+use Rattle.old_words_law.specs.Below.heap_partition.declared.value.Cell.{Cell}
+use Rattle.old_words_law.specs.Below.owner_box.View.{PartitionState}
+use Rattle.old_words_law.specs.Below.thread_state.View.{ThreadState}
+use Rattle.old_words_law.specs.Below.thread_state.declared.phase.Phase.TheVariants as phase
+use Rattle.old_words_law.specs.Below.thread_state.declared.value.Value.{Value}
+use Rattle.old_words_law.specs.Below.thread_state.declared.value.Value.TheVariants as value
+use Rattle.old_words_law.specs.Below.journal.declared.act.Act.TheVariants as act
+use Rattle.old_words_law.specs.Below.server_model.Servers.{Rest}
+use Rattle.old_words_law.specs.Below.server_model.Work.{Hand, Site, with_phase, then_some, put_back, thread_in, at_thread}
+use Rattle.old_words_law.specs.Below.server_model.NewWords.{NewWord, can_grow, issue_placed}
+use Rattle.old_words_law.specs.Below.server_model.Places.{Spot, in_slot, value_at, with_word, set_pointer}
+use Rattle.old_words_law.specs.Below.server_model.Prepare.{Access, ReadTo, ReadPointer, WriteTo, LendTo, EndRef, passing, write_stars}
+use Rattle.old_words_law.specs.Below.server_model.Objects.{waits_for_cell, chased, waits_under, arrived_at, arrived_slot, passed_spot, arrived_write, arrived_lend, arrived_end, arrived, instr_access, deliver_moved}
+use Rattle.old_words_law.specs.Below.event_law.Laws.{Gives}
+use Rattle.old_words_law.proofs.Below.event_law.Results.{then_gives, over_gives, bind_gives, test_gives}
+use Rattle.old_words_law.proofs.Below.local_law.Goes.{puts_by}
+use Rattle.old_words_law.proofs.Below.still_law.Addresses.{InPlace}
 use Rattle.all_issued_law.proofs.Places.{Comes, comes_made, comes_stored}
 
 module _ (colours n : ℕ) (start : PartitionState) (o : ObjNo) where

@@ -3,25 +3,25 @@ use Rattle.std.proofs.Common.{◌≡◌, ◌≤◌, ℕ, ◌+◌, ◌==◌, ◌&
 use Rattle.std.specs.Prelude.{length, is_some, slice_get}
 use Rattle.std.proofs.lemmas.Bool.{eq-eqb}
 use Rattle.std.proofs.lemmas.Bool.Decides.{nat_tests}
-use Rattle.fr_base.specs.declared.name.ObjNo.{ObjNo}
-use Rattle.global_addr.specs.Words.{colour_of, server_of, address_of}
-use Rattle.heap_partition.specs.declared.value.Cell.{Cell}
-use Rattle.heap_partition.specs.declared.value.Owned.{Owned}
-use Rattle.colour_retire.specs.Colours.{picked}
-use Rattle.owner_box.specs.View.{PartitionState}
-use Rattle.owner_box.specs.Partition.{with_value, cell_of, stored, made, freed, made_again, renewed}
-use Rattle.server_model.specs.Servers.{Rest}
-use Rattle.server_model.specs.Work.{look, leads_here}
-use Rattle.server_model.specs.NewWords.{can_grow, is_last}
-use Rattle.heap_law.specs.Names.{tot, one, same_object}
-use Rattle.heap_law.specs.Things.{Thing, lies, vacant, retired, partition_things}
-use Rattle.heap_law.specs.Sight.{is_spot}
-use Rattle.heap_law.specs.Weights.{states}
-use Rattle.heap_law.proofs.Names.{and_left, and_right}
-use Rattle.heap_law.proofs.Words.{itself}
-use Rattle.event_law.proofs.Cells.{left_by, looked, frees}
-use Rattle.event_law.proofs.Objects.{length_set, taken_place, makes}
-use Rattle.still_law.proofs.Addresses.{InPlace, lies_alone, next_empty, renews}
+use Rattle.old_words_law.specs.Below.fr_base.declared.name.ObjNo.{ObjNo}
+use Rattle.old_words_law.specs.Below.global_addr.Words.{colour_of, server_of, address_of}
+use Rattle.old_words_law.specs.Below.heap_partition.declared.value.Cell.{Cell}
+use Rattle.old_words_law.specs.Below.heap_partition.declared.value.Owned.{Owned}
+use Rattle.old_words_law.specs.Below.colour_retire.Colours.{picked}
+use Rattle.old_words_law.specs.Below.owner_box.View.{PartitionState}
+use Rattle.old_words_law.specs.Below.owner_box.Partition.{with_value, cell_of, stored, made, freed, made_again, renewed}
+use Rattle.old_words_law.specs.Below.server_model.Servers.{Rest}
+use Rattle.old_words_law.specs.Below.server_model.Work.{look, leads_here}
+use Rattle.old_words_law.specs.Below.server_model.NewWords.{can_grow, is_last}
+use Rattle.old_words_law.specs.Below.heap_law.Names.{tot, one, same_object}
+use Rattle.old_words_law.specs.Below.heap_law.Things.{Thing, lies, vacant, retired, partition_things}
+use Rattle.old_words_law.specs.Below.heap_law.Sight.{is_spot}
+use Rattle.old_words_law.specs.Below.heap_law.Weights.{states}
+use Rattle.old_words_law.proofs.Below.heap_law.Names.{and_left, and_right}
+use Rattle.old_words_law.proofs.Below.heap_law.Words.{itself}
+use Rattle.old_words_law.proofs.Below.event_law.Cells.{left_by, looked, frees}
+use Rattle.old_words_law.proofs.Below.event_law.Objects.{length_set, taken_place, makes}
+use Rattle.old_words_law.proofs.Below.still_law.Addresses.{InPlace, lies_alone, next_empty, renews}
 use Rattle.issue_law.proofs.Addresses.{same_itself, stores_same}
 use Rattle.issue_law.proofs.Elsewhere.{NoAddress, SeesAddresses, same_weight}
 

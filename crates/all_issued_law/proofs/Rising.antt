@@ -2,23 +2,23 @@
 use Rattle.std.proofs.Common.{◌≡◌, ◌⊎◌, inl, inr, ⊎_elim, ℕ, ◌≤◌, ◌==◌, ◌&&◌, ◌||◌, Bool, true, false, nat_lt, nat_le, List, [], ◌∷◌, Option, Some, None, refl, sym, ap, ap₂, subst, ◌∙◌, arith}
 use Rattle.std.proofs.lemmas.Bool.{eq-eqb}
 use Rattle.std.proofs.lemmas.Bool.Decides.{nat_tests}
-use Rattle.fr_base.specs.declared.name.ObjNo.{ObjNo}
-use Rattle.global_addr.specs.Words.{colour_of, server_of, address_of}
-use Rattle.heap_partition.specs.declared.value.Cell.{Cell}
-use Rattle.server_model.specs.Servers.{Cluster}
-use Rattle.heap_law.specs.Names.{Among, tot, one, same_object}
-use Rattle.heap_law.specs.Things.{Thing, lies, vacant, retired, counts, things_of}
-use Rattle.heap_law.specs.Sight.{Pointer, is_spot, colour_up_to, word_of_object, is_issued_at, is_issued, issued, word, sight}
-use Rattle.heap_law.specs.Weights.{states, below}
-use Rattle.heap_law.specs.Balances.{AtMostOne}
-use Rattle.heap_law.specs.Words.{WordsLaw, LeadsTo}
-use Rattle.heap_law.proofs.Names.{and_left, and_right, same_number}
-use Rattle.heap_law.proofs.Words.{words_law, named}
-use Rattle.path_law.proofs.InState.{only_one}
-use Rattle.event_law.specs.Sums.{Sums, is_server}
-use Rattle.event_law.proofs.Boxes.{tot_le}
-use Rattle.read_law.proofs.Flights.{found, truly}
-use Rattle.prepare_law.specs.Requests.{WordsRise}
+use Rattle.old_words_law.specs.Below.fr_base.declared.name.ObjNo.{ObjNo}
+use Rattle.old_words_law.specs.Below.global_addr.Words.{colour_of, server_of, address_of}
+use Rattle.old_words_law.specs.Below.heap_partition.declared.value.Cell.{Cell}
+use Rattle.old_words_law.specs.Below.server_model.Servers.{Cluster}
+use Rattle.old_words_law.specs.Below.heap_law.Names.{Among, tot, one, same_object}
+use Rattle.old_words_law.specs.Below.heap_law.Things.{Thing, lies, vacant, retired, counts, things_of}
+use Rattle.old_words_law.specs.Below.heap_law.Sight.{Pointer, is_spot, colour_up_to, word_of_object, is_issued_at, is_issued, issued, word, sight}
+use Rattle.old_words_law.specs.Below.heap_law.Weights.{states, below}
+use Rattle.old_words_law.specs.Below.heap_law.Balances.{AtMostOne}
+use Rattle.old_words_law.specs.Below.heap_law.Words.{WordsLaw, LeadsTo}
+use Rattle.old_words_law.proofs.Below.heap_law.Names.{and_left, and_right, same_number}
+use Rattle.old_words_law.proofs.Below.heap_law.Words.{words_law, named}
+use Rattle.copy_law.proofs.Below.path_law.InState.{only_one}
+use Rattle.old_words_law.specs.Below.event_law.Sums.{Sums, is_server}
+use Rattle.old_words_law.proofs.Below.event_law.Boxes.{tot_le}
+use Rattle.copy_law.proofs.Below.read_law.Flights.{found, truly}
+use Rattle.copy_law.specs.Below.prepare_law.Requests.{WordsRise}
 use Rattle.all_issued_law.proofs.Places.{spotted, lying}
 
 -- WHERE IT WAS ISSUED

@@ -1,33 +1,33 @@
 -- What was issued is issued after a step that makes no object: where words rise, no object comes and no place of a word is lost.
 use Rattle.std.proofs.Common.{◌≡◌, inr, ℕ, ◌+◌, ◌≤◌, true, nat_lt, Some, option_map, refl, sym, ap, subst, arith}
 use Rattle.std.specs.Prelude.{slice_get}
-use Rattle.fr_base.specs.declared.name.ObjNo.{ObjNo}
-use Rattle.fr_base.specs.declared.instruction.Instr.{Instr}
-use Rattle.global_addr.specs.Words.{colour_of}
-use Rattle.journal.specs.View.{EntryView}
-use Rattle.owner_box.specs.View.{PartitionState}
-use Rattle.thread_state.specs.View.{ThreadState}
-use Rattle.server_model.specs.declared.event.Event.{Event}
-use Rattle.server_model.specs.declared.event.What.TheVariants.{Step}
-use Rattle.server_model.specs.Servers.{Server, Cluster, server_at}
-use Rattle.server_model.specs.Work.{Hand, thread_in, then_some}
-use Rattle.server_model.specs.Events.{Stepped, enabled, begin_work, step, step_in, stepped, does}
-use Rattle.server_model.specs.Clusters.{with_server, done_at, act_at, apply}
-use Rattle.heap_law.specs.Names.{tot, one}
-use Rattle.heap_law.specs.Things.{Thing, lies, partition_things, servers_things, things_of}
-use Rattle.heap_law.specs.Sight.{issued, sight}
-use Rattle.heap_law.specs.Coherent.{IsSound}
-use Rattle.heap_law.proofs.Words.{itself}
-use Rattle.event_law.specs.Laws.{Gives, FewEvents}
-use Rattle.event_law.proofs.Sound.{sound_has_sums}
-use Rattle.event_law.proofs.Results.{over_gives, test_gives, both_give}
-use Rattle.event_law.proofs.Events.{others_of, tot-server}
-use Rattle.event_law.proofs.Applied.{handed_on}
-use Rattle.event_law.proofs.Sending.{each_event_sends}
-use Rattle.still_law.proofs.Addresses.{InPlace, in_place}
-use Rattle.still_law.proofs.Leaving.{others, placed_here}
+use Rattle.old_words_law.specs.Below.fr_base.declared.name.ObjNo.{ObjNo}
+use Rattle.old_words_law.specs.Below.fr_base.declared.instruction.Instr.{Instr}
+use Rattle.old_words_law.specs.Below.global_addr.Words.{colour_of}
+use Rattle.old_words_law.specs.Below.journal.View.{EntryView}
+use Rattle.old_words_law.specs.Below.owner_box.View.{PartitionState}
+use Rattle.old_words_law.specs.Below.thread_state.View.{ThreadState}
+use Rattle.old_words_law.specs.Below.server_model.declared.event.Event.{Event}
+use Rattle.old_words_law.specs.Below.server_model.declared.event.What.TheVariants.{Step}
+use Rattle.old_words_law.specs.Below.server_model.Servers.{Server, Cluster, server_at}
+use Rattle.old_words_law.specs.Below.server_model.Work.{Hand, thread_in, then_some}
+use Rattle.old_words_law.specs.Below.server_model.Events.{Stepped, enabled, begin_work, step, step_in, stepped, does}
+use Rattle.old_words_law.specs.Below.server_model.Clusters.{with_server, done_at, act_at, apply}
+use Rattle.old_words_law.specs.Below.heap_law.Names.{tot, one}
+use Rattle.old_words_law.specs.Below.heap_law.Things.{Thing, lies, partition_things, servers_things, things_of}
+use Rattle.old_words_law.specs.Below.heap_law.Sight.{issued, sight}
+use Rattle.old_words_law.specs.Below.heap_law.Coherent.{IsSound}
+use Rattle.old_words_law.proofs.Below.heap_law.Words.{itself}
+use Rattle.old_words_law.specs.Below.event_law.Laws.{Gives, FewEvents}
+use Rattle.old_words_law.proofs.Below.event_law.Sound.{sound_has_sums}
+use Rattle.old_words_law.proofs.Below.event_law.Results.{over_gives, test_gives, both_give}
+use Rattle.old_words_law.proofs.Below.event_law.Events.{others_of, tot-server}
+use Rattle.old_words_law.proofs.Below.event_law.Applied.{handed_on}
+use Rattle.old_words_law.proofs.Below.event_law.Sending.{each_event_sends}
+use Rattle.old_words_law.proofs.Below.still_law.Addresses.{InPlace, in_place}
+use Rattle.old_words_law.proofs.Below.still_law.Leaving.{others, placed_here}
 use Rattle.issue_law.proofs.Elsewhere.{SeesAddresses, partition_alone}
-use Rattle.prepare_law.specs.Requests.{WordsRise}
+use Rattle.copy_law.specs.Below.prepare_law.Requests.{WordsRise}
 use Rattle.regain_law.proofs.Each.{words_rise}
 use Rattle.all_issued_law.specs.Issued.{MakesNoObject, StepsKeepWhatWasIssued}
 use Rattle.all_issued_law.proofs.Places.{spotted, spotted_sees, lying, lying_sees, onward_itself}

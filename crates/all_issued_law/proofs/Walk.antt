@@ -1,32 +1,32 @@
 -- A step that makes no object: the addresses of its server go on.
 use Rattle.std.proofs.Common.{◌≡◌, ℕ, ◌+◌, ◌==◌, Bool, true, false, if◌then◌else◌, [], ◌∷◌, ◌++◌, List}
-use Rattle.fr_base.specs.declared.instruction.Instr.{Instr}
-use Rattle.fr_base.specs.declared.instruction.Instr.TheVariants as instr
-use Rattle.fr_base.specs.declared.instruction.Operand.{Operand}
-use Rattle.fr_base.specs.declared.release.Released.TheVariants as released
-use Rattle.global_addr.specs.Words.{server_of}
-use Rattle.heap_partition.specs.declared.value.Owned.{Owned}
-use Rattle.heap_partition.specs.declared.value.Owned.TheVariants as owned
-use Rattle.owner_box.specs.View.{PartitionState}
-use Rattle.mutex_home.specs.Mutexes.{can_make}
-use Rattle.join_home.specs.Tasks.{can_begin, can_begin_pair}
-use Rattle.thread_state.specs.View.{ThreadState, new_thread}
-use Rattle.thread_state.specs.declared.phase.Phase.TheVariants as phase
-use Rattle.thread_state.specs.declared.value.Value.{Value}
-use Rattle.thread_state.specs.declared.value.Value.TheVariants as value
-use Rattle.server_msgs.specs.declared.message.Message.{Message}
-use Rattle.server_msgs.specs.declared.message.Message.TheVariants as message
-use Rattle.server_model.specs.Servers.{Rest}
-use Rattle.server_model.specs.Work.{Work, Hand, sent_from, with_phase}
-use Rattle.server_model.specs.Start.{next_thread, server_for, start_thread, capture}
-use Rattle.server_model.specs.Drop.{home_of, give_up}
-use Rattle.server_model.specs.Commit.{go_on, begun, pair_begun, spawn_with, end_with, label_dropped}
-use Rattle.server_model.specs.Events.{step}
-use Rattle.event_law.specs.Laws.{Gives}
-use Rattle.event_law.proofs.Results.{then_gives, over_gives, test_gives}
-use Rattle.local_law.proofs.Small.{Of, Places, Small, Passes}
-use Rattle.local_law.proofs.Plainly.{Settles, moves_by, Acts, steps}
-use Rattle.local_law.proofs.Goes.{puts_by, Any, AnyWord}
+use Rattle.old_words_law.specs.Below.fr_base.declared.instruction.Instr.{Instr}
+use Rattle.old_words_law.specs.Below.fr_base.declared.instruction.Instr.TheVariants as instr
+use Rattle.old_words_law.specs.Below.fr_base.declared.instruction.Operand.{Operand}
+use Rattle.old_words_law.specs.Below.fr_base.declared.release.Released.TheVariants as released
+use Rattle.old_words_law.specs.Below.global_addr.Words.{server_of}
+use Rattle.old_words_law.specs.Below.heap_partition.declared.value.Owned.{Owned}
+use Rattle.old_words_law.specs.Below.heap_partition.declared.value.Owned.TheVariants as owned
+use Rattle.old_words_law.specs.Below.owner_box.View.{PartitionState}
+use Rattle.old_words_law.specs.Below.mutex_home.Mutexes.{can_make}
+use Rattle.old_words_law.specs.Below.join_home.Tasks.{can_begin, can_begin_pair}
+use Rattle.old_words_law.specs.Below.thread_state.View.{ThreadState, new_thread}
+use Rattle.old_words_law.specs.Below.thread_state.declared.phase.Phase.TheVariants as phase
+use Rattle.old_words_law.specs.Below.thread_state.declared.value.Value.{Value}
+use Rattle.old_words_law.specs.Below.thread_state.declared.value.Value.TheVariants as value
+use Rattle.old_words_law.specs.Below.server_msgs.declared.message.Message.{Message}
+use Rattle.old_words_law.specs.Below.server_msgs.declared.message.Message.TheVariants as message
+use Rattle.old_words_law.specs.Below.server_model.Servers.{Rest}
+use Rattle.old_words_law.specs.Below.server_model.Work.{Work, Hand, sent_from, with_phase}
+use Rattle.old_words_law.specs.Below.server_model.Start.{next_thread, server_for, start_thread, capture}
+use Rattle.old_words_law.specs.Below.server_model.Drop.{home_of, give_up}
+use Rattle.old_words_law.specs.Below.server_model.Commit.{go_on, begun, pair_begun, spawn_with, end_with, label_dropped}
+use Rattle.old_words_law.specs.Below.server_model.Events.{step}
+use Rattle.old_words_law.specs.Below.event_law.Laws.{Gives}
+use Rattle.old_words_law.proofs.Below.event_law.Results.{then_gives, over_gives, test_gives}
+use Rattle.old_words_law.proofs.Below.local_law.Small.{Of, Places, Small, Passes}
+use Rattle.old_words_law.proofs.Below.local_law.Plainly.{Settles, moves_by, Acts, steps}
+use Rattle.old_words_law.proofs.Below.local_law.Goes.{puts_by, Any, AnyWord}
 use Rattle.all_issued_law.specs.Issued.{MakesNoObject}
 use Rattle.all_issued_law.proofs.Places.{Onward, onward_stored, onward_renewed}
 

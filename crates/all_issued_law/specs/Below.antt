@@ -1,2 +1,25 @@
 -- What this law stands on, passed on to the laws above it, which need not list that then.
+pub use Rattle.copy_law.specs.Below.carry_law as carry_law
+pub use Rattle.copy_law.specs as copy_law
+pub use Rattle.old_words_law.specs.Below.event_law as event_law
+pub use Rattle.old_words_law.specs.Below.fr_base as fr_base
+pub use Rattle.old_words_law.specs.Below.fr_sound as fr_sound
+pub use Rattle.old_words_law.specs.Below.fr_store as fr_store
+pub use Rattle.old_words_law.specs.Below.global_addr as global_addr
+pub use Rattle.old_words_law.specs.Below.heap_law as heap_law
+pub use Rattle.old_words_law.specs.Below.heap_partition as heap_partition
 pub use Rattle.issue_law.specs as issue_law
+pub use Rattle.old_words_law.specs.Below.journal as journal
+pub use Rattle.old_words_law.specs.Below.mut_borrow as mut_borrow
+pub use Rattle.old_words_law.specs as old_words_law
+pub use Rattle.old_words_law.specs.Below.owner_box as owner_box
+pub use Rattle.copy_law.specs.Below.path_law as path_law
+pub use Rattle.copy_law.specs.Below.prepare_law as prepare_law
+pub use Rattle.regain_law.specs.Below.refs_law as refs_law
+pub use Rattle.old_words_law.specs.Below.server_model as server_model
+pub use Rattle.old_words_law.specs.Below.server_msgs as server_msgs
+pub use Rattle.copy_law.specs.Below.stay_law as stay_law
+pub use Rattle.old_words_law.specs.Below.thread_state as thread_state
+pub use Rattle.old_words_law.specs.Below.type_law as type_law
+pub use Rattle.issue_law.specs.Below.wait_law as wait_law
+pub use Rattle.old_words_law.specs.Below.word_law as word_law

@@ -1,25 +1,25 @@
 -- WHAT WAS ISSUED STAYS ISSUED, and no word is new but in a pointer (this project's rules).
 use Rattle.std.specs.Prelude.{◌≡◌, ⊤, ℕ, ◌+◌, true, nat_lt, Some, slice_get}
-use Rattle.fr_base.specs.declared.instruction.Instr.{Instr}
-use Rattle.fr_base.specs.declared.instruction.Instr.TheVariants as instr
-use Rattle.fr_base.specs.declared.instruction.Operand.{Operand}
-use Rattle.global_addr.specs.Words.{colour_of}
-use Rattle.journal.specs.View.{EntryView}
-use Rattle.thread_state.specs.View.{ThreadState}
-use Rattle.server_msgs.specs.declared.message.Message.{Message}
-use Rattle.server_msgs.specs.declared.message.Message.TheVariants.{Fetched}
-use Rattle.server_model.specs.declared.event.Event.{Event}
-use Rattle.server_model.specs.declared.event.What.TheVariants.{Step}
-use Rattle.server_model.specs.Servers.{Server, Cluster, server_at}
-use Rattle.server_model.specs.Work.{thread_in}
-use Rattle.server_model.specs.Clusters.{apply}
-use Rattle.heap_law.specs.Names.{tot}
-use Rattle.heap_law.specs.Things.{Thing, copied, sent, things_of}
-use Rattle.heap_law.specs.Sight.{issued, sight}
-use Rattle.heap_law.specs.Placing.{owned_word}
-use Rattle.heap_law.specs.Coherent.{IsSound}
-use Rattle.type_law.specs.ClusterTypes.{IsCoherent}
-use Rattle.event_law.specs.Laws.{Gives, FewEvents}
+use Rattle.old_words_law.specs.Below.fr_base.declared.instruction.Instr.{Instr}
+use Rattle.old_words_law.specs.Below.fr_base.declared.instruction.Instr.TheVariants as instr
+use Rattle.old_words_law.specs.Below.fr_base.declared.instruction.Operand.{Operand}
+use Rattle.old_words_law.specs.Below.global_addr.Words.{colour_of}
+use Rattle.old_words_law.specs.Below.journal.View.{EntryView}
+use Rattle.old_words_law.specs.Below.thread_state.View.{ThreadState}
+use Rattle.old_words_law.specs.Below.server_msgs.declared.message.Message.{Message}
+use Rattle.old_words_law.specs.Below.server_msgs.declared.message.Message.TheVariants.{Fetched}
+use Rattle.old_words_law.specs.Below.server_model.declared.event.Event.{Event}
+use Rattle.old_words_law.specs.Below.server_model.declared.event.What.TheVariants.{Step}
+use Rattle.old_words_law.specs.Below.server_model.Servers.{Server, Cluster, server_at}
+use Rattle.old_words_law.specs.Below.server_model.Work.{thread_in}
+use Rattle.old_words_law.specs.Below.server_model.Clusters.{apply}
+use Rattle.old_words_law.specs.Below.heap_law.Names.{tot}
+use Rattle.old_words_law.specs.Below.heap_law.Things.{Thing, copied, sent, things_of}
+use Rattle.old_words_law.specs.Below.heap_law.Sight.{issued, sight}
+use Rattle.old_words_law.specs.Below.heap_law.Placing.{owned_word}
+use Rattle.old_words_law.specs.Below.heap_law.Coherent.{IsSound}
+use Rattle.old_words_law.specs.Below.type_law.ClusterTypes.{IsCoherent}
+use Rattle.old_words_law.specs.Below.event_law.Laws.{Gives, FewEvents}
 use Rattle.old_words_law.specs.Old.{unissued}
 
 -- an instruction that makes no object

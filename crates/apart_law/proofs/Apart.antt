@@ -2,46 +2,46 @@
 use Rattle.std.proofs.Common.{◌≡◌, ◌⊎◌, inl, inr, ⊎_elim, ℕ, ◌==◌, ◌≤◌, ◌&&◌, Bool, true, false, Option, Some, None, option_map, refl, sym, ap, ap₂, subst, ◌∙◌, arith}
 use Rattle.std.specs.Prelude.{length, nat_lt, slice_get}
 use Rattle.std.proofs.lemmas.Bool.{eq-eqb}
-use Rattle.fr_base.specs.declared.name.ObjNo.{ObjNo}
-use Rattle.fr_base.specs.declared.instruction.Operand.{Operand}
-use Rattle.fr_base.specs.declared.instruction.Instr.{Instr}
-use Rattle.fr_base.specs.declared.instruction.Instr.TheVariants as instr
-use Rattle.heap_partition.specs.declared.value.Cell.{Cell}
-use Rattle.journal.specs.View.{EntryView}
-use Rattle.thread_state.specs.View.{ThreadState}
-use Rattle.server_msgs.specs.declared.message.Message.{Message}
-use Rattle.server_msgs.specs.declared.message.Message.TheVariants as message
-use Rattle.server_model.specs.declared.event.Event.{Event}
-use Rattle.server_model.specs.declared.event.What.{What}
-use Rattle.server_model.specs.declared.event.What.TheVariants.{Step, Deliver, Evict, Migrate}
-use Rattle.server_model.specs.Servers.{Server, Cluster, server_at}
-use Rattle.server_model.specs.Work.{thread_in, then_some}
-use Rattle.server_model.specs.Events.{left_by, received, deliver_message}
-use Rattle.server_model.specs.Clusters.{hand_over_newer, done_at, apply}
-use Rattle.heap_law.specs.Names.{Among, tot, one}
-use Rattle.heap_law.specs.Things.{Thing, lies, flies, counts, things_of}
-use Rattle.heap_law.specs.Sight.{Pointer, pointers_in, taken_pointers, issued, word, sight}
-use Rattle.heap_law.specs.Weights.{cells, states, below}
-use Rattle.heap_law.specs.Balances.{AtMostOne}
-use Rattle.heap_law.specs.Words.{HasWords}
-use Rattle.heap_law.specs.Coherent.{Holds, IsSound, different_words}
-use Rattle.type_law.specs.ClusterTypes.{IsCoherent}
-use Rattle.path_law.proofs.InState.{only_one}
-use Rattle.path_law.proofs.Origins.{among_first}
-use Rattle.event_law.specs.Kinds.{Kind, fetch, fetched, asks_lock, granted, unlocked, asks_dup, dupped, released, starts, asks_join, joined, finished, arrives, step_box, evicts, migrates, message_kind, instr_kind, kind_at, kind_of}
-use Rattle.event_law.specs.Laws.{Gives, FewEvents}
-use Rattle.event_law.specs.Sums.{Sums, is_server}
-use Rattle.event_law.proofs.Results.{both_give, weaker}
-use Rattle.event_law.proofs.Boxes.{tot_le}
-use Rattle.event_law.proofs.Sending.{applied_part}
-use Rattle.word_law.specs.Unmoved.{Delivers, LeavesWords, WordsStay}
-use Rattle.word_law.proofs.Standing.{CellOf, lying, flying, pointers_among}
-use Rattle.stay_law.specs.Laws.{LeaveWords}
-use Rattle.stay_law.proofs.StayKinds.{kind_stays}
-use Rattle.prepare_law.specs.Requests.{WordsRise}
-use Rattle.carry_law.proofs.Leaving.{moves_leave}
-use Rattle.made_law.proofs.Apart.{stay_apart, new_apart}
-use Rattle.free_law.proofs.Drops.{drops_leave}
+use Rattle.regain_law.specs.Below.fr_base.declared.name.ObjNo.{ObjNo}
+use Rattle.regain_law.specs.Below.fr_base.declared.instruction.Operand.{Operand}
+use Rattle.regain_law.specs.Below.fr_base.declared.instruction.Instr.{Instr}
+use Rattle.regain_law.specs.Below.fr_base.declared.instruction.Instr.TheVariants as instr
+use Rattle.regain_law.specs.Below.heap_partition.declared.value.Cell.{Cell}
+use Rattle.regain_law.specs.Below.journal.View.{EntryView}
+use Rattle.regain_law.specs.Below.thread_state.View.{ThreadState}
+use Rattle.regain_law.specs.Below.server_msgs.declared.message.Message.{Message}
+use Rattle.regain_law.specs.Below.server_msgs.declared.message.Message.TheVariants as message
+use Rattle.regain_law.specs.Below.server_model.declared.event.Event.{Event}
+use Rattle.regain_law.specs.Below.server_model.declared.event.What.{What}
+use Rattle.regain_law.specs.Below.server_model.declared.event.What.TheVariants.{Step, Deliver, Evict, Migrate}
+use Rattle.regain_law.specs.Below.server_model.Servers.{Server, Cluster, server_at}
+use Rattle.regain_law.specs.Below.server_model.Work.{thread_in, then_some}
+use Rattle.regain_law.specs.Below.server_model.Events.{left_by, received, deliver_message}
+use Rattle.regain_law.specs.Below.server_model.Clusters.{hand_over_newer, done_at, apply}
+use Rattle.regain_law.specs.Below.heap_law.Names.{Among, tot, one}
+use Rattle.regain_law.specs.Below.heap_law.Things.{Thing, lies, flies, counts, things_of}
+use Rattle.regain_law.specs.Below.heap_law.Sight.{Pointer, pointers_in, taken_pointers, issued, word, sight}
+use Rattle.regain_law.specs.Below.heap_law.Weights.{cells, states, below}
+use Rattle.regain_law.specs.Below.heap_law.Balances.{AtMostOne}
+use Rattle.regain_law.specs.Below.heap_law.Words.{HasWords}
+use Rattle.regain_law.specs.Below.heap_law.Coherent.{Holds, IsSound, different_words}
+use Rattle.regain_law.specs.Below.type_law.ClusterTypes.{IsCoherent}
+use Rattle.regain_law.proofs.Below.path_law.InState.{only_one}
+use Rattle.regain_law.proofs.Below.path_law.Origins.{among_first}
+use Rattle.regain_law.specs.Below.event_law.Kinds.{Kind, fetch, fetched, asks_lock, granted, unlocked, asks_dup, dupped, released, starts, asks_join, joined, finished, arrives, step_box, evicts, migrates, message_kind, instr_kind, kind_at, kind_of}
+use Rattle.regain_law.specs.Below.event_law.Laws.{Gives, FewEvents}
+use Rattle.regain_law.specs.Below.event_law.Sums.{Sums, is_server}
+use Rattle.regain_law.proofs.Below.event_law.Results.{both_give, weaker}
+use Rattle.regain_law.proofs.Below.event_law.Boxes.{tot_le}
+use Rattle.regain_law.proofs.Below.event_law.Sending.{applied_part}
+use Rattle.regain_law.specs.Below.word_law.Unmoved.{Delivers, LeavesWords, WordsStay}
+use Rattle.regain_law.proofs.Below.word_law.Standing.{CellOf, lying, flying, pointers_among}
+use Rattle.regain_law.specs.Below.stay_law.Laws.{LeaveWords}
+use Rattle.regain_law.proofs.Below.stay_law.StayKinds.{kind_stays}
+use Rattle.regain_law.specs.Below.prepare_law.Requests.{WordsRise}
+use Rattle.regain_law.proofs.Below.carry_law.Leaving.{moves_leave}
+use Rattle.regain_law.proofs.Below.made_law.Apart.{stay_apart, new_apart}
+use Rattle.regain_law.proofs.Below.free_law.Drops.{drops_leave}
 use Rattle.regain_law.proofs.Arrivals.{none_done}
 use Rattle.regain_law.proofs.Each.{words_rise}
 use Rattle.apart_law.specs.Words.{ObjectsStayApart}
@@ -89,7 +89,7 @@ module _ (k d : Cluster) (sound : IsSound k) (rise : WordsRise k d) (differ : At
   lying_same : (r a s b : ℕ) (c e : Cell) → Among (lies r a c) (things_of d) → Among (lies s b e) (things_of d) → now c.object ≡ now e.object → c.object ≡ e.object
   lying_same r a s b c e h m same =
       let first = rise.has_words.home r a c h in
-      let second = subst (λ w. Rattle.heap_law.specs.Words.LeadsTo s b w) (sym same) (rise.has_words.home s b e m) in
+      let second = subst (λ w. Rattle.regain_law.specs.Below.heap_law.Words.LeadsTo s b w) (sym same) (rise.has_words.home s b e m) in
       let server : s ≡ r = sym second.server ∙ first.server in
       let address : b ≡ a = sym second.address ∙ first.address in
       let x : lies r a c ≡ lies s b e = only_one (states (r, a)) (lies r a c) (lies s b e) (things_of d) (differ (r, a)) h m (omega (arith, same_spot r a r a refl refl)) (omega (arith, same_spot r a s b server address)) in

@@ -1,40 +1,40 @@
 -- The objects under way: a step sends none away, and the delivery of one that comes sends no other one.
 use Rattle.std.proofs.Common.{◌≡◌, ℕ, zero, suc, ◌+◌, ◌-◌, ◌==◌, Bool, true, false, if◌then◌else◌, List, Option, Some, None, refl}
 use Rattle.std.specs.Prelude.{slice_get, option_map}
-use Rattle.fr_base.specs.declared.instruction.Instr.{Instr}
-use Rattle.fr_base.specs.declared.place.Lval.{Lval}
-use Rattle.fr_base.specs.declared.release.Released.TheVariants as released
-use Rattle.global_addr.specs.Words.{server_of}
-use Rattle.heap_partition.specs.declared.value.Cell.{Cell}
-use Rattle.heap_partition.specs.declared.value.Owned.{Owned}
-use Rattle.heap_partition.specs.declared.value.Owned.TheVariants as owned
-use Rattle.mutex_home.specs.Mutexes.{can_make}
-use Rattle.join_home.specs.Tasks.{can_begin, can_begin_pair}
-use Rattle.thread_state.specs.View.{ThreadState, new_thread}
-use Rattle.thread_state.specs.declared.phase.Phase.TheVariants as phase
-use Rattle.thread_state.specs.declared.value.Value.{Value}
-use Rattle.thread_state.specs.declared.value.Value.TheVariants as value
-use Rattle.server_msgs.specs.declared.message.Message.{Message}
-use Rattle.server_msgs.specs.declared.message.Message.TheVariants as message
-use Rattle.journal.specs.declared.act.Act.TheVariants as act
-use Rattle.server_model.specs.Servers.{Sent, Rest}
-use Rattle.server_model.specs.Work.{Work, Hand, Site, sent_from, with_phase, then_some, put_back, thread_in, at_thread}
-use Rattle.server_model.specs.NewWords.{NewWord, can_grow, issue_placed}
-use Rattle.server_model.specs.Places.{Spot, in_slot, value_at, set_pointer}
-use Rattle.server_model.specs.Prepare.{Access, ReadTo, ReadPointer, WriteTo, LendTo, EndRef, passing, write_stars}
-use Rattle.server_model.specs.Objects.{waits_for_cell, chased, waits_under, arrived_at, arrived_slot, passed_spot, arrived_write, arrived_lend, arrived_end, arrived, instr_access, deliver_moved}
-use Rattle.server_model.specs.Start.{next_thread, server_for, start_thread, capture}
-use Rattle.server_model.specs.Drop.{home_of, give_up}
-use Rattle.server_model.specs.Commit.{go_on, next_object, push_box, begun, pair_begun, spawn_with, end_with, label_dropped}
-use Rattle.server_model.specs.Events.{step}
-use Rattle.event_law.specs.Laws.{Gives}
-use Rattle.event_law.proofs.Results.{then_gives, over_gives, bind_gives, test_gives}
-use Rattle.event_law.proofs.KnownPlaces.{Told, pointer_keeps}
-use Rattle.local_law.proofs.Small.{Of, Places, Small, Passes}
-use Rattle.local_law.proofs.Plainly.{Settles, moves_by, Acts, steps}
-use Rattle.local_law.proofs.Goes.{puts_by, Any, AnyWord}
-use Rattle.local_law.proofs.Mail.{Mail, Mailed, mail_sent}
-use Rattle.local_law.proofs.Messages.{Light}
+use Rattle.regain_law.specs.Below.fr_base.declared.instruction.Instr.{Instr}
+use Rattle.regain_law.specs.Below.fr_base.declared.place.Lval.{Lval}
+use Rattle.regain_law.specs.Below.fr_base.declared.release.Released.TheVariants as released
+use Rattle.regain_law.specs.Below.global_addr.Words.{server_of}
+use Rattle.regain_law.specs.Below.heap_partition.declared.value.Cell.{Cell}
+use Rattle.regain_law.specs.Below.heap_partition.declared.value.Owned.{Owned}
+use Rattle.regain_law.specs.Below.heap_partition.declared.value.Owned.TheVariants as owned
+use Rattle.regain_law.specs.Below.mutex_home.Mutexes.{can_make}
+use Rattle.regain_law.specs.Below.join_home.Tasks.{can_begin, can_begin_pair}
+use Rattle.regain_law.specs.Below.thread_state.View.{ThreadState, new_thread}
+use Rattle.regain_law.specs.Below.thread_state.declared.phase.Phase.TheVariants as phase
+use Rattle.regain_law.specs.Below.thread_state.declared.value.Value.{Value}
+use Rattle.regain_law.specs.Below.thread_state.declared.value.Value.TheVariants as value
+use Rattle.regain_law.specs.Below.server_msgs.declared.message.Message.{Message}
+use Rattle.regain_law.specs.Below.server_msgs.declared.message.Message.TheVariants as message
+use Rattle.regain_law.specs.Below.journal.declared.act.Act.TheVariants as act
+use Rattle.regain_law.specs.Below.server_model.Servers.{Sent, Rest}
+use Rattle.regain_law.specs.Below.server_model.Work.{Work, Hand, Site, sent_from, with_phase, then_some, put_back, thread_in, at_thread}
+use Rattle.regain_law.specs.Below.server_model.NewWords.{NewWord, can_grow, issue_placed}
+use Rattle.regain_law.specs.Below.server_model.Places.{Spot, in_slot, value_at, set_pointer}
+use Rattle.regain_law.specs.Below.server_model.Prepare.{Access, ReadTo, ReadPointer, WriteTo, LendTo, EndRef, passing, write_stars}
+use Rattle.regain_law.specs.Below.server_model.Objects.{waits_for_cell, chased, waits_under, arrived_at, arrived_slot, passed_spot, arrived_write, arrived_lend, arrived_end, arrived, instr_access, deliver_moved}
+use Rattle.regain_law.specs.Below.server_model.Start.{next_thread, server_for, start_thread, capture}
+use Rattle.regain_law.specs.Below.server_model.Drop.{home_of, give_up}
+use Rattle.regain_law.specs.Below.server_model.Commit.{go_on, next_object, push_box, begun, pair_begun, spawn_with, end_with, label_dropped}
+use Rattle.regain_law.specs.Below.server_model.Events.{step}
+use Rattle.regain_law.specs.Below.event_law.Laws.{Gives}
+use Rattle.regain_law.proofs.Below.event_law.Results.{then_gives, over_gives, bind_gives, test_gives}
+use Rattle.regain_law.proofs.Below.event_law.KnownPlaces.{Told, pointer_keeps}
+use Rattle.regain_law.proofs.Below.local_law.Small.{Of, Places, Small, Passes}
+use Rattle.regain_law.proofs.Below.local_law.Plainly.{Settles, moves_by, Acts, steps}
+use Rattle.regain_law.proofs.Below.local_law.Goes.{puts_by, Any, AnyWord}
+use Rattle.regain_law.proofs.Below.local_law.Mail.{Mail, Mailed, mail_sent}
+use Rattle.regain_law.proofs.Below.local_law.Messages.{Light}
 
 -- the word of an object under way weighs so much
 abbrev pub flight : (ℕ → ℕ) → ℕ → Message → ℕ

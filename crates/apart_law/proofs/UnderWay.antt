@@ -2,36 +2,36 @@
 use Rattle.std.proofs.Common.{◌≡◌, ◌≤◌, ℕ, ◌+◌, true, false, List, [], ◌∷◌, Option, Some, None, refl, sym, subst, ◌∙◌, arith}
 use Rattle.std.specs.Prelude.{slice_get, option_map}
 use Rattle.std.specs.List.{AllByRecursion}
-use Rattle.fr_base.specs.declared.instruction.Instr.{Instr}
-use Rattle.heap_partition.specs.declared.value.Cell.{Cell}
-use Rattle.thread_state.specs.View.{ThreadState}
-use Rattle.journal.specs.View.{EntryView}
-use Rattle.server_msgs.specs.declared.message.Message.{Message}
-use Rattle.server_msgs.specs.declared.message.Message.TheVariants as message
-use Rattle.server_model.specs.declared.event.Event.{Event}
-use Rattle.server_model.specs.declared.event.What.TheVariants.{Step, Deliver}
-use Rattle.server_model.specs.Servers.{Server, Cluster, server_at}
-use Rattle.server_model.specs.Work.{Hand, thread_in, then_some}
-use Rattle.server_model.specs.Clusters.{done_at, act_at, apply}
-use Rattle.server_model.specs.Events.{Stepped, enabled, begin_work, left_by, received, deliver_message, step, step_in, stepped, does}
-use Rattle.heap_law.specs.Names.{tot, other, Among}
-use Rattle.heap_law.specs.Things.{Thing, flies, things_at, thread_things, message_things, standing_things, waiting_things, leaving_things, server_things, servers_things, things_of}
-use Rattle.heap_law.specs.Sight.{issued, sight}
-use Rattle.heap_law.specs.Placing.{words}
-use Rattle.heap_law.specs.Coherent.{IsSound}
-use Rattle.heap_law.proofs.Words.{none_at}
-use Rattle.event_law.specs.Laws.{Gives, FewEvents}
-use Rattle.event_law.proofs.Results.{then_gives, over_gives, test_gives, weaker}
-use Rattle.event_law.proofs.Unseen.{Unseen, Unnoted, none_at as none_in, thread_alone, seen_of}
-use Rattle.event_law.proofs.Askers.{other_none}
-use Rattle.event_law.proofs.Events.{tot-server}
-use Rattle.event_law.proofs.Boxes.{tot_le}
-use Rattle.event_law.proofs.Applied.{handed_on}
-use Rattle.event_law.proofs.Sending.{each_event_sends}
-use Rattle.event_law.proofs.Trades.{tot-append}
-use Rattle.local_law.proofs.Threads.{remove_all}
-use Rattle.local_law.proofs.Mail.{Mailed}
-use Rattle.local_law.proofs.Messages.{on_sent, Light, letters_from, letters_to}
+use Rattle.regain_law.specs.Below.fr_base.declared.instruction.Instr.{Instr}
+use Rattle.regain_law.specs.Below.heap_partition.declared.value.Cell.{Cell}
+use Rattle.regain_law.specs.Below.thread_state.View.{ThreadState}
+use Rattle.regain_law.specs.Below.journal.View.{EntryView}
+use Rattle.regain_law.specs.Below.server_msgs.declared.message.Message.{Message}
+use Rattle.regain_law.specs.Below.server_msgs.declared.message.Message.TheVariants as message
+use Rattle.regain_law.specs.Below.server_model.declared.event.Event.{Event}
+use Rattle.regain_law.specs.Below.server_model.declared.event.What.TheVariants.{Step, Deliver}
+use Rattle.regain_law.specs.Below.server_model.Servers.{Server, Cluster, server_at}
+use Rattle.regain_law.specs.Below.server_model.Work.{Hand, thread_in, then_some}
+use Rattle.regain_law.specs.Below.server_model.Clusters.{done_at, act_at, apply}
+use Rattle.regain_law.specs.Below.server_model.Events.{Stepped, enabled, begin_work, left_by, received, deliver_message, step, step_in, stepped, does}
+use Rattle.regain_law.specs.Below.heap_law.Names.{tot, other, Among}
+use Rattle.regain_law.specs.Below.heap_law.Things.{Thing, flies, things_at, thread_things, message_things, standing_things, waiting_things, leaving_things, server_things, servers_things, things_of}
+use Rattle.regain_law.specs.Below.heap_law.Sight.{issued, sight}
+use Rattle.regain_law.specs.Below.heap_law.Placing.{words}
+use Rattle.regain_law.specs.Below.heap_law.Coherent.{IsSound}
+use Rattle.regain_law.proofs.Below.heap_law.Words.{none_at}
+use Rattle.regain_law.specs.Below.event_law.Laws.{Gives, FewEvents}
+use Rattle.regain_law.proofs.Below.event_law.Results.{then_gives, over_gives, test_gives, weaker}
+use Rattle.regain_law.proofs.Below.event_law.Unseen.{Unseen, Unnoted, none_at as none_in, thread_alone, seen_of}
+use Rattle.regain_law.proofs.Below.event_law.Askers.{other_none}
+use Rattle.regain_law.proofs.Below.event_law.Events.{tot-server}
+use Rattle.regain_law.proofs.Below.event_law.Boxes.{tot_le}
+use Rattle.regain_law.proofs.Below.event_law.Applied.{handed_on}
+use Rattle.regain_law.proofs.Below.event_law.Sending.{each_event_sends}
+use Rattle.regain_law.proofs.Below.event_law.Trades.{tot-append}
+use Rattle.regain_law.proofs.Below.local_law.Threads.{remove_all}
+use Rattle.regain_law.proofs.Below.local_law.Mail.{Mailed}
+use Rattle.regain_law.proofs.Below.local_law.Messages.{on_sent, Light, letters_from, letters_to}
 use Rattle.apart_law.proofs.Flights.{flight, step_flies, landing_flies}
 
 -- WHAT FLIES IS BROUGHT
@@ -139,7 +139,7 @@ module _ (f : ℕ → ℕ) where
   landing_posts : (k : Cluster) (s : Server) (i was : ℕ) (c : Cell) (t : ℕ) → slice_get s.rest.inbox i ≡ Some (message.Moved was c t) → Mailed (Light (flight f)) s.rest.number s.rest.outbox s.rest → Gives (Posted s) (does k.code k.options s (Deliver i))
   landing_posts k s i was c t e mail =
       subst (λ o. Gives (Posted s) (option_map (left_by s.events None None) (then_some o (λ m. deliver_message k.code m (received i s))))) (sym e)
-      (over_gives (λ (x : Rattle.server_model.specs.Work.Site). Mailed (Light (flight f)) s.rest.number s.rest.outbox x.work.rest) (Posted s) (deliver_message k.code (message.Moved was c t) (received i s)) (left_by s.events None None)
+      (over_gives (λ (x : Rattle.regain_law.specs.Below.server_model.Work.Site). Mailed (Light (flight f)) s.rest.number s.rest.outbox x.work.rest) (Posted s) (deliver_message k.code (message.Moved was c t) (received i s)) (left_by s.events None None)
       (landing_flies f s.rest.number s.rest.outbox k.code was c t (received i s) (record { numbered = refl; waiting = remove_all (Light (flight f) s.rest.number) s.rest.inbox i mail.waiting; leaving = mail.leaving; more = mail.more; appended = mail.appended })) (λ x u. u))
 
 -- THE WORDS OF OBJECTS UNDER WAY

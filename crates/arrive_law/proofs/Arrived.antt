@@ -1,20 +1,20 @@
 -- An object that was under way lies at its server, and its pointer gets the word that leads there.
 use Rattle.std.proofs.Common.{◌≡◌, ℕ, ◌==◌, Bool, true, false, if◌then◌else◌, List, [], ◌∷◌, length, Some, IsSome, refl, sym, ap, subst, ◌∙◌}
 use Rattle.std.specs.Prelude.{slice_get}
-use Rattle.heap_partition.specs.declared.value.BoxPtr.{BoxPtr}
-use Rattle.heap_partition.specs.declared.value.Cell.{Cell}
-use Rattle.owner_box.specs.Partition.{made, new_word}
-use Rattle.thread_state.specs.View.{ThreadState}
-use Rattle.server_model.specs.Servers.{Rest, Server, Cluster, server_at}
-use Rattle.server_model.specs.Work.{Hand, receive, set_thread, thread_in}
-use Rattle.server_model.specs.Clusters.{with_server}
-use Rattle.heap_law.specs.Things.{at_slot, in_cell, counts, things_at, copy_things, mutex_things, task_things, standing_things, leaving_things, server_things, servers_things, things_of}
-use Rattle.path_law.proofs.Sole.{some_is}
-use Rattle.word_law.specs.PutBack.{put_in, StandsHere, LeadsHome}
-use Rattle.word_law.proofs.Put.{Split, split_whole, servers_split}
-use Rattle.word_law.proofs.Standing.{CellOf}
-use Rattle.word_law.proofs.Tints.{slots_reword}
-use Rattle.word_law.proofs.Cells.{cells_reword}
+use Rattle.result_law.specs.Below.heap_partition.declared.value.BoxPtr.{BoxPtr}
+use Rattle.result_law.specs.Below.heap_partition.declared.value.Cell.{Cell}
+use Rattle.result_law.specs.Below.owner_box.Partition.{made, new_word}
+use Rattle.result_law.specs.Below.thread_state.View.{ThreadState}
+use Rattle.result_law.specs.Below.server_model.Servers.{Rest, Server, Cluster, server_at}
+use Rattle.result_law.specs.Below.server_model.Work.{Hand, receive, set_thread, thread_in}
+use Rattle.result_law.specs.Below.server_model.Clusters.{with_server}
+use Rattle.result_law.specs.Below.heap_law.Things.{at_slot, in_cell, counts, things_at, copy_things, mutex_things, task_things, standing_things, leaving_things, server_things, servers_things, things_of}
+use Rattle.result_law.proofs.Below.path_law.Sole.{some_is}
+use Rattle.move_law.specs.Below.word_law.PutBack.{put_in, StandsHere, LeadsHome}
+use Rattle.move_law.proofs.Below.word_law.Put.{Split, split_whole, servers_split}
+use Rattle.move_law.proofs.Below.word_law.Standing.{CellOf}
+use Rattle.move_law.proofs.Below.word_law.Tints.{slots_reword}
+use Rattle.move_law.proofs.Below.word_law.Cells.{cells_reword}
 use Rattle.move_law.specs.Relaid.{Relaid}
 use Rattle.move_law.proofs.Relaid.{Shifted, relaid_by, relaid_rewords}
 use Rattle.arrive_law.specs.Arrivals.{Arrival, ArrivalsReword}
@@ -47,7 +47,7 @@ no_counts : (n a r t m e : ℕ) (c : Cell) → CellOf c (counts n a r t m e) →
 no_counts n a r t m e c is = elim is [ ]
 
 -- the server with the cell there, and the message gone
-landed : (s : Server) (i old t e : ℕ) (c : Cell) → slice_get s.rest.inbox i ≡ Some (Rattle.server_msgs.specs.declared.message.Message.TheVariants.Moved old c t) → Rattle.move_law.specs.Relaid.NextIsVacant s.rest.partition
+landed : (s : Server) (i old t e : ℕ) (c : Cell) → slice_get s.rest.inbox i ≡ Some (Rattle.result_law.specs.Below.server_msgs.declared.message.Message.TheVariants.Moved old c t) → Rattle.move_law.specs.Relaid.NextIsVacant s.rest.partition
     → Shifted c.object (server_things s) (server_things (record { rest = record (receive s.rest i) { partition = made s.rest.partition c }; threads = s.threads; events = e }))
 landed s i old t e c message room =
     let n = s.rest.number in
@@ -96,12 +96,12 @@ arrivals_reword = record {
       let z = put_in k s.rest.number s.threads e h in
       let z2 = put_in k s.rest.number s.threads e h2 in
       relaid_rewords k z z2 (at_slot h.thread.number j) c.object (new_word s.rest.partition) (relays k s i old t e c h a)
-      (subst (λ o. Rattle.word_law.specs.Reworded.Reworded z z2 (at_slot h.thread.number j) o (new_word s.rest.partition)) same
+      (subst (λ o. Rattle.move_law.specs.Below.word_law.Reworded.Reworded z z2 (at_slot h.thread.number j) o (new_word s.rest.partition)) same
       (slots_reword k s.rest.number s.threads e h h2 j (new_word s.rest.partition) v p (stands_now k s i old t e c h a) at points put a.came after (home_so (new_word s.rest.partition) p c same home) first));
   in_cells = λ k s i old t e c h h2 at b p a home there boxed same put after.
       let z = put_in k s.rest.number s.threads e h in
       let z2 = put_in k s.rest.number s.threads e h2 in
       relaid_rewords k z z2 (in_cell b.object) c.object (new_word s.rest.partition) (relays k s i old t e c h a)
-      (subst (λ o. Rattle.word_law.specs.Reworded.Reworded z z2 (in_cell b.object) o (new_word s.rest.partition)) same
+      (subst (λ o. Rattle.move_law.specs.Below.word_law.Reworded.Reworded z z2 (in_cell b.object) o (new_word s.rest.partition)) same
       (cells_reword.put k s.rest.number s.threads e h h2 at (new_word s.rest.partition) b p (stands_now k s i old t e c h a) there boxed put a.came after (home_so (new_word s.rest.partition) p c same home)));
 }

@@ -1,16 +1,16 @@
 -- What comes to a thread is what it waits for in turn: it waits for one answer, and its message asks for that.
 use Rattle.std.proofs.Common.{◌≡◌, ◌≤◌, ◌==◌, ◌&&◌, true, false, refl, sym, subst, arith}
-use Rattle.server_msgs.specs.declared.message.Message.TheVariants as message
-use Rattle.heap_law.specs.Names.{tot, same_object}
-use Rattle.heap_law.specs.Things.{sent, things_of}
-use Rattle.heap_law.specs.Follow.{Standing}
-use Rattle.heap_law.specs.Sight.{sight}
-use Rattle.heap_law.specs.Walking.{asked_for, asks_for}
-use Rattle.heap_law.proofs.Names.{and_left, and_right}
-use Rattle.heap_law.proofs.Words.{named, itself}
-use Rattle.event_law.proofs.MutexResults.{has}
-use Rattle.event_law.proofs.ThreadThere.{thread_there}
-use Rattle.path_law.proofs.Contained.{among_thread}
+use Rattle.result_law.specs.Below.server_msgs.declared.message.Message.TheVariants as message
+use Rattle.result_law.specs.Below.heap_law.Names.{tot, same_object}
+use Rattle.result_law.specs.Below.heap_law.Things.{sent, things_of}
+use Rattle.result_law.specs.Below.heap_law.Follow.{Standing}
+use Rattle.result_law.specs.Below.heap_law.Sight.{sight}
+use Rattle.result_law.specs.Below.heap_law.Walking.{asked_for, asks_for}
+use Rattle.result_law.proofs.Below.heap_law.Names.{and_left, and_right}
+use Rattle.result_law.proofs.Below.heap_law.Words.{named, itself}
+use Rattle.result_law.proofs.Below.event_law.MutexResults.{has}
+use Rattle.result_law.proofs.Below.event_law.ThreadThere.{thread_there}
+use Rattle.result_law.proofs.Below.path_law.Contained.{among_thread}
 use Rattle.arrive_law.specs.Awaited.{ArrivalsAwaited}
 use Rattle.result_law.proofs.Alone.{strays, all_less, needed_less, is_asked}
 

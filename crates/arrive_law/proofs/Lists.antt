@@ -1,21 +1,21 @@
 -- What lists of things have of threads, cells and loose things where a cell comes, or a message goes that has one.
 use Rattle.std.proofs.Common.{◌≡◌, ◌⊎◌, inl, inr, ⊎_elim, ℕ, zero, suc, ◌+◌, true, false, List, [], ◌∷◌, ◌++◌, Some, None, refl, sym, ap, subst, ◌∙◌, arith}
 use Rattle.std.specs.Prelude.{slice_index_or, slice_get, remove}
-use Rattle.fr_base.specs.declared.name.ObjNo.{ObjNo}
-use Rattle.heap_partition.specs.declared.value.Cell.{Cell}
-use Rattle.owner_box.specs.View.{PartitionState}
-use Rattle.owner_box.specs.Partition.{made, next_place}
-use Rattle.server_msgs.specs.declared.message.Message.{Message}
-use Rattle.server_msgs.specs.declared.message.Message.TheVariants.{Moved}
-use Rattle.heap_law.specs.Names.{Among, one, same_object}
-use Rattle.heap_law.specs.Things.{Thing, lies, flies, sent, things_at, partition_things, waiting_things}
-use Rattle.heap_law.specs.Follow.{threads_in}
-use Rattle.heap_law.specs.Weights.{cells}
-use Rattle.heap_law.proofs.Bags.{among_split}
-use Rattle.heap_law.proofs.Words.{itself}
-use Rattle.path_law.proofs.Origins.{threads_joined, among_first, among_second}
-use Rattle.word_law.specs.Reworded.{is_loose}
-use Rattle.word_law.proofs.Standing.{CellOf, lying, flying}
+use Rattle.result_law.specs.Below.fr_base.declared.name.ObjNo.{ObjNo}
+use Rattle.result_law.specs.Below.heap_partition.declared.value.Cell.{Cell}
+use Rattle.result_law.specs.Below.owner_box.View.{PartitionState}
+use Rattle.result_law.specs.Below.owner_box.Partition.{made, next_place}
+use Rattle.result_law.specs.Below.server_msgs.declared.message.Message.{Message}
+use Rattle.result_law.specs.Below.server_msgs.declared.message.Message.TheVariants.{Moved}
+use Rattle.result_law.specs.Below.heap_law.Names.{Among, one, same_object}
+use Rattle.result_law.specs.Below.heap_law.Things.{Thing, lies, flies, sent, things_at, partition_things, waiting_things}
+use Rattle.result_law.specs.Below.heap_law.Follow.{threads_in}
+use Rattle.result_law.specs.Below.heap_law.Weights.{cells}
+use Rattle.result_law.proofs.Below.heap_law.Bags.{among_split}
+use Rattle.result_law.proofs.Below.heap_law.Words.{itself}
+use Rattle.result_law.proofs.Below.path_law.Origins.{threads_joined, among_first, among_second}
+use Rattle.move_law.specs.Below.word_law.Reworded.{is_loose}
+use Rattle.move_law.proofs.Below.word_law.Standing.{CellOf, lying, flying}
 use Rattle.move_law.specs.Relaid.{NextIsVacant}
 use Rattle.move_law.proofs.Relaid.{Shifted, lies_at, at_lies, put_told, put_here, put_keeps, Addresses, address_one, address_join, partition_addresses, address_threads, address_fixed, is_address}
 

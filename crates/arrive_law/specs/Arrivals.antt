@@ -1,19 +1,19 @@
 -- AN OBJECT COMES (this project's rule): it was under way to a server, and lies there once its message is delivered.
 use Rattle.std.specs.Prelude.{◌≡◌, ◌≢◌, ℕ, Some, None, slice_get}
-use Rattle.heap_partition.specs.declared.value.BoxPtr.{BoxPtr}
-use Rattle.heap_partition.specs.declared.value.Cell.{Cell}
-use Rattle.heap_partition.specs.declared.value.Owned.TheVariants as owned
-use Rattle.mut_borrow.specs.declared.mutable.MutRef.{MutRef}
-use Rattle.owner_box.specs.Partition.{made, new_word}
-use Rattle.server_msgs.specs.declared.message.Message.TheVariants.{Moved}
-use Rattle.thread_state.specs.declared.value.Value.{Value}
-use Rattle.thread_state.specs.declared.value.Value.TheVariants as value
-use Rattle.server_model.specs.Servers.{Server, Cluster, server_at}
-use Rattle.server_model.specs.Work.{Hand, look, receive, thread_in}
-use Rattle.server_model.specs.Places.{in_slot, in_cell, pointer_of, set_pointer}
-use Rattle.heap_law.specs.Things.{at_slot, in_cell as heap_cell}
-use Rattle.word_law.specs.Reworded.{HasPlaces, Reworded}
-use Rattle.word_law.specs.PutBack.{put_in, LeadsHome}
+use Rattle.result_law.specs.Below.heap_partition.declared.value.BoxPtr.{BoxPtr}
+use Rattle.result_law.specs.Below.heap_partition.declared.value.Cell.{Cell}
+use Rattle.result_law.specs.Below.heap_partition.declared.value.Owned.TheVariants as owned
+use Rattle.result_law.specs.Below.mut_borrow.declared.mutable.MutRef.{MutRef}
+use Rattle.result_law.specs.Below.owner_box.Partition.{made, new_word}
+use Rattle.result_law.specs.Below.server_msgs.declared.message.Message.TheVariants.{Moved}
+use Rattle.result_law.specs.Below.thread_state.declared.value.Value.{Value}
+use Rattle.result_law.specs.Below.thread_state.declared.value.Value.TheVariants as value
+use Rattle.result_law.specs.Below.server_model.Servers.{Server, Cluster, server_at}
+use Rattle.result_law.specs.Below.server_model.Work.{Hand, look, receive, thread_in}
+use Rattle.result_law.specs.Below.server_model.Places.{in_slot, in_cell, pointer_of, set_pointer}
+use Rattle.result_law.specs.Below.heap_law.Things.{at_slot, in_cell as heap_cell}
+use Rattle.move_law.specs.Below.word_law.Reworded.{HasPlaces, Reworded}
+use Rattle.move_law.specs.Below.word_law.PutBack.{put_in, LeadsHome}
 use Rattle.move_law.specs.Relaid.{Relaid, NextIsVacant}
 
 -- the message number i of the server is delivered, which has the object's cell; the thread of the hand is as it was, and the cell lies at the next address

@@ -1,17 +1,17 @@
 -- WHAT COMES IS AWAITED (this project's rule): the object that a message brings to a thread is that of the pointer that the thread waits at in turn.
 use Rattle.std.specs.Prelude.{◌≡◌, ℕ, false, true, Some, slice_get}
-use Rattle.heap_partition.specs.declared.value.Cell.{Cell}
-use Rattle.thread_state.specs.View.{ThreadState}
-use Rattle.thread_state.specs.declared.phase.Phase.TheVariants as phase
-use Rattle.server_msgs.specs.declared.message.Message.TheVariants.{Moved}
-use Rattle.server_model.specs.Servers.{Server, Cluster, server_at}
-use Rattle.server_model.specs.Work.{thread_in}
-use Rattle.heap_law.specs.Follow.{Standing}
-use Rattle.heap_law.specs.Sight.{sight}
-use Rattle.heap_law.specs.Paths.{Awaited}
-use Rattle.heap_law.specs.Turn.{InTurn}
-use Rattle.heap_law.specs.Walking.{path}
-use Rattle.heap_law.specs.Coherent.{IsSound}
+use Rattle.result_law.specs.Below.heap_partition.declared.value.Cell.{Cell}
+use Rattle.result_law.specs.Below.thread_state.View.{ThreadState}
+use Rattle.result_law.specs.Below.thread_state.declared.phase.Phase.TheVariants as phase
+use Rattle.result_law.specs.Below.server_msgs.declared.message.Message.TheVariants.{Moved}
+use Rattle.result_law.specs.Below.server_model.Servers.{Server, Cluster, server_at}
+use Rattle.result_law.specs.Below.server_model.Work.{thread_in}
+use Rattle.result_law.specs.Below.heap_law.Follow.{Standing}
+use Rattle.result_law.specs.Below.heap_law.Sight.{sight}
+use Rattle.result_law.specs.Below.heap_law.Paths.{Awaited}
+use Rattle.result_law.specs.Below.heap_law.Turn.{InTurn}
+use Rattle.result_law.specs.Below.heap_law.Walking.{path}
+use Rattle.result_law.specs.Below.heap_law.Coherent.{IsSound}
 
 -- what the thread waits for in turn is that object, under that word, and comes to its server
 pub record Awaits (k : Cluster) (x : Standing) (old : ℕ) (c : Cell) : Type 0 where

@@ -1,48 +1,48 @@
 -- A delivery, an eviction and a migration leave all that asks, or answers, fitting what threads are known to wait for.
 use Rattle.std.proofs.Common.{◌≡◌, ℕ, zero, suc, ◌+◌, ◌-◌, ◌==◌, Bool, true, false, if◌then◌else◌, List, Option, Some, None, refl}
 use Rattle.std.specs.Prelude.{slice_get, option_map}
-use Rattle.fr_base.specs.Lists.{is_in}
-use Rattle.fr_base.specs.declared.name.MutexNo.{MutexNo}
-use Rattle.fr_base.specs.declared.place.Lval.{Lval}
-use Rattle.fr_base.specs.declared.instruction.Instr.{Instr}
-use Rattle.fr_base.specs.declared.release.Released.{Released}
-use Rattle.fr_base.specs.declared.release.Released.TheVariants as released
-use Rattle.global_addr.specs.Words.{server_of}
-use Rattle.heap_partition.specs.declared.value.Cell.{Cell}
-use Rattle.heap_partition.specs.declared.value.Owned.{Owned}
-use Rattle.heap_partition.specs.declared.value.Owned.TheVariants as owned
-use Rattle.owner_box.specs.Partition.{freed}
-use Rattle.read_cache.specs.Cache.{can_pin, can_fill}
-use Rattle.mutex_home.specs.Mutexes.{Mutexes, ask, give_back, more, less}
-use Rattle.mutex_home.specs.declared.answers.Asked.{Asked}
-use Rattle.mutex_home.specs.declared.answers.Asked.TheVariants as answer
-use Rattle.mutex_home.specs.declared.answers.Back.{Back}
-use Rattle.mutex_home.specs.declared.answers.Back.TheVariants as back
-use Rattle.join_home.specs.Tasks.{Task, ended, let_go_of}
-use Rattle.join_home.specs.Tasks as tasks
-use Rattle.join_home.specs.declared.answers.EndedAs.{EndedAs}
-use Rattle.join_home.specs.declared.answers.EndedAs.TheVariants as over
-use Rattle.thread_state.specs.View.{ThreadState}
-use Rattle.thread_state.specs.declared.phase.Phase.TheVariants as phase
-use Rattle.thread_state.specs.declared.value.Value.{Value}
-use Rattle.thread_state.specs.declared.value.Value.TheVariants as value
-use Rattle.server_msgs.specs.declared.message.Message.{Message}
-use Rattle.server_msgs.specs.declared.message.Message.TheVariants as message
-use Rattle.journal.specs.declared.act.Act.TheVariants as act
-use Rattle.server_model.specs.Work.{Work, Hand, Site, with_phase, with_mutexes, with_tasks, with_partition, then_some, put_back, thread_in, at_thread, beside_threads, look_object, used_once, note}
-use Rattle.server_model.specs.NewWords.{NewWord, can_grow, issue_placed}
-use Rattle.server_model.specs.Places.{Spot, in_slot, value_at, set_pointer}
-use Rattle.server_model.specs.Drop.{home_of, give_up}
-use Rattle.server_model.specs.Prepare.{Access, ReadTo, ReadPointer, WriteTo, LendTo, EndRef, passing, write_stars}
-use Rattle.server_model.specs.Objects.{deliver_fetch, waits_for_cell, filled, deliver_fetched, deliver_move, chased, waits_under, arrived_at, arrived_slot, passed_spot, arrived_write, arrived_lend, arrived_end, arrived, instr_access, deliver_moved, deliver_drop}
-use Rattle.server_model.specs.Sharing.{given, answer_lock, deliver_lock, waits_for_lock, deliver_granted, answer_back, deliver_unlock, deliver_dup, waits_for_dup, deliver_dupped, give_up_left}
-use Rattle.server_model.specs.Joining.{answer_join, deliver_join, waits_for_join, deliver_joined, got_par, pair_over, end_answer, deliver_finished}
-use Rattle.server_model.specs.Events.{release, deliver_message}
-use Rattle.heap_law.specs.Requests.{is_lock, is_join}
-use Rattle.event_law.specs.Laws.{Gives}
-use Rattle.event_law.proofs.Results.{then_gives, map_gives, over_gives, bind_gives, test_gives, stand_gives}
-use Rattle.event_law.proofs.KnownPlaces.{Told, pointer_keeps}
-use Rattle.local_law.proofs.MutexLists as lists
+use Rattle.result_law.specs.Below.fr_base.Lists.{is_in}
+use Rattle.result_law.specs.Below.fr_base.declared.name.MutexNo.{MutexNo}
+use Rattle.result_law.specs.Below.fr_base.declared.place.Lval.{Lval}
+use Rattle.result_law.specs.Below.fr_base.declared.instruction.Instr.{Instr}
+use Rattle.result_law.specs.Below.fr_base.declared.release.Released.{Released}
+use Rattle.result_law.specs.Below.fr_base.declared.release.Released.TheVariants as released
+use Rattle.result_law.specs.Below.global_addr.Words.{server_of}
+use Rattle.result_law.specs.Below.heap_partition.declared.value.Cell.{Cell}
+use Rattle.result_law.specs.Below.heap_partition.declared.value.Owned.{Owned}
+use Rattle.result_law.specs.Below.heap_partition.declared.value.Owned.TheVariants as owned
+use Rattle.result_law.specs.Below.owner_box.Partition.{freed}
+use Rattle.result_law.specs.Below.read_cache.Cache.{can_pin, can_fill}
+use Rattle.result_law.specs.Below.mutex_home.Mutexes.{Mutexes, ask, give_back, more, less}
+use Rattle.result_law.specs.Below.mutex_home.declared.answers.Asked.{Asked}
+use Rattle.result_law.specs.Below.mutex_home.declared.answers.Asked.TheVariants as answer
+use Rattle.result_law.specs.Below.mutex_home.declared.answers.Back.{Back}
+use Rattle.result_law.specs.Below.mutex_home.declared.answers.Back.TheVariants as back
+use Rattle.result_law.specs.Below.join_home.Tasks.{Task, ended, let_go_of}
+use Rattle.result_law.specs.Below.join_home.Tasks as tasks
+use Rattle.result_law.specs.Below.join_home.declared.answers.EndedAs.{EndedAs}
+use Rattle.result_law.specs.Below.join_home.declared.answers.EndedAs.TheVariants as over
+use Rattle.result_law.specs.Below.thread_state.View.{ThreadState}
+use Rattle.result_law.specs.Below.thread_state.declared.phase.Phase.TheVariants as phase
+use Rattle.result_law.specs.Below.thread_state.declared.value.Value.{Value}
+use Rattle.result_law.specs.Below.thread_state.declared.value.Value.TheVariants as value
+use Rattle.result_law.specs.Below.server_msgs.declared.message.Message.{Message}
+use Rattle.result_law.specs.Below.server_msgs.declared.message.Message.TheVariants as message
+use Rattle.result_law.specs.Below.journal.declared.act.Act.TheVariants as act
+use Rattle.result_law.specs.Below.server_model.Work.{Work, Hand, Site, with_phase, with_mutexes, with_tasks, with_partition, then_some, put_back, thread_in, at_thread, beside_threads, look_object, used_once, note}
+use Rattle.result_law.specs.Below.server_model.NewWords.{NewWord, can_grow, issue_placed}
+use Rattle.result_law.specs.Below.server_model.Places.{Spot, in_slot, value_at, set_pointer}
+use Rattle.result_law.specs.Below.server_model.Drop.{home_of, give_up}
+use Rattle.result_law.specs.Below.server_model.Prepare.{Access, ReadTo, ReadPointer, WriteTo, LendTo, EndRef, passing, write_stars}
+use Rattle.result_law.specs.Below.server_model.Objects.{deliver_fetch, waits_for_cell, filled, deliver_fetched, deliver_move, chased, waits_under, arrived_at, arrived_slot, passed_spot, arrived_write, arrived_lend, arrived_end, arrived, instr_access, deliver_moved, deliver_drop}
+use Rattle.result_law.specs.Below.server_model.Sharing.{given, answer_lock, deliver_lock, waits_for_lock, deliver_granted, answer_back, deliver_unlock, deliver_dup, waits_for_dup, deliver_dupped, give_up_left}
+use Rattle.result_law.specs.Below.server_model.Joining.{answer_join, deliver_join, waits_for_join, deliver_joined, got_par, pair_over, end_answer, deliver_finished}
+use Rattle.result_law.specs.Below.server_model.Events.{release, deliver_message}
+use Rattle.result_law.specs.Below.heap_law.Requests.{is_lock, is_join}
+use Rattle.result_law.specs.Below.event_law.Laws.{Gives}
+use Rattle.result_law.proofs.Below.event_law.Results.{then_gives, map_gives, over_gives, bind_gives, test_gives, stand_gives}
+use Rattle.result_law.proofs.Below.event_law.KnownPlaces.{Told, pointer_keeps}
+use Rattle.value_law.proofs.Below.local_law.MutexLists as lists
 use Rattle.ask_law.proofs.Asking.{Phases, unfit, MessageFits, RestFits, Fits, sent_fits, AllQueues, NextFits, lock_asks, content_back, share_more, share_less, AllNotes, ResultFits, join_asks, task_let_go, thread_ends}
 
 module _ (a : Phases) where
@@ -56,7 +56,7 @@ module _ (a : Phases) where
   SiteFits x = RestFits a x.work.rest
 
   -- a message that fits is sent
-  says : (t : ℕ) (m : Message) (w : Work) → MessageFits a m → WorkFits w → RestFits a (Rattle.server_model.specs.Work.sent_from w.rest t m)
+  says : (t : ℕ) (m : Message) (w : Work) → MessageFits a m → WorkFits w → RestFits a (Rattle.result_law.specs.Below.server_model.Work.sent_from w.rest t m)
   says t m w z g = sent_fits a t m w.rest z g
 
   -- other queues that fit
@@ -186,7 +186,7 @@ module _ (a : Phases) where
       by ms back.Kept q z = with_queues ms w q g
 
   -- a share is asked for, and answered
-  dups : (m : MutexNo) (s t : ℕ) (w : Work) → unfit a t (Rattle.heap_law.specs.Requests.is_dup m) ≡ 0 → WorkFits w → Gives WorkFits (deliver_dup m s t w)
+  dups : (m : MutexNo) (s t : ℕ) (w : Work) → unfit a t (Rattle.result_law.specs.Below.heap_law.Requests.is_dup m) ≡ 0 → WorkFits w → Gives WorkFits (deliver_dup m s t w)
   dups m s t w z g =
       map_gives WorkFits (more w.rest.mutexes m) _ (λ ms q. says s (message.Dupped m t) (with_mutexes ms w) z (with_queues ms w (lists.given (AllQueues a) (more w.rest.mutexes m) ms (share_more a w.rest.mutexes m g.queues) q) g))
 

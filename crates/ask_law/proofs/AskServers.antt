@@ -1,15 +1,15 @@
 -- All that asks or answers at a server fits exactly where its things weigh nothing.
 use Rattle.std.proofs.Common.{◌≡◌, ℕ, true, false, refl, arith}
-use Rattle.mutex_home.specs.Mutexes.{Mutex}
-use Rattle.join_home.specs.Tasks.{Task}
-use Rattle.server_msgs.specs.declared.message.Message.{Message}
-use Rattle.server_msgs.specs.declared.message.Message.TheVariants as message
-use Rattle.server_model.specs.Servers.{Sent, Server}
-use Rattle.heap_law.specs.Names.{tot}
-use Rattle.heap_law.specs.Things.{Thing, things_at, content_things, queue_things, mutex_things, task_things, standing_things, waiting_things, leaving_things, message_things, server_things}
-use Rattle.heap_law.proofs.Sums.{tot-append, server_parts}
-use Rattle.event_law.proofs.Unseen.{Unseen, none_at, thread_alone, content_none, result_none, partition_none, copies_none}
-use Rattle.local_law.proofs.Handed.{all_none, none_all}
+use Rattle.result_law.specs.Below.mutex_home.Mutexes.{Mutex}
+use Rattle.result_law.specs.Below.join_home.Tasks.{Task}
+use Rattle.result_law.specs.Below.server_msgs.declared.message.Message.{Message}
+use Rattle.result_law.specs.Below.server_msgs.declared.message.Message.TheVariants as message
+use Rattle.result_law.specs.Below.server_model.Servers.{Sent, Server}
+use Rattle.result_law.specs.Below.heap_law.Names.{tot}
+use Rattle.result_law.specs.Below.heap_law.Things.{Thing, things_at, content_things, queue_things, mutex_things, task_things, standing_things, waiting_things, leaving_things, message_things, server_things}
+use Rattle.result_law.proofs.Below.heap_law.Sums.{tot-append, server_parts}
+use Rattle.result_law.proofs.Below.event_law.Unseen.{Unseen, none_at, thread_alone, content_none, result_none, partition_none, copies_none}
+use Rattle.value_law.proofs.Below.local_law.Handed.{all_none, none_all}
 use Rattle.ask_law.proofs.Asking.{Phases, message_unfit, thing_unfit, MessageFits, AskerFits, QueueFits, NoteFits, Fits, RestFits}
 
 module _ (a : Phases) where

@@ -2,36 +2,36 @@
 use Rattle.std.proofs.Common.{◌≡◌, ℕ, ◌+◌, ◌==◌, Bool, true, false, if◌then◌else◌, List, Some, refl, sym, ap, subst, ◌∙◌}
 use Rattle.std.specs.List.{AllByRecursion}
 use Rattle.std.proofs.lemmas.Bool.{eq-eqb}
-use Rattle.fr_base.specs.declared.name.MutexNo.{MutexNo}
-use Rattle.fr_base.specs.declared.instruction.Instr.{Instr}
-use Rattle.fr_base.specs.declared.release.Released.TheVariants as released
-use Rattle.global_addr.specs.Words.{server_of}
-use Rattle.heap_partition.specs.declared.value.Owned.{Owned}
-use Rattle.heap_partition.specs.declared.value.Owned.TheVariants as owned
-use Rattle.mutex_home.specs.Mutexes.{Mutex, can_make}
-use Rattle.join_home.specs.Tasks.{Task, can_begin, can_begin_pair}
-use Rattle.thread_state.specs.View.{ThreadState, new_thread}
-use Rattle.thread_state.specs.declared.phase.Phase.{Phase}
-use Rattle.thread_state.specs.declared.phase.Phase.TheVariants as phase
-use Rattle.thread_state.specs.declared.value.Value.{Value}
-use Rattle.server_msgs.specs.declared.message.Message.{Message}
-use Rattle.server_msgs.specs.declared.message.Message.TheVariants as message
-use Rattle.journal.specs.declared.act.Act.TheVariants as act
-use Rattle.server_model.specs.Servers.{Sent, Rest}
-use Rattle.server_model.specs.Work.{Work, Hand, with_phase, sent_from}
-use Rattle.server_model.specs.NewWords.{NewWord, can_grow, issue_placed}
-use Rattle.server_model.specs.Start.{next_thread, server_for, start_thread, capture}
-use Rattle.server_model.specs.Drop.{home_of, give_up}
-use Rattle.server_model.specs.Commit.{go_on, next_object, push_box, begun, pair_begun, spawn_with, end_with}
-use Rattle.server_model.specs.Events.{can_step, step}
-use Rattle.heap_law.specs.Names.{other, same_mutex}
-use Rattle.heap_law.specs.Requests.{is_cell, is_lock, is_dup, is_join}
-use Rattle.event_law.specs.Laws.{Gives}
-use Rattle.event_law.proofs.Results.{then_gives, over_gives, test_gives}
-use Rattle.event_law.proofs.Known.{all_append}
-use Rattle.local_law.proofs.Small.{Of, Places, Small, Passes}
-use Rattle.local_law.proofs.Plainly.{Settles, moves_by, Acts, EndsStep, steps}
-use Rattle.local_law.proofs.Goes.{puts_by, Any, AnyWord}
+use Rattle.result_law.specs.Below.fr_base.declared.name.MutexNo.{MutexNo}
+use Rattle.result_law.specs.Below.fr_base.declared.instruction.Instr.{Instr}
+use Rattle.result_law.specs.Below.fr_base.declared.release.Released.TheVariants as released
+use Rattle.result_law.specs.Below.global_addr.Words.{server_of}
+use Rattle.result_law.specs.Below.heap_partition.declared.value.Owned.{Owned}
+use Rattle.result_law.specs.Below.heap_partition.declared.value.Owned.TheVariants as owned
+use Rattle.result_law.specs.Below.mutex_home.Mutexes.{Mutex, can_make}
+use Rattle.result_law.specs.Below.join_home.Tasks.{Task, can_begin, can_begin_pair}
+use Rattle.result_law.specs.Below.thread_state.View.{ThreadState, new_thread}
+use Rattle.result_law.specs.Below.thread_state.declared.phase.Phase.{Phase}
+use Rattle.result_law.specs.Below.thread_state.declared.phase.Phase.TheVariants as phase
+use Rattle.result_law.specs.Below.thread_state.declared.value.Value.{Value}
+use Rattle.result_law.specs.Below.server_msgs.declared.message.Message.{Message}
+use Rattle.result_law.specs.Below.server_msgs.declared.message.Message.TheVariants as message
+use Rattle.result_law.specs.Below.journal.declared.act.Act.TheVariants as act
+use Rattle.result_law.specs.Below.server_model.Servers.{Sent, Rest}
+use Rattle.result_law.specs.Below.server_model.Work.{Work, Hand, with_phase, sent_from}
+use Rattle.result_law.specs.Below.server_model.NewWords.{NewWord, can_grow, issue_placed}
+use Rattle.result_law.specs.Below.server_model.Start.{next_thread, server_for, start_thread, capture}
+use Rattle.result_law.specs.Below.server_model.Drop.{home_of, give_up}
+use Rattle.result_law.specs.Below.server_model.Commit.{go_on, next_object, push_box, begun, pair_begun, spawn_with, end_with}
+use Rattle.result_law.specs.Below.server_model.Events.{can_step, step}
+use Rattle.result_law.specs.Below.heap_law.Names.{other, same_mutex}
+use Rattle.result_law.specs.Below.heap_law.Requests.{is_cell, is_lock, is_dup, is_join}
+use Rattle.result_law.specs.Below.event_law.Laws.{Gives}
+use Rattle.result_law.proofs.Below.event_law.Results.{then_gives, over_gives, test_gives}
+use Rattle.result_law.proofs.Below.event_law.Known.{all_append}
+use Rattle.value_law.proofs.Below.local_law.Small.{Of, Places, Small, Passes}
+use Rattle.value_law.proofs.Below.local_law.Plainly.{Settles, moves_by, Acts, EndsStep, steps}
+use Rattle.value_law.proofs.Below.local_law.Goes.{puts_by, Any, AnyWord}
 use Rattle.ask_law.proofs.Asking.{Phases, passes, unfit, MessageFits, QueueFits, NoteFits, Fits, RestFits, sent_fits, turned, rest_still}
 
 -- what the thread itself asks for fits its phase then
@@ -113,7 +113,7 @@ module _ (a : Phases) (y : ThreadState) (now : Phase) (has : a y.number ≡ Some
 
   -- nor does the end of a thread
   ended : (main : Bool) (v : Owned) (h : Hand) → Of F h → Gives (λ h2. Settles E (with_phase phase.Over h2)) (end_with main v h)
-  ended true v h g = λ cs z. still phase.Over (gives_up v (Rattle.server_model.specs.Commit.label_dropped (Rattle.thread_state.specs.declared.value.Value.TheVariants.Own v) h).work g.0)
+  ended true v h g = λ cs z. still phase.Over (gives_up v (Rattle.result_law.specs.Below.server_model.Commit.label_dropped (Rattle.result_law.specs.Below.thread_state.declared.value.Value.TheVariants.Own v) h).work g.0)
   ended false v h g = λ cs z. still phase.Over (says h.thread.home (message.Finished h.thread.number v) h.work.rest refl g.0)
 
   -- the plain steps: what a lock, a dup or a join asks for fits the phase

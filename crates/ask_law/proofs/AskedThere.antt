@@ -1,31 +1,31 @@
 -- What a lock or a dup asks for is the mutex at its place.
 use Rattle.std.proofs.Common.{◌≡◌, ℕ, false, Option, Some, None, option_map, refl, sym, ap, subst, ◌∙◌, arith}
 use Rattle.std.specs.Bool.{⊤}
-use Rattle.fr_base.specs.declared.place.Lval.{Lval}
-use Rattle.fr_base.specs.declared.name.MutexNo.{MutexNo}
-use Rattle.fr_base.specs.declared.instruction.Instr.{Instr}
-use Rattle.fr_base.specs.declared.instruction.Instr.TheVariants as instr
-use Rattle.fr_typing.specs.Kinds.{own, mutex, whole}
-use Rattle.fr_store.specs.Below.{ExactOf}
-use Rattle.fr_store.specs.Keys.{slot_k}
-use Rattle.heap_partition.specs.declared.value.Owned.TheVariants as owned
-use Rattle.thread_state.specs.View.{ThreadState}
-use Rattle.thread_state.specs.declared.phase.Phase.{Phase}
-use Rattle.thread_state.specs.declared.phase.Phase.TheVariants as phase
-use Rattle.thread_state.specs.declared.value.Value.{Value}
-use Rattle.thread_state.specs.declared.value.Value.TheVariants as value
-use Rattle.server_model.specs.Servers.{Rest, Server, Cluster}
-use Rattle.server_model.specs.Work.{Hand, mutex_of, then_some}
-use Rattle.server_model.specs.Places.{Spot, in_slot, value_at}
-use Rattle.server_model.specs.Prepare.{ReadTo, Prepared, ready, requested, nothing, read_stars}
-use Rattle.server_model.specs.Commit.{ask_dup, ask_lock, waiting, mutex_at, dup, lock, commit}
-use Rattle.server_model.specs.Events.{Stepped, begin_work, wait_step, committed, prepared, step}
-use Rattle.heap_law.specs.Things.{Location}
-use Rattle.heap_law.specs.Follow.{Standing, Ground, value_in, value_behind, locate}
-use Rattle.heap_law.specs.Sight.{sight}
-use Rattle.heap_law.specs.Requests as requests
-use Rattle.event_law.specs.Laws.{Gives}
-use Rattle.local_law.proofs.Small.{Of, Small, Made, prepare_makes}
+use Rattle.result_law.specs.Below.fr_base.declared.place.Lval.{Lval}
+use Rattle.result_law.specs.Below.fr_base.declared.name.MutexNo.{MutexNo}
+use Rattle.result_law.specs.Below.fr_base.declared.instruction.Instr.{Instr}
+use Rattle.result_law.specs.Below.fr_base.declared.instruction.Instr.TheVariants as instr
+use Rattle.result_law.specs.Below.fr_typing.Kinds.{own, mutex, whole}
+use Rattle.result_law.specs.Below.fr_store.Below.{ExactOf}
+use Rattle.result_law.specs.Below.fr_store.Keys.{slot_k}
+use Rattle.result_law.specs.Below.heap_partition.declared.value.Owned.TheVariants as owned
+use Rattle.result_law.specs.Below.thread_state.View.{ThreadState}
+use Rattle.result_law.specs.Below.thread_state.declared.phase.Phase.{Phase}
+use Rattle.result_law.specs.Below.thread_state.declared.phase.Phase.TheVariants as phase
+use Rattle.result_law.specs.Below.thread_state.declared.value.Value.{Value}
+use Rattle.result_law.specs.Below.thread_state.declared.value.Value.TheVariants as value
+use Rattle.result_law.specs.Below.server_model.Servers.{Rest, Server, Cluster}
+use Rattle.result_law.specs.Below.server_model.Work.{Hand, mutex_of, then_some}
+use Rattle.result_law.specs.Below.server_model.Places.{Spot, in_slot, value_at}
+use Rattle.result_law.specs.Below.server_model.Prepare.{ReadTo, Prepared, ready, requested, nothing, read_stars}
+use Rattle.result_law.specs.Below.server_model.Commit.{ask_dup, ask_lock, waiting, mutex_at, dup, lock, commit}
+use Rattle.result_law.specs.Below.server_model.Events.{Stepped, begin_work, wait_step, committed, prepared, step}
+use Rattle.result_law.specs.Below.heap_law.Things.{Location}
+use Rattle.result_law.specs.Below.heap_law.Follow.{Standing, Ground, value_in, value_behind, locate}
+use Rattle.result_law.specs.Below.heap_law.Sight.{sight}
+use Rattle.result_law.specs.Below.heap_law.Requests as requests
+use Rattle.result_law.specs.Below.event_law.Laws.{Gives}
+use Rattle.value_law.proofs.Below.local_law.Small.{Of, Small, Made, prepare_makes}
 use Rattle.result_law.proofs.Known.{Steps, goes, paths, standing, hand, entry, typed, types}
 use Rattle.result_law.proofs.Followed.{Place}
 use Rattle.result_law.proofs.Reading.{Alike, equal, both_shared, Reading}
@@ -51,7 +51,7 @@ anything (Some h) = tt
 -- what a small step asks for is a copy or an object
 calls : Small (λ (r : Rest) (t : ThreadState). ⊤) Calls (λ (v : Value). ⊤) (λ (w : ℕ). ⊤)
 calls = record {
-  places = record { spot = λ s v h g e. tt; puts = λ s v h z a g. anything (Rattle.server_model.specs.Places.put_at s v h); worded = λ w v new x a e. tt; word_of = λ r a. tt; points = λ v p a e. tt };
+  places = record { spot = λ s v h g e. tt; puts = λ s v h z a g. anything (Rattle.result_law.specs.Below.server_model.Places.put_at s v h); worded = λ w v new x a e. tt; word_of = λ r a. tt; points = λ v p a e. tt };
   tints = λ p h a g e. tt;
   renews = λ p h a g e. (tt, tt);
   pinned = λ r a. tt;
@@ -81,10 +81,10 @@ alike_mutex m (value.Held n) _ equal e = absurd (cc e)
 
 -- the mutex that its phase names stands at the place
 abbrev pub AsksLock : Ground → ℕ → Lval → Stepped → Type 0
-AsksLock g n w d = (m : MutexNo) → d.hand.thread.phase ≡ phase.WaitLock m → requests.mutex_of (Rattle.heap_law.specs.Follow.value_at g n w) ≡ Some m
+AsksLock g n w d = (m : MutexNo) → d.hand.thread.phase ≡ phase.WaitLock m → requests.mutex_of (Rattle.result_law.specs.Below.heap_law.Follow.value_at g n w) ≡ Some m
 
 abbrev pub AsksDup : Ground → ℕ → Lval → Stepped → Type 0
-AsksDup g n w d = (m : MutexNo) → d.hand.thread.phase ≡ phase.WaitDup m → requests.mutex_of (Rattle.heap_law.specs.Follow.value_at g n w) ≡ Some m
+AsksDup g n w d = (m : MutexNo) → d.hand.thread.phase ≡ phase.WaitDup m → requests.mutex_of (Rattle.result_law.specs.Below.heap_law.Follow.value_at g n w) ≡ Some m
 
 module _ (k : Cluster) (n t : ℕ) (s : Server) (y : ThreadState) (i : Instr) (z : Steps k n t s y i) (bare : y.gift ≡ None) where
   abbrev G : Ground
@@ -96,7 +96,7 @@ module _ (k : Cluster) (n t : ℕ) (s : Server) (y : ThreadState) (i : Instr) (z
   abbrev Reads : ℕ → Hand → Type 0
   Reads d h = Reading y s.rest (bound k n t s y i z) d h
 
-  module _ (w : Lval) (o : Rattle.fr_typing.specs.Kinds.Owned) (may : IsReadable (entry k n t s y i z) w (own (mutex o))) (lends_none : (p : Lval) → i ≡ instr.BorrowMut p → ⊥) where
+  module _ (w : Lval) (o : Rattle.result_law.specs.Below.fr_typing.Kinds.Owned) (may : IsReadable (entry k n t s y i z) w (own (mutex o))) (lends_none : (p : Lval) → i ≡ instr.BorrowMut p → ⊥) where
     its_place : (p : Place k (paths k n t s y i z) x false w) × ExactOf (slot_k y.number) (paths k n t s y i z).types.typing.exact (whole (own (mutex o))) p.type
     its_place = readable_place k (paths k n t s y i z) x (goes k n t s y i z) w (own (mutex o)) may
 
@@ -104,7 +104,7 @@ module _ (k : Cluster) (n t : ℕ) (s : Server) (y : ThreadState) (i : Instr) (z
     fine = stars_fine k n t s y i z false w its_place.0 may.has.short w.depth (omega arith) (never_taken k n t s y i z lends_none false w its_place.0)
 
     -- what is found where the place is ready stands at the place
-    is_there : (h : Hand) (sp : Spot) (l : Location) → locate G y.number w.slot w.depth ≡ Some l → At k n t s y i z sp l → Reads w.depth h → (m : MutexNo) → mutex_at h sp ≡ Some m → requests.mutex_of (Rattle.heap_law.specs.Follow.value_at G y.number w) ≡ Some m
+    is_there : (h : Hand) (sp : Spot) (l : Location) → locate G y.number w.slot w.depth ≡ Some l → At k n t s y i z sp l → Reads w.depth h → (m : MutexNo) → mutex_at h sp ≡ Some m → requests.mutex_of (Rattle.result_law.specs.Below.heap_law.Follow.value_at G y.number w) ≡ Some m
     is_there h sp l located spot a m e =
         let r = stands_so k (paths k n t s y i z) x (goes k n t s y i z) false w its_place.0.base its_place.0.boxes its_place.0.type its_place.0.unmarked its_place.0.resolves (no_hole k (paths k n t s y i z) x (goes k n t s y i z) (own (mutex o)) its_place.0.type its_place.1) in
         let same : r.0 ≡ l = some_is (sym r.2 ∙ located) in
@@ -118,7 +118,7 @@ module _ (k : Cluster) (n t : ℕ) (s : Server) (y : ThreadState) (i : Instr) (z
 
     -- where a place is ready the step asks for that, and before that for an object
     asks_by : (servers : ℕ) (P : Stepped → Type 0) → ((h : Hand) → IsCell h.thread.phase → P (wait_step h))
-        → ((h : Hand) (sp : Spot) → h.thread.gift ≡ None → ((m : MutexNo) → mutex_at h sp ≡ Some m → requests.mutex_of (Rattle.heap_law.specs.Follow.value_at G y.number w) ≡ Some m) → Gives P (committed (commit servers i sp h)))
+        → ((h : Hand) (sp : Spot) → h.thread.gift ≡ None → ((m : MutexNo) → mutex_at h sp ≡ Some m → requests.mutex_of (Rattle.result_law.specs.Below.heap_law.Follow.value_at G y.number w) ≡ Some m) → Gives P (committed (commit servers i sp h)))
         → Gives P (prepared servers i (read_stars w.depth (hand k n t s y i z) (in_slot w.slot)))
     asks_by servers P cell go = by (read_stars w.depth (hand k n t s y i z) (in_slot w.slot)) fine (prepare_makes (Some (ReadTo w)) (hand k n t s y i z) (λ f. calls) (λ f. absurd f) tt)
       where

@@ -2,32 +2,32 @@
 use Rattle.std.proofs.Common.{◌≡◌, ℕ, ◌+◌, ◌-◌, ◌^◌, ◌==◌, ◌&&◌, nat_lt, Bool, true, false, if◌then◌else◌, List, [], ◌∷◌, ◌++◌, Option, Some, None, refl, sym, ap, subst, ◌∙◌}
 use Rattle.std.specs.List.{AllByRecursion}
 use Rattle.std.specs.Bool.{⊤}
-use Rattle.fr_typing.proofs.PlaceLemmas.{eq_cases}
-use Rattle.fr_base.specs.declared.name.MutexNo.{MutexNo}
-use Rattle.heap_partition.specs.declared.value.Owned.{Owned}
-use Rattle.mutex_home.specs.Mutexes.{Mutex, Mutexes, mutex_in, put_mutex, end_mutex, asked_of, asked_in, ask, back_to, back_out, back_in, give_back, more_in, more, last_less, less_of, less_in, less}
-use Rattle.mutex_home.specs.declared.answers.Asked.{Asked}
-use Rattle.mutex_home.specs.declared.answers.Back.{Back}
-use Rattle.mutex_home.specs.declared.answers.Back.TheVariants as back
-use Rattle.join_home.specs.Tasks.{Task, TaskState, going, let_go, kept, asked, in_pair, task_in, state_in, state_of, with_state, without_task, over_in, pair_ended, ended_from, ended, asked_from, let_go_from, let_go_of}
-use Rattle.join_home.specs.Tasks as tasks
-use Rattle.join_home.specs.declared.answers.EndedAs.{EndedAs}
-use Rattle.join_home.specs.declared.answers.EndedAs.TheVariants as over
-use Rattle.thread_state.specs.declared.phase.Phase.{Phase}
-use Rattle.thread_state.specs.declared.phase.Phase.TheVariants as phase
-use Rattle.server_msgs.specs.declared.message.Message.{Message}
-use Rattle.server_msgs.specs.declared.message.Message.TheVariants as message
-use Rattle.server_model.specs.Servers.{Sent, Rest}
-use Rattle.server_model.specs.Work.{sent_from}
-use Rattle.server_model.specs.Events.{can_step}
-use Rattle.heap_law.specs.Names.{other, same_mutex}
-use Rattle.heap_law.specs.Things.{Thing, sent, queued, noted}
-use Rattle.heap_law.specs.Requests.{is_cell, is_lock, is_dup, is_join}
-use Rattle.heap_law.proofs.Names.{same_mutexes}
-use Rattle.event_law.specs.Laws.{Gives}
-use Rattle.event_law.proofs.Results.{test_gives}
-use Rattle.event_law.proofs.Known.{all_append}
-use Rattle.local_law.proofs.MutexLists.{put_all, ends_all}
+use Rattle.result_law.proofs.Below.fr_typing.PlaceLemmas.{eq_cases}
+use Rattle.result_law.specs.Below.fr_base.declared.name.MutexNo.{MutexNo}
+use Rattle.result_law.specs.Below.heap_partition.declared.value.Owned.{Owned}
+use Rattle.result_law.specs.Below.mutex_home.Mutexes.{Mutex, Mutexes, mutex_in, put_mutex, end_mutex, asked_of, asked_in, ask, back_to, back_out, back_in, give_back, more_in, more, last_less, less_of, less_in, less}
+use Rattle.result_law.specs.Below.mutex_home.declared.answers.Asked.{Asked}
+use Rattle.result_law.specs.Below.mutex_home.declared.answers.Back.{Back}
+use Rattle.result_law.specs.Below.mutex_home.declared.answers.Back.TheVariants as back
+use Rattle.result_law.specs.Below.join_home.Tasks.{Task, TaskState, going, let_go, kept, asked, in_pair, task_in, state_in, state_of, with_state, without_task, over_in, pair_ended, ended_from, ended, asked_from, let_go_from, let_go_of}
+use Rattle.result_law.specs.Below.join_home.Tasks as tasks
+use Rattle.result_law.specs.Below.join_home.declared.answers.EndedAs.{EndedAs}
+use Rattle.result_law.specs.Below.join_home.declared.answers.EndedAs.TheVariants as over
+use Rattle.result_law.specs.Below.thread_state.declared.phase.Phase.{Phase}
+use Rattle.result_law.specs.Below.thread_state.declared.phase.Phase.TheVariants as phase
+use Rattle.result_law.specs.Below.server_msgs.declared.message.Message.{Message}
+use Rattle.result_law.specs.Below.server_msgs.declared.message.Message.TheVariants as message
+use Rattle.result_law.specs.Below.server_model.Servers.{Sent, Rest}
+use Rattle.result_law.specs.Below.server_model.Work.{sent_from}
+use Rattle.result_law.specs.Below.server_model.Events.{can_step}
+use Rattle.result_law.specs.Below.heap_law.Names.{other, same_mutex}
+use Rattle.result_law.specs.Below.heap_law.Things.{Thing, sent, queued, noted}
+use Rattle.result_law.specs.Below.heap_law.Requests.{is_cell, is_lock, is_dup, is_join}
+use Rattle.result_law.proofs.Below.heap_law.Names.{same_mutexes}
+use Rattle.result_law.specs.Below.event_law.Laws.{Gives}
+use Rattle.result_law.proofs.Below.event_law.Results.{test_gives}
+use Rattle.result_law.proofs.Below.event_law.Known.{all_append}
+use Rattle.value_law.proofs.Below.local_law.MutexLists.{put_all, ends_all}
 
 -- WHAT THREADS WAIT FOR
 
@@ -212,7 +212,7 @@ module _ (a : Phases) where
   state_fits (x ∷ xs) t g = by (x.thread == t) refl (state_fits xs t g.1)
     where
       by : (b : Bool) → (x.thread == t) ≡ b → StateFits t (state_of xs t) → StateFits t (state_in (if b then Some x else task_in xs t))
-      by true e rest = subst (λ u. note_unfit a u x.state ≡ 0) (Rattle.heap_law.proofs.Names.same_number x.thread t e) g.0
+      by true e rest = subst (λ u. note_unfit a u x.state ≡ 0) (Rattle.result_law.proofs.Below.heap_law.Names.same_number x.thread t e) g.0
       by false e rest = rest
 
   -- a result that is asked for

@@ -2,40 +2,40 @@
 use Rattle.std.proofs.Common.{◌≡◌, ℕ, ◌+◌, is_some, true, false, List, [], ◌∷◌, Option, Some, None, option_map, refl, sym, ap, subst, ◌∙◌, arith}
 use Rattle.std.specs.Prelude.{slice_get}
 use Rattle.std.proofs.lemmas.Bool.{eq-eqb}
-use Rattle.fr_base.specs.declared.place.Lval.{Lval}
-use Rattle.fr_base.specs.declared.name.MutexNo.{MutexNo}
-use Rattle.fr_base.specs.declared.instruction.Instr.{Instr}
-use Rattle.fr_base.specs.declared.instruction.Instr.TheVariants as instr
-use Rattle.fr_base.specs.declared.instruction.Operand.{Operand}
-use Rattle.fr_base.specs.declared.instruction.Operand.TheVariants as operand
-use Rattle.heap_partition.specs.declared.value.Owned.{Owned}
-use Rattle.heap_partition.specs.declared.value.Owned.TheVariants as owned
-use Rattle.thread_state.specs.View.{ThreadState}
-use Rattle.thread_state.specs.declared.phase.Phase.{Phase}
-use Rattle.thread_state.specs.declared.phase.Phase.TheVariants as phase
-use Rattle.thread_state.specs.declared.value.Value.{Value}
-use Rattle.thread_state.specs.declared.value.Value.TheVariants as value
-use Rattle.server_model.specs.declared.event.Event.{Event}
-use Rattle.server_model.specs.Servers.{Server, Cluster, server_at}
-use Rattle.server_model.specs.Work.{Hand, Popped, thread_in, last_of, pop, task_of, then_some}
-use Rattle.server_model.specs.Commit.{ask_join, waiting, join}
-use Rattle.server_model.specs.Events.{Stepped, can_step, has_phase, begin_work, committed, step}
-use Rattle.heap_law.specs.Names.{tot, other}
-use Rattle.heap_law.specs.Things.{things_of}
-use Rattle.heap_law.specs.Follow.{Standing, Ground, threads_in, value_at}
-use Rattle.heap_law.specs.Sight.{sight}
-use Rattle.heap_law.specs.Paths.{joined_thread}
-use Rattle.heap_law.specs.Requests.{mutex_of, is_mutex, is_task, is_value_of, is_got, early_gift, stands_wrong, gift_there, locked_mutex, dupped_mutex}
-use Rattle.heap_law.specs.Coherent.{IsSound}
-use Rattle.type_law.specs.ClusterTypes.{IsCoherent}
-use Rattle.event_law.specs.Laws.{Gives, FewEvents}
-use Rattle.event_law.proofs.Results.{weaker, both_give}
-use Rattle.event_law.proofs.GiftsTaken.{ready_ungot, gift_fits}
-use Rattle.local_law.proofs.Goes.{Goes, IsGotten, on, waits_pair, is_over, asks_cell, asks_home, gets_cell, gets_gift, goes_pair, AsksHome, IsAsking, HasCell, Shares, thread_goes}
-use Rattle.local_law.proofs.Threads.{Ways}
-use Rattle.local_law.proofs.Handed.{Stood, InParcel, threads_go, known}
-use Rattle.migration.specs.Packing.{packed}
-use Rattle.event_law.proofs.QuietSteps.{GiftFits}
+use Rattle.result_law.specs.Below.fr_base.declared.place.Lval.{Lval}
+use Rattle.result_law.specs.Below.fr_base.declared.name.MutexNo.{MutexNo}
+use Rattle.result_law.specs.Below.fr_base.declared.instruction.Instr.{Instr}
+use Rattle.result_law.specs.Below.fr_base.declared.instruction.Instr.TheVariants as instr
+use Rattle.result_law.specs.Below.fr_base.declared.instruction.Operand.{Operand}
+use Rattle.result_law.specs.Below.fr_base.declared.instruction.Operand.TheVariants as operand
+use Rattle.result_law.specs.Below.heap_partition.declared.value.Owned.{Owned}
+use Rattle.result_law.specs.Below.heap_partition.declared.value.Owned.TheVariants as owned
+use Rattle.result_law.specs.Below.thread_state.View.{ThreadState}
+use Rattle.result_law.specs.Below.thread_state.declared.phase.Phase.{Phase}
+use Rattle.result_law.specs.Below.thread_state.declared.phase.Phase.TheVariants as phase
+use Rattle.result_law.specs.Below.thread_state.declared.value.Value.{Value}
+use Rattle.result_law.specs.Below.thread_state.declared.value.Value.TheVariants as value
+use Rattle.result_law.specs.Below.server_model.declared.event.Event.{Event}
+use Rattle.result_law.specs.Below.server_model.Servers.{Server, Cluster, server_at}
+use Rattle.result_law.specs.Below.server_model.Work.{Hand, Popped, thread_in, last_of, pop, task_of, then_some}
+use Rattle.result_law.specs.Below.server_model.Commit.{ask_join, waiting, join}
+use Rattle.result_law.specs.Below.server_model.Events.{Stepped, can_step, has_phase, begin_work, committed, step}
+use Rattle.result_law.specs.Below.heap_law.Names.{tot, other}
+use Rattle.result_law.specs.Below.heap_law.Things.{things_of}
+use Rattle.result_law.specs.Below.heap_law.Follow.{Standing, Ground, threads_in, value_at}
+use Rattle.result_law.specs.Below.heap_law.Sight.{sight}
+use Rattle.result_law.specs.Below.heap_law.Paths.{joined_thread}
+use Rattle.result_law.specs.Below.heap_law.Requests.{mutex_of, is_mutex, is_task, is_value_of, is_got, early_gift, stands_wrong, gift_there, locked_mutex, dupped_mutex}
+use Rattle.result_law.specs.Below.heap_law.Coherent.{IsSound}
+use Rattle.result_law.specs.Below.type_law.ClusterTypes.{IsCoherent}
+use Rattle.result_law.specs.Below.event_law.Laws.{Gives, FewEvents}
+use Rattle.result_law.proofs.Below.event_law.Results.{weaker, both_give}
+use Rattle.result_law.proofs.Below.event_law.GiftsTaken.{ready_ungot, gift_fits}
+use Rattle.value_law.proofs.Below.local_law.Goes.{Goes, IsGotten, on, waits_pair, is_over, asks_cell, asks_home, gets_cell, gets_gift, goes_pair, AsksHome, IsAsking, HasCell, Shares, thread_goes}
+use Rattle.value_law.proofs.Below.local_law.Threads.{Ways}
+use Rattle.value_law.proofs.Below.local_law.Handed.{Stood, InParcel, threads_go, known}
+use Rattle.result_law.specs.Below.migration.Packing.{packed}
+use Rattle.result_law.proofs.Below.event_law.QuietSteps.{GiftFits}
 use Rattle.result_law.proofs.Known.{Steps}
 use Rattle.ask_law.specs.Standing.{locked, dupped, phase_off, gift_at, gift_off, off, StandBy, EachEventAsksForWhatIsThere}
 use Rattle.ask_law.proofs.GiftsGot.{Bare, bare_of, left_none, steps_bare}
@@ -65,7 +65,7 @@ gift_right : (k : Cluster) (x : Standing) (g : Option Owned) → gift_there (sig
 gift_right k x None z = refl
 gift_right k x (Some v) z = by (slice_get k.code x.thread.pc) z
   where
-    by : (j : Option Instr) → Rattle.heap_law.specs.Requests.gift_fits (sight k) x v j ≡ 0 → gift_at (sight k).ground j x.thread v ≡ 0
+    by : (j : Option Instr) → Rattle.result_law.specs.Below.heap_law.Requests.gift_fits (sight k) x v j ≡ 0 → gift_at (sight k).ground j x.thread v ≡ 0
     by (Some (instr.Lock w)) y = y
     by (Some (instr.Dup w)) y = y
     by (Some (instr.Join o)) y = y
@@ -164,7 +164,7 @@ module _ (G : Ground) (code : List Instr) where
       there (Some w) q = refl
 
       by : (j : Option Instr) → other (is_task u (joined_thread j y)) ≡ 0 → gift_at G j y2 v ≡ 0
-      by (Some (instr.Join o)) q = ap (λ ts. other (is_some (Rattle.heap_law.specs.Paths.task_in (Rattle.heap_law.specs.Paths.popped o ts)))) e ∙ there (joined_thread (Some (instr.Join o)) y) q
+      by (Some (instr.Join o)) q = ap (λ ts. other (is_some (Rattle.result_law.specs.Below.heap_law.Paths.task_in (Rattle.result_law.specs.Below.heap_law.Paths.popped o ts)))) e ∙ there (joined_thread (Some (instr.Join o)) y) q
       by j q = absurd (cc q)
   given_off i y y2 p (Some v) a e n f z = absurd a
 
@@ -187,7 +187,7 @@ module _ (G : Ground) (code : List Instr) where
       by_task (value.Own (owned.Task u)) at q =
           let t : ThreadState = record h.thread { phase = phase.WaitJoin u } in
           let joined : phase_off G (slice_get code h.thread.pc) t (phase.WaitJoin u) ≡ 0 =
-          ap (λ i. other (is_task u (joined_thread i t))) at ∙ ap (λ v. other (is_task u (Rattle.heap_law.specs.Paths.task_in v))) q ∙ ap other (eq-eqb u u refl) in
+          ap (λ i. other (is_task u (joined_thread i t))) at ∙ ap (λ v. other (is_task u (Rattle.result_law.specs.Below.heap_law.Paths.task_in v))) q ∙ ap other (eq-eqb u u refl) in
           off_by t (phase.WaitJoin u) refl e joined
       by_task value.Gone at q = tt
       by_task (value.Own owned.Nothing) at q = tt
@@ -202,7 +202,7 @@ module _ (G : Ground) (code : List Instr) where
       by_task (value.Held m) at q = tt
 
       by_top : (v : Option Value) → slice_get code h.thread.pc ≡ Some (instr.Join operand.Pop) → last_of h.thread.temps ≡ v
-          → Gives (λ (d : Stepped). Off d.hand.thread ≡ 0) (committed (waiting (option_map (ask_join h) (then_some (option_map (λ w. record { item = w; hand = Rattle.server_model.specs.Work.with_temps (Rattle.server_model.specs.Work.front_of h.thread.temps) h }) v) (λ (p : Popped Value). task_of p.item)))))
+          → Gives (λ (d : Stepped). Off d.hand.thread ≡ 0) (committed (waiting (option_map (ask_join h) (then_some (option_map (λ w. record { item = w; hand = Rattle.result_law.specs.Below.server_model.Work.with_temps (Rattle.result_law.specs.Below.server_model.Work.front_of h.thread.temps) h }) v) (λ (p : Popped Value). task_of p.item)))))
       by_top None at q = tt
       by_top (Some v) at q = by_task v at q
 
@@ -279,10 +279,10 @@ module _ (k : Cluster) (e : Event) (coherent : IsCoherent k) (few : FewEvents k)
     leaves = λ t n y there p r. left n y (bare_there t y there (ready_ungot y.phase r)) r;
   }
     where
-      left : (n : ℕ) (y : ThreadState) → y.gift ≡ None → Rattle.server_model.specs.Events.is_ready y.phase ≡ true → InParcel (off k) n (packed (record y { moved_since_step = true }))
+      left : (n : ℕ) (y : ThreadState) → y.gift ≡ None → Rattle.result_law.specs.Below.server_model.Events.is_ready y.phase ≡ true → InParcel (off k) n (packed (record y { moved_since_step = true }))
       left n y g r = off_by (sight k).ground k.code (packed (record y { moved_since_step = true })) phase.Ready (ready_is y.phase r) g refl
         where
-          ready_is : (p : Phase) → Rattle.server_model.specs.Events.is_ready p ≡ true → p ≡ phase.Ready
+          ready_is : (p : Phase) → Rattle.result_law.specs.Below.server_model.Events.is_ready p ≡ true → p ≡ phase.Ready
           ready_is phase.Ready f = refl
           ready_is p f = absurd (cc f)
 

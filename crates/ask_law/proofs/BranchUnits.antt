@@ -2,53 +2,53 @@
 use Rattle.std.proofs.Common.{◌≡◌, ℕ, ◌+◌, ◌≤◌, ◌==◌, Bool, true, false, List, [], ◌∷◌, reverse, Option, Some, None, option_map, refl, sym, ap, subst, ◌∙◌, arith}
 use Rattle.std.specs.Prelude.{slice_get}
 use Rattle.std.specs.Bool.{⊤}
-use Rattle.fr_base.specs.declared.step.Fresh.TheVariants as fresh
-use Rattle.fr_base.specs.declared.instruction.Instr.{Instr}
-use Rattle.fr_base.specs.declared.instruction.Instr.TheVariants as instr
-use Rattle.fr_base.specs.declared.instruction.Operand.{Operand}
-use Rattle.fr_typing.specs.Kinds.{own, whole, unit}
-use Rattle.fr_code.specs.CodeTypes.{Entry, Table, InstrTypes, i_par_end}
-use Rattle.fr_code.specs.CodeTable.{Leads, Successors, to_next, ends}
-use Rattle.heap_partition.specs.declared.value.Owned.{Owned}
-use Rattle.heap_partition.specs.declared.value.Owned.TheVariants as owned
-use Rattle.migration.specs.Packing.{unpin_all}
-use Rattle.read_cache.specs.Cache.{Copy}
-use Rattle.thread_state.specs.View.{ThreadState}
-use Rattle.thread_state.specs.declared.phase.Phase.TheVariants as phase
-use Rattle.thread_state.specs.declared.value.Value.{Value}
-use Rattle.thread_state.specs.declared.value.Value.TheVariants as value
-use Rattle.server_msgs.specs.declared.message.Message.{Message}
-use Rattle.server_msgs.specs.declared.message.Message.TheVariants as message
-use Rattle.journal.specs.View.{EntryView}
-use Rattle.server_model.specs.declared.event.Event.{Event}
-use Rattle.server_model.specs.Servers.{Server, Cluster, server_at}
-use Rattle.server_model.specs.Work.{Hand, Popped, thread_in, with_temps, with_phase, with_cache, pop_owned, then_some}
-use Rattle.server_model.specs.Commit.{done_where, end_with, label_dropped}
-use Rattle.server_model.specs.Events.{Stepped, can_step, has_phase, begin_work, done_step, committed, step}
-use Rattle.server_model.specs.Clusters.{apply}
-use Rattle.heap_law.specs.Names.{tot, other, if_so}
-use Rattle.heap_law.specs.Things.{Thing, sent, stands, things_of}
-use Rattle.heap_law.specs.Follow.{Standing, threads_in}
-use Rattle.heap_law.specs.Sight.{Sight, sight}
-use Rattle.heap_law.specs.OneHeap.{in_pair_of, is_branch}
-use Rattle.heap_law.specs.Naming.{threads, named_mutexes, uncounted_thread, uncounted_mutex}
-use Rattle.heap_law.specs.Rooted.{is_end, is_unit, other_result}
-use Rattle.heap_law.specs.Coherent.{IsSound, Holds, branches_give_unit}
-use Rattle.heap_law.proofs.Names.{left_none}
-use Rattle.type_law.specs.Names.{NameTypes}
-use Rattle.type_law.specs.ClusterTypes.{has_form, IsCoherent}
-use Rattle.type_law.proofs.Branches.{branches_law}
-use Rattle.path_law.proofs.Forms.{running_typed}
-use Rattle.event_law.specs.Laws.{Gives, FewEvents, PairsNoted, NumbersDiffer}
-use Rattle.event_law.proofs.Results.{both_give}
-use Rattle.event_law.proofs.KnownSound.{on_standing, sum_standing}
-use Rattle.event_law.proofs.Applied.{handed_part}
-use Rattle.event_law.proofs.Sending.{each_event_sends}
-use Rattle.event_law.proofs.TurnEvents.{asking_applied}
-use Rattle.local_law.specs.Laws.{EachCoherentEventKeeps}
-use Rattle.local_law.proofs.Mail.{Mailed, Replies, mail_sent, gives_up, step_says}
-use Rattle.local_law.proofs.Messages.{Speech, on_sent, Light, messages_go}
-use Rattle.local_law.proofs.Handed.{known}
+use Rattle.result_law.specs.Below.fr_base.declared.step.Fresh.TheVariants as fresh
+use Rattle.result_law.specs.Below.fr_base.declared.instruction.Instr.{Instr}
+use Rattle.result_law.specs.Below.fr_base.declared.instruction.Instr.TheVariants as instr
+use Rattle.result_law.specs.Below.fr_base.declared.instruction.Operand.{Operand}
+use Rattle.result_law.specs.Below.fr_typing.Kinds.{own, whole, unit}
+use Rattle.result_law.specs.Below.fr_code.CodeTypes.{Entry, Table, InstrTypes, i_par_end}
+use Rattle.result_law.specs.Below.fr_code.CodeTable.{Leads, Successors, to_next, ends}
+use Rattle.result_law.specs.Below.heap_partition.declared.value.Owned.{Owned}
+use Rattle.result_law.specs.Below.heap_partition.declared.value.Owned.TheVariants as owned
+use Rattle.result_law.specs.Below.migration.Packing.{unpin_all}
+use Rattle.result_law.specs.Below.read_cache.Cache.{Copy}
+use Rattle.result_law.specs.Below.thread_state.View.{ThreadState}
+use Rattle.result_law.specs.Below.thread_state.declared.phase.Phase.TheVariants as phase
+use Rattle.result_law.specs.Below.thread_state.declared.value.Value.{Value}
+use Rattle.result_law.specs.Below.thread_state.declared.value.Value.TheVariants as value
+use Rattle.result_law.specs.Below.server_msgs.declared.message.Message.{Message}
+use Rattle.result_law.specs.Below.server_msgs.declared.message.Message.TheVariants as message
+use Rattle.result_law.specs.Below.journal.View.{EntryView}
+use Rattle.result_law.specs.Below.server_model.declared.event.Event.{Event}
+use Rattle.result_law.specs.Below.server_model.Servers.{Server, Cluster, server_at}
+use Rattle.result_law.specs.Below.server_model.Work.{Hand, Popped, thread_in, with_temps, with_phase, with_cache, pop_owned, then_some}
+use Rattle.result_law.specs.Below.server_model.Commit.{done_where, end_with, label_dropped}
+use Rattle.result_law.specs.Below.server_model.Events.{Stepped, can_step, has_phase, begin_work, done_step, committed, step}
+use Rattle.result_law.specs.Below.server_model.Clusters.{apply}
+use Rattle.result_law.specs.Below.heap_law.Names.{tot, other, if_so}
+use Rattle.result_law.specs.Below.heap_law.Things.{Thing, sent, stands, things_of}
+use Rattle.result_law.specs.Below.heap_law.Follow.{Standing, threads_in}
+use Rattle.result_law.specs.Below.heap_law.Sight.{Sight, sight}
+use Rattle.result_law.specs.Below.heap_law.OneHeap.{in_pair_of, is_branch}
+use Rattle.result_law.specs.Below.heap_law.Naming.{threads, named_mutexes, uncounted_thread, uncounted_mutex}
+use Rattle.result_law.specs.Below.heap_law.Rooted.{is_end, is_unit, other_result}
+use Rattle.result_law.specs.Below.heap_law.Coherent.{IsSound, Holds, branches_give_unit}
+use Rattle.result_law.proofs.Below.heap_law.Names.{left_none}
+use Rattle.result_law.specs.Below.type_law.Names.{NameTypes}
+use Rattle.result_law.specs.Below.type_law.ClusterTypes.{has_form, IsCoherent}
+use Rattle.result_law.proofs.Below.type_law.Branches.{branches_law}
+use Rattle.result_law.proofs.Below.path_law.Forms.{running_typed}
+use Rattle.result_law.specs.Below.event_law.Laws.{Gives, FewEvents, PairsNoted, NumbersDiffer}
+use Rattle.result_law.proofs.Below.event_law.Results.{both_give}
+use Rattle.result_law.proofs.Below.event_law.KnownSound.{on_standing, sum_standing}
+use Rattle.result_law.proofs.Below.event_law.Applied.{handed_part}
+use Rattle.result_law.proofs.Below.event_law.Sending.{each_event_sends}
+use Rattle.result_law.proofs.Below.event_law.TurnEvents.{asking_applied}
+use Rattle.value_law.specs.Below.local_law.Laws.{EachCoherentEventKeeps}
+use Rattle.value_law.proofs.Below.local_law.Mail.{Mailed, Replies, mail_sent, gives_up, step_says}
+use Rattle.value_law.proofs.Below.local_law.Messages.{Speech, on_sent, Light, messages_go}
+use Rattle.value_law.proofs.Below.local_law.Handed.{known}
 use Rattle.result_law.proofs.Known.{Steps, goes, paths, standing, hand, entry, typed, temps_fit, names}
 use Rattle.result_law.proofs.Operands.{gets, got_owned}
 use Rattle.ask_law.proofs.Branches.{is_counted, waits_unpaired, unpaired_after, branch_before, found_note, is_some_number}
@@ -184,7 +184,7 @@ module _ (k : Cluster) (coherent : IsCoherent k) (few : FewEvents k) where
           same_operand : {a b : Operand} → instr.End a ≡ instr.End b → a ≡ b
           same_operand e = cc
 
-          by : (E : Entry) (i : Instr) (ss : Successors) → Leads (Rattle.result_law.proofs.Known.types k n t s y (instr.End o) z).table y.pc E i ss → i ≡ instr.End o → Rattle.type_law.specs.ClusterTypes.temps_wrong N E.temps (reverse y.temps) ≡ 0
+          by : (E : Entry) (i : Instr) (ss : Successors) → Leads (Rattle.result_law.proofs.Known.types k n t s y (instr.End o) z).table y.pc E i ss → i ≡ instr.End o → Rattle.result_law.specs.Below.type_law.ClusterTypes.temps_wrong N E.temps (reverse y.temps) ≡ 0
               → (is_branch S y.number ≡ true → E.gives ≡ unit)
               → (v : Owned) × (ts : List Value) × (pop_owned o h ≡ Some (record { item = v; hand = with_temps ts h })) × (is_branch S y.number ≡ true → is_unit v ≡ true)
           by _ _ _ (ends {ts = ks} {g = x} {o = q} takes) e fit gives =

@@ -3,43 +3,43 @@ use Rattle.std.proofs.Common.{◌≡◌, inl, inr, ℕ, zero, suc, ◌+◌, ◌*
 use Rattle.std.specs.Prelude.{slice_get}
 use Rattle.std.proofs.lemmas.Bool.{eqb-true, eq-eqb}
 use Rattle.std.proofs.lemmas.Bool.Decides.{nat_tests}
-use Rattle.fr_typing.proofs.PlaceLemmas.{eq_cases}
-use Rattle.fr_base.specs.Rooms.{WithRoom}
-use Rattle.fr_base.specs.declared.step.Fresh.{Fresh}
-use Rattle.fr_base.specs.declared.instruction.Instr.{Instr}
-use Rattle.fr_base.specs.declared.instruction.Instr.TheVariants as instr
-use Rattle.join_home.specs.Tasks.{Task, TaskState, in_pair}
-use Rattle.migration.specs.Packing.{unpin_all}
-use Rattle.read_cache.specs.Cache.{Copy}
-use Rattle.thread_state.specs.View.{ThreadState}
-use Rattle.thread_state.specs.declared.phase.Phase.{Phase}
-use Rattle.thread_state.specs.declared.phase.Phase.TheVariants as phase
-use Rattle.journal.specs.View.{EntryView}
-use Rattle.server_model.specs.declared.event.Event.{Event}
-use Rattle.server_model.specs.declared.event.What.{What}
-use Rattle.server_model.specs.Servers.{Server, Cluster, server_at}
-use Rattle.server_model.specs.Work.{Hand, thread_in, with_cache}
-use Rattle.server_model.specs.Start.{next_thread, capture}
-use Rattle.server_model.specs.Commit.{done_where, pair_begun}
-use Rattle.server_model.specs.Events.{Stepped, begin_work, done_step, committed, step}
-use Rattle.server_model.specs.Clusters.{apply}
-use Rattle.heap_law.specs.Names.{tot, one, other, if_so, some, Among}
-use Rattle.heap_law.specs.Things.{Thing, noted, stands, things_of}
-use Rattle.heap_law.specs.Follow.{Standing, threads_in, thread_at}
-use Rattle.heap_law.specs.Sight.{Sight, sight}
-use Rattle.heap_law.specs.OneHeap.{pair_note, in_pair_of, is_branch}
-use Rattle.heap_law.specs.Weights.{is_thread}
-use Rattle.heap_law.specs.Naming.{count_of, started_at}
-use Rattle.heap_law.specs.Requests.{home_of, Branch, half_noted, pair_notes, pair_places, branch_places}
-use Rattle.heap_law.specs.Coherent.{IsSound}
-use Rattle.event_law.specs.Laws.{Gives, FewEvents, PairsNoted, NumbersDiffer}
-use Rattle.event_law.proofs.Results.{then_gives, over_gives, test_gives, weaker, both_give}
-use Rattle.event_law.proofs.Each.{names_left}
-use Rattle.event_law.proofs.Elsewhere.{here_alone}
-use Rattle.event_law.proofs.StandsHere.{found_none}
-use Rattle.local_law.proofs.Goes.{Goes, IsGotten, on, waits_pair, is_over, asks_cell, asks_home, gets_cell, gets_gift, goes_pair, AsksHome, HasCell, thread_goes}
-use Rattle.local_law.proofs.Threads.{Ways}
-use Rattle.local_law.proofs.Handed.{Stood, InParcel, threads_go, known}
+use Rattle.result_law.proofs.Below.fr_typing.PlaceLemmas.{eq_cases}
+use Rattle.result_law.specs.Below.fr_base.Rooms.{WithRoom}
+use Rattle.result_law.specs.Below.fr_base.declared.step.Fresh.{Fresh}
+use Rattle.result_law.specs.Below.fr_base.declared.instruction.Instr.{Instr}
+use Rattle.result_law.specs.Below.fr_base.declared.instruction.Instr.TheVariants as instr
+use Rattle.result_law.specs.Below.join_home.Tasks.{Task, TaskState, in_pair}
+use Rattle.result_law.specs.Below.migration.Packing.{unpin_all}
+use Rattle.result_law.specs.Below.read_cache.Cache.{Copy}
+use Rattle.result_law.specs.Below.thread_state.View.{ThreadState}
+use Rattle.result_law.specs.Below.thread_state.declared.phase.Phase.{Phase}
+use Rattle.result_law.specs.Below.thread_state.declared.phase.Phase.TheVariants as phase
+use Rattle.result_law.specs.Below.journal.View.{EntryView}
+use Rattle.result_law.specs.Below.server_model.declared.event.Event.{Event}
+use Rattle.result_law.specs.Below.server_model.declared.event.What.{What}
+use Rattle.result_law.specs.Below.server_model.Servers.{Server, Cluster, server_at}
+use Rattle.result_law.specs.Below.server_model.Work.{Hand, thread_in, with_cache}
+use Rattle.result_law.specs.Below.server_model.Start.{next_thread, capture}
+use Rattle.result_law.specs.Below.server_model.Commit.{done_where, pair_begun}
+use Rattle.result_law.specs.Below.server_model.Events.{Stepped, begin_work, done_step, committed, step}
+use Rattle.result_law.specs.Below.server_model.Clusters.{apply}
+use Rattle.result_law.specs.Below.heap_law.Names.{tot, one, other, if_so, some, Among}
+use Rattle.result_law.specs.Below.heap_law.Things.{Thing, noted, stands, things_of}
+use Rattle.result_law.specs.Below.heap_law.Follow.{Standing, threads_in, thread_at}
+use Rattle.result_law.specs.Below.heap_law.Sight.{Sight, sight}
+use Rattle.result_law.specs.Below.heap_law.OneHeap.{pair_note, in_pair_of, is_branch}
+use Rattle.result_law.specs.Below.heap_law.Weights.{is_thread}
+use Rattle.result_law.specs.Below.heap_law.Naming.{count_of, started_at}
+use Rattle.result_law.specs.Below.heap_law.Requests.{home_of, Branch, half_noted, pair_notes, pair_places, branch_places}
+use Rattle.result_law.specs.Below.heap_law.Coherent.{IsSound}
+use Rattle.result_law.specs.Below.event_law.Laws.{Gives, FewEvents, PairsNoted, NumbersDiffer}
+use Rattle.result_law.proofs.Below.event_law.Results.{then_gives, over_gives, test_gives, weaker, both_give}
+use Rattle.result_law.proofs.Below.event_law.Each.{names_left}
+use Rattle.result_law.proofs.Below.event_law.Elsewhere.{here_alone}
+use Rattle.result_law.proofs.Below.event_law.StandsHere.{found_none}
+use Rattle.value_law.proofs.Below.local_law.Goes.{Goes, IsGotten, on, waits_pair, is_over, asks_cell, asks_home, gets_cell, gets_gift, goes_pair, AsksHome, HasCell, thread_goes}
+use Rattle.value_law.proofs.Below.local_law.Threads.{Ways}
+use Rattle.value_law.proofs.Below.local_law.Handed.{Stood, InParcel, threads_go, known}
 use Rattle.value_law.proofs.Named.{home_is, count_is, started_plain}
 use Rattle.value_law.proofs.Counts.{counts_alone}
 use Rattle.ask_law.proofs.PairsOver.{waits_for, total_le, all_nothing}
@@ -63,7 +63,7 @@ par_pairs : (servers : ℕ) (cs : WithRoom (ℕ × Bool)) (pc : ℕ) (ds : WithR
 par_pairs servers cs pc ds to h =
     settles _ _
     (then_gives At (capture true cs.items h.thread.slots) _ (λ first p. then_gives At (capture true ds.items first.1) _ (λ second q.
-    over_gives (λ (h2 : Hand). Unit {0}) At (pair_begun h u (u + 1)) _ (test_gives (λ (h2 : Hand). Unit {0}) (Rattle.join_home.specs.Tasks.can_begin_pair h.work.rest.tasks h.thread.number u (u + 1)) _ (λ z. tt)) (λ h2 z. refl))))
+    over_gives (λ (h2 : Hand). Unit {0}) At (pair_begun h u (u + 1)) _ (test_gives (λ (h2 : Hand). Unit {0}) (Rattle.result_law.specs.Below.join_home.Tasks.can_begin_pair h.work.rest.tasks h.thread.number u (u + 1)) _ (λ z. tt)) (λ h2 z. refl))))
   where
     u : ℕ
     u = next_thread h.work.rest

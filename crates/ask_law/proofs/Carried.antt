@@ -2,47 +2,47 @@
 use Rattle.std.proofs.Common.{◌≡◌, ℕ, ◌+◌, ◌*◌, ◌≤◌, ◌==◌, ◌&&◌, Bool, true, false, if◌then◌else◌, List, [], ◌∷◌, Option, Some, None, option_map, refl, sym, ap, subst, ◌∙◌, arith}
 use Rattle.std.specs.Prelude.{slice_get}
 use Rattle.std.proofs.lemmas.Bool.{eq-eqb}
-use Rattle.fr_typing.proofs.PlaceLemmas.{eq_cases}
-use Rattle.fr_base.specs.declared.instruction.Instr.{Instr}
-use Rattle.fr_base.specs.declared.name.MutexNo.{MutexNo}
-use Rattle.join_home.specs.Tasks.{TaskState, asked}
-use Rattle.migration.specs.Packing.{packed, unpin_all, used_words}
-use Rattle.read_cache.specs.Cache.{Copy, can_evict}
-use Rattle.thread_state.specs.View.{ThreadState}
-use Rattle.thread_state.specs.declared.phase.Phase.{Phase}
-use Rattle.thread_state.specs.declared.phase.Phase.TheVariants as phase
-use Rattle.server_msgs.specs.declared.message.Message.{Message}
-use Rattle.server_msgs.specs.declared.message.Message.TheVariants as message
-use Rattle.journal.specs.View.{EntryView}
-use Rattle.server_model.specs.declared.event.Event.{Event}
-use Rattle.server_model.specs.declared.event.What.{What}
-use Rattle.server_model.specs.declared.event.What.TheVariants.{Step, Deliver, Evict, Migrate}
-use Rattle.server_model.specs.Servers.{Server, Cluster, server_at}
-use Rattle.server_model.specs.Work.{Work, Hand, thread_in, then_some, without_thread, beside_threads}
-use Rattle.server_model.specs.Moving.{migrate, depart}
-use Rattle.server_model.specs.Events.{Stepped, can_step, has_phase, enabled, begin_work, begin_at, left_by, received, deliver_message, evict_copy, step, step_in, stepped, does}
-use Rattle.server_model.specs.Clusters.{done_at, act_at, apply}
-use Rattle.heap_law.specs.Names.{tot, one, other, if_so}
-use Rattle.heap_law.specs.Things.{Thing, sent, queued, noted, stands, server_things, servers_things, things_of}
-use Rattle.heap_law.specs.Follow.{Standing, threads_in, thread_at}
-use Rattle.heap_law.specs.Sight.{sight}
-use Rattle.heap_law.specs.Weights.{is_thread}
-use Rattle.heap_law.specs.Requests.{waits, halves_to, halves_needed, is_cell, is_lock, is_dup, is_join, in_phase, phase_fits, message_carries, note_carries, carries}
-use Rattle.heap_law.specs.Coherent.{IsSound, Holds, carry_what_is_asked}
-use Rattle.event_law.specs.Laws.{Gives, FewEvents, NumbersDiffer, OneAnswer}
-use Rattle.event_law.proofs.Results.{then_gives, over_gives, test_gives, both_give, weaker}
-use Rattle.event_law.proofs.Known.{all_at}
-use Rattle.event_law.proofs.Bags.{thread_number}
-use Rattle.event_law.proofs.ThreadThere.{thread_there}
-use Rattle.event_law.proofs.StandsHere.{found_none}
-use Rattle.event_law.proofs.Events.{others_of, tot-server}
-use Rattle.event_law.proofs.Applied.{handed_on, handed_part}
-use Rattle.event_law.proofs.Sending.{each_event_sends}
-use Rattle.event_law.proofs.TurnEvents.{asking_applied}
-use Rattle.local_law.specs.Laws.{EachEventKeeps}
-use Rattle.local_law.proofs.Goes.{Goes, IsGotten, gets_cell, gets_gift, goes_pair, HasCell, thread_goes}
-use Rattle.local_law.proofs.Threads.{Ways, remove_all}
-use Rattle.local_law.proofs.Handed.{Stood, InParcel, threads_go}
+use Rattle.result_law.proofs.Below.fr_typing.PlaceLemmas.{eq_cases}
+use Rattle.result_law.specs.Below.fr_base.declared.instruction.Instr.{Instr}
+use Rattle.result_law.specs.Below.fr_base.declared.name.MutexNo.{MutexNo}
+use Rattle.result_law.specs.Below.join_home.Tasks.{TaskState, asked}
+use Rattle.result_law.specs.Below.migration.Packing.{packed, unpin_all, used_words}
+use Rattle.result_law.specs.Below.read_cache.Cache.{Copy, can_evict}
+use Rattle.result_law.specs.Below.thread_state.View.{ThreadState}
+use Rattle.result_law.specs.Below.thread_state.declared.phase.Phase.{Phase}
+use Rattle.result_law.specs.Below.thread_state.declared.phase.Phase.TheVariants as phase
+use Rattle.result_law.specs.Below.server_msgs.declared.message.Message.{Message}
+use Rattle.result_law.specs.Below.server_msgs.declared.message.Message.TheVariants as message
+use Rattle.result_law.specs.Below.journal.View.{EntryView}
+use Rattle.result_law.specs.Below.server_model.declared.event.Event.{Event}
+use Rattle.result_law.specs.Below.server_model.declared.event.What.{What}
+use Rattle.result_law.specs.Below.server_model.declared.event.What.TheVariants.{Step, Deliver, Evict, Migrate}
+use Rattle.result_law.specs.Below.server_model.Servers.{Server, Cluster, server_at}
+use Rattle.result_law.specs.Below.server_model.Work.{Work, Hand, thread_in, then_some, without_thread, beside_threads}
+use Rattle.result_law.specs.Below.server_model.Moving.{migrate, depart}
+use Rattle.result_law.specs.Below.server_model.Events.{Stepped, can_step, has_phase, enabled, begin_work, begin_at, left_by, received, deliver_message, evict_copy, step, step_in, stepped, does}
+use Rattle.result_law.specs.Below.server_model.Clusters.{done_at, act_at, apply}
+use Rattle.result_law.specs.Below.heap_law.Names.{tot, one, other, if_so}
+use Rattle.result_law.specs.Below.heap_law.Things.{Thing, sent, queued, noted, stands, server_things, servers_things, things_of}
+use Rattle.result_law.specs.Below.heap_law.Follow.{Standing, threads_in, thread_at}
+use Rattle.result_law.specs.Below.heap_law.Sight.{sight}
+use Rattle.result_law.specs.Below.heap_law.Weights.{is_thread}
+use Rattle.result_law.specs.Below.heap_law.Requests.{waits, halves_to, halves_needed, is_cell, is_lock, is_dup, is_join, in_phase, phase_fits, message_carries, note_carries, carries}
+use Rattle.result_law.specs.Below.heap_law.Coherent.{IsSound, Holds, carry_what_is_asked}
+use Rattle.result_law.specs.Below.event_law.Laws.{Gives, FewEvents, NumbersDiffer, OneAnswer}
+use Rattle.result_law.proofs.Below.event_law.Results.{then_gives, over_gives, test_gives, both_give, weaker}
+use Rattle.result_law.proofs.Below.event_law.Known.{all_at}
+use Rattle.result_law.proofs.Below.event_law.Bags.{thread_number}
+use Rattle.result_law.proofs.Below.event_law.ThreadThere.{thread_there}
+use Rattle.result_law.proofs.Below.event_law.StandsHere.{found_none}
+use Rattle.result_law.proofs.Below.event_law.Events.{others_of, tot-server}
+use Rattle.result_law.proofs.Below.event_law.Applied.{handed_on, handed_part}
+use Rattle.result_law.proofs.Below.event_law.Sending.{each_event_sends}
+use Rattle.result_law.proofs.Below.event_law.TurnEvents.{asking_applied}
+use Rattle.value_law.specs.Below.local_law.Laws.{EachEventKeeps}
+use Rattle.value_law.proofs.Below.local_law.Goes.{Goes, IsGotten, gets_cell, gets_gift, goes_pair, HasCell, thread_goes}
+use Rattle.value_law.proofs.Below.local_law.Threads.{Ways, remove_all}
+use Rattle.value_law.proofs.Below.local_law.Handed.{Stood, InParcel, threads_go}
 use Rattle.ask_law.proofs.Asking.{Phases, passes, unfit, message_unfit, note_unfit, thing_unfit, MessageFits, RestFits, sent_fits, turned, thing_still}
 use Rattle.ask_law.proofs.AskSteps.{same_mutex_itself, step_asks}
 use Rattle.ask_law.proofs.AskDeliveries.{SiteFits, message_asks}
@@ -107,8 +107,8 @@ Tells f = (p q : Phase) → f p ≡ true → waits q ≡ true → agree q (Some 
 -- the test for a cell is the same for phases that agree
 cell_tells : (w : ℕ) → Tells (is_cell w)
 cell_tells w (phase.WaitCell v) (phase.WaitCell u) e c h =
-    let a = Rattle.heap_law.proofs.Names.same_number v w e in
-    let b = Rattle.heap_law.proofs.Names.same_number v u h in
+    let a = Rattle.result_law.proofs.Below.heap_law.Names.same_number v w e in
+    let b = Rattle.result_law.proofs.Below.heap_law.Names.same_number v u h in
     eq-eqb u w (sym b ∙ a)
 cell_tells w (phase.WaitCell v) (phase.WaitLock m) e c h = absurd (cc h)
 cell_tells w (phase.WaitCell v) (phase.WaitDup m) e c h = absurd (cc h)
@@ -120,9 +120,9 @@ cell_tells w p q e c h = absurd (cc e)
 -- so is that for a lock
 lock_tells : (m : MutexNo) → Tells (is_lock m)
 lock_tells m (phase.WaitLock n) (phase.WaitLock o) e c h =
-    let a = Rattle.heap_law.proofs.Names.same_mutexes m n e in
-    let b = Rattle.heap_law.proofs.Names.same_mutexes o n h in
-    subst (λ x. Rattle.heap_law.specs.Names.same_mutex m x ≡ true) (a ∙ sym b) (same_mutex_itself m)
+    let a = Rattle.result_law.proofs.Below.heap_law.Names.same_mutexes m n e in
+    let b = Rattle.result_law.proofs.Below.heap_law.Names.same_mutexes o n h in
+    subst (λ x. Rattle.result_law.specs.Below.heap_law.Names.same_mutex m x ≡ true) (a ∙ sym b) (same_mutex_itself m)
 lock_tells m (phase.WaitLock n) (phase.WaitCell w) e c h = absurd (cc h)
 lock_tells m (phase.WaitLock n) (phase.WaitDup o) e c h = absurd (cc h)
 lock_tells m (phase.WaitLock n) (phase.WaitJoin u) e c h = absurd (cc h)
@@ -133,9 +133,9 @@ lock_tells m p q e c h = absurd (cc e)
 -- that for a share
 dup_tells : (m : MutexNo) → Tells (is_dup m)
 dup_tells m (phase.WaitDup n) (phase.WaitDup o) e c h =
-    let a = Rattle.heap_law.proofs.Names.same_mutexes m n e in
-    let b = Rattle.heap_law.proofs.Names.same_mutexes o n h in
-    subst (λ x. Rattle.heap_law.specs.Names.same_mutex m x ≡ true) (a ∙ sym b) (same_mutex_itself m)
+    let a = Rattle.result_law.proofs.Below.heap_law.Names.same_mutexes m n e in
+    let b = Rattle.result_law.proofs.Below.heap_law.Names.same_mutexes o n h in
+    subst (λ x. Rattle.result_law.specs.Below.heap_law.Names.same_mutex m x ≡ true) (a ∙ sym b) (same_mutex_itself m)
 dup_tells m (phase.WaitDup n) (phase.WaitCell w) e c h = absurd (cc h)
 dup_tells m (phase.WaitDup n) (phase.WaitLock o) e c h = absurd (cc h)
 dup_tells m (phase.WaitDup n) (phase.WaitJoin u) e c h = absurd (cc h)
@@ -146,8 +146,8 @@ dup_tells m p q e c h = absurd (cc e)
 -- that for a result
 join_tells : (t : ℕ) → Tells (is_join t)
 join_tells t (phase.WaitJoin u) (phase.WaitJoin v) e c h =
-    let a = Rattle.heap_law.proofs.Names.same_number t u e in
-    let b = Rattle.heap_law.proofs.Names.same_number v u h in
+    let a = Rattle.result_law.proofs.Below.heap_law.Names.same_number t u e in
+    let b = Rattle.result_law.proofs.Below.heap_law.Names.same_number v u h in
     eq-eqb t v (a ∙ sym b)
 join_tells t (phase.WaitJoin u) (phase.WaitCell w) e c h = absurd (cc h)
 join_tells t (phase.WaitJoin u) (phase.WaitLock m) e c h = absurd (cc h)
@@ -421,7 +421,7 @@ module _ (k : Cluster) (e : Event) (sound : IsSound k) (few : FewEvents k) where
       let others : tot old (servers_things (others_of k.servers e.server)) ≡ 0 = omega (arith, all, (tot-server old k.servers e.server s s here).0) in
       let rest = all_known k sound e.server s here e.what g.1 (servers_things (others_of k.servers e.server)) others in
       let is : known ≡ a = ap (known_at k e.what) here ∙ ap (λ b. known_if b k s e.what) g.1 in
-      subst (λ p. tot (thing_unfit p) (servers_things (Rattle.server_model.specs.Clusters.with_server k.servers e.server r.0)) ≡ 0) (sym is)
+      subst (λ p. tot (thing_unfit p) (servers_things (Rattle.result_law.specs.Below.server_model.Clusters.with_server k.servers e.server r.0)) ≡ 0) (sym is)
       (omega (arith, rest, rest_to a r.0 g.0, (tot-server (thing_unfit a) k.servers e.server s r.0 here).1))))
 
   -- and once they are
@@ -564,7 +564,7 @@ module _ (a : Phases) (c : Cluster) (fits : tot (thing_unfit a) (things_of c) �
   message_after r (message.Migrate t) has z = refl
 
   -- so does a note
-  note_after : (u : ℕ) (q : TaskState) → ((t : ℕ) → Rattle.heap_law.specs.Requests.halves t (Rattle.heap_law.specs.Requests.noted_answer q) ≤ tot (halves_to t) C) → note_unfit a u q ≡ 0 → note_carries (sight c) u q ≡ 0
+  note_after : (u : ℕ) (q : TaskState) → ((t : ℕ) → Rattle.result_law.specs.Below.heap_law.Requests.halves t (Rattle.result_law.specs.Below.heap_law.Requests.noted_answer q) ≤ tot (halves_to t) C) → note_unfit a u q ≡ 0 → note_carries (sight c) u q ≡ 0
   note_after u (asked r t) has z = test_after (is_join u) (join_tells u) t (omega (arith, whole t, has t)) z
   note_after u _ has z = refl
 

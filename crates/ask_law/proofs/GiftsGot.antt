@@ -1,47 +1,47 @@
 -- A gift stands in phase `Got` alone, after each event of a coherent cluster: its thread asks for nothing before it takes it.
 use Rattle.std.proofs.Common.{◌≡◌, inl, inr, ℕ, ◌&&◌, not, is_some, Bool, true, false, List, [], Option, Some, None, option_map, refl, sym, ap, subst, ◌∙◌, arith}
 use Rattle.std.specs.Prelude.{slice_get}
-use Rattle.fr_base.specs.declared.place.Lval.{Lval}
-use Rattle.fr_base.specs.declared.step.Fresh.TheVariants as fresh
-use Rattle.fr_base.specs.declared.instruction.Instr.{Instr}
-use Rattle.fr_base.specs.declared.instruction.Instr.TheVariants as instr
-use Rattle.fr_base.specs.declared.instruction.Operand.{Operand}
-use Rattle.fr_base.specs.declared.instruction.Operand.TheVariants as operand
-use Rattle.fr_typing.specs.Kinds.{own, mutex, whole}
-use Rattle.fr_store.specs.Below.{ExactOf}
-use Rattle.fr_store.specs.Keys.{slot_k}
-use Rattle.fr_code.specs.CodeTypes.{Entry, Table, InstrTypes, i_dup, i_lock}
-use Rattle.heap_partition.specs.declared.value.Owned.{Owned}
-use Rattle.migration.specs.Packing.{unpin_all}
-use Rattle.read_cache.specs.Cache.{Copy}
-use Rattle.thread_state.specs.View.{ThreadState}
-use Rattle.thread_state.specs.declared.phase.Phase.{Phase}
-use Rattle.thread_state.specs.declared.phase.Phase.TheVariants as phase
-use Rattle.thread_state.specs.declared.value.Value.{Value}
-use Rattle.server_model.specs.declared.event.Event.{Event}
-use Rattle.server_model.specs.Servers.{Server, Cluster, server_at}
-use Rattle.server_model.specs.Work.{Hand, Popped, thread_in, last_of, pop, taken_as, task_of, then_some, with_cache}
-use Rattle.server_model.specs.Places.{Spot, in_slot, load_at}
-use Rattle.server_model.specs.Prepare.{Prepared, ready, requested, nothing, read_stars}
-use Rattle.server_model.specs.Commit.{goes_on, go_on, take_gift, push_content, mutex_at, dup, lock, join, commit}
-use Rattle.server_model.specs.Events.{Stepped, can_step, has_phase, begin_work, done_step, committed, prepared, step}
-use Rattle.heap_law.specs.Names.{one, other}
-use Rattle.heap_law.specs.Things.{at_slot}
-use Rattle.heap_law.specs.Sight.{sight}
-use Rattle.heap_law.specs.Paths.{path_of}
-use Rattle.heap_law.specs.Walking.{loose_hop, has_followed}
-use Rattle.heap_law.specs.Requests.{is_got, early_gift}
-use Rattle.heap_law.specs.Coherent.{IsSound, gifts_got}
-use Rattle.heap_law.proofs.Passing.{paths_law}
-use Rattle.type_law.specs.ClusterTypes.{IsCoherent}
-use Rattle.event_law.specs.Laws.{Gives, FewEvents}
-use Rattle.event_law.proofs.Results.{map_gives, over_gives, bind_gives, weaker}
-use Rattle.event_law.proofs.GiftsTaken.{gift_fits}
-use Rattle.event_law.proofs.QuietSteps.{GiftFits}
-use Rattle.local_law.specs.Laws.{EachCoherentEventKeeps}
-use Rattle.local_law.proofs.Goes.{Left, Goes, IsGotten, on, waits_pair, is_over, asks_cell, asks_home, gets_cell, gets_gift, goes_pair, thread_goes}
-use Rattle.local_law.proofs.Threads.{Ways}
-use Rattle.local_law.proofs.Handed.{Stood, InParcel, threads_go, known}
+use Rattle.result_law.specs.Below.fr_base.declared.place.Lval.{Lval}
+use Rattle.result_law.specs.Below.fr_base.declared.step.Fresh.TheVariants as fresh
+use Rattle.result_law.specs.Below.fr_base.declared.instruction.Instr.{Instr}
+use Rattle.result_law.specs.Below.fr_base.declared.instruction.Instr.TheVariants as instr
+use Rattle.result_law.specs.Below.fr_base.declared.instruction.Operand.{Operand}
+use Rattle.result_law.specs.Below.fr_base.declared.instruction.Operand.TheVariants as operand
+use Rattle.result_law.specs.Below.fr_typing.Kinds.{own, mutex, whole}
+use Rattle.result_law.specs.Below.fr_store.Below.{ExactOf}
+use Rattle.result_law.specs.Below.fr_store.Keys.{slot_k}
+use Rattle.result_law.specs.Below.fr_code.CodeTypes.{Entry, Table, InstrTypes, i_dup, i_lock}
+use Rattle.result_law.specs.Below.heap_partition.declared.value.Owned.{Owned}
+use Rattle.result_law.specs.Below.migration.Packing.{unpin_all}
+use Rattle.result_law.specs.Below.read_cache.Cache.{Copy}
+use Rattle.result_law.specs.Below.thread_state.View.{ThreadState}
+use Rattle.result_law.specs.Below.thread_state.declared.phase.Phase.{Phase}
+use Rattle.result_law.specs.Below.thread_state.declared.phase.Phase.TheVariants as phase
+use Rattle.result_law.specs.Below.thread_state.declared.value.Value.{Value}
+use Rattle.result_law.specs.Below.server_model.declared.event.Event.{Event}
+use Rattle.result_law.specs.Below.server_model.Servers.{Server, Cluster, server_at}
+use Rattle.result_law.specs.Below.server_model.Work.{Hand, Popped, thread_in, last_of, pop, taken_as, task_of, then_some, with_cache}
+use Rattle.result_law.specs.Below.server_model.Places.{Spot, in_slot, load_at}
+use Rattle.result_law.specs.Below.server_model.Prepare.{Prepared, ready, requested, nothing, read_stars}
+use Rattle.result_law.specs.Below.server_model.Commit.{goes_on, go_on, take_gift, push_content, mutex_at, dup, lock, join, commit}
+use Rattle.result_law.specs.Below.server_model.Events.{Stepped, can_step, has_phase, begin_work, done_step, committed, prepared, step}
+use Rattle.result_law.specs.Below.heap_law.Names.{one, other}
+use Rattle.result_law.specs.Below.heap_law.Things.{at_slot}
+use Rattle.result_law.specs.Below.heap_law.Sight.{sight}
+use Rattle.result_law.specs.Below.heap_law.Paths.{path_of}
+use Rattle.result_law.specs.Below.heap_law.Walking.{loose_hop, has_followed}
+use Rattle.result_law.specs.Below.heap_law.Requests.{is_got, early_gift}
+use Rattle.result_law.specs.Below.heap_law.Coherent.{IsSound, gifts_got}
+use Rattle.result_law.proofs.Below.heap_law.Passing.{paths_law}
+use Rattle.result_law.specs.Below.type_law.ClusterTypes.{IsCoherent}
+use Rattle.result_law.specs.Below.event_law.Laws.{Gives, FewEvents}
+use Rattle.result_law.proofs.Below.event_law.Results.{map_gives, over_gives, bind_gives, weaker}
+use Rattle.result_law.proofs.Below.event_law.GiftsTaken.{gift_fits}
+use Rattle.result_law.proofs.Below.event_law.QuietSteps.{GiftFits}
+use Rattle.value_law.specs.Below.local_law.Laws.{EachCoherentEventKeeps}
+use Rattle.value_law.proofs.Below.local_law.Goes.{Left, Goes, IsGotten, on, waits_pair, is_over, asks_cell, asks_home, gets_cell, gets_gift, goes_pair, thread_goes}
+use Rattle.value_law.proofs.Below.local_law.Threads.{Ways}
+use Rattle.value_law.proofs.Below.local_law.Handed.{Stood, InParcel, threads_go, known}
 use Rattle.result_law.proofs.Known.{Steps, goes, paths, standing, hand, entry, typed, types}
 use Rattle.result_law.proofs.Followed.{Place}
 use Rattle.result_law.proofs.Starred.{a_slot, Fine}
@@ -137,11 +137,11 @@ join_takes o v h =
 -- A STEP
 
 -- the place of a dup is read
-pub readable_dup : (table : Table) (e e2 : Entry) (w : Lval) → InstrTypes table e (instr.Dup w) e2 → (o : Rattle.fr_typing.specs.Kinds.Owned) × IsReadable e w (own (mutex o))
+pub readable_dup : (table : Table) (e e2 : Entry) (w : Lval) → InstrTypes table e (instr.Dup w) e2 → (o : Rattle.result_law.specs.Below.fr_typing.Kinds.Owned) × IsReadable e w (own (mutex o))
 readable_dup table _ _ w (i_dup {x = o} waits has free) = (o, record { awake = refl; has = has; free = free; waits_there = waits })
 
 -- so is that of a lock
-pub readable_lock : (table : Table) (e e2 : Entry) (w : Lval) → InstrTypes table e (instr.Lock w) e2 → (o : Rattle.fr_typing.specs.Kinds.Owned) × IsReadable e w (own (mutex o))
+pub readable_lock : (table : Table) (e e2 : Entry) (w : Lval) → InstrTypes table e (instr.Lock w) e2 → (o : Rattle.result_law.specs.Below.fr_typing.Kinds.Owned) × IsReadable e w (own (mutex o))
 readable_lock table _ _ w (i_lock {x = o} name waits has free new) = (o, record { awake = refl; has = has; free = free; waits_there = waits })
 
 module _ (k : Cluster) (n t : ℕ) (s : Server) (y : ThreadState) (i : Instr) (z : Steps k n t s y i) (v : Owned) (given : y.gift ≡ Some v) where
@@ -153,15 +153,15 @@ module _ (k : Cluster) (n t : ℕ) (s : Server) (y : ThreadState) (i : Instr) (z
       by phase.Got e = refl
       by p e = absurd (cc (sym (ap (λ g. one (is_some g && true)) given) ∙ e))
 
-  module _ (w : Lval) (followed : has_followed (sight k) (standing k n t s y i z) phase.Got ≡ true) (reads : Rattle.heap_law.specs.Paths.path_of (slice_get k.code y.pc) y ≡ Rattle.heap_law.specs.Paths.reads w) where
+  module _ (w : Lval) (followed : has_followed (sight k) (standing k n t s y i z) phase.Got ≡ true) (reads : Rattle.result_law.specs.Below.heap_law.Paths.path_of (slice_get k.code y.pc) y ≡ Rattle.result_law.specs.Below.heap_law.Paths.reads w) where
     at_hand : AllAtHand k n t s y i z w w.depth
     at_hand d l u lt located stands =
         let me = standing k n t s y i z in
         let on_it = goes k n t s y i z in
         let has : has_followed (sight k) me y.phase ≡ true = ap (has_followed (sight k) me) its_phase ∙ followed in
-        z.coherent.sound.walks.have_followed me w d l u on_it.among has (ap Rattle.heap_law.specs.Passing.followed_place reads) lt (record { path = paths_law.located (sight k).ground y.number w.slot d l located; stands = stands })
+        z.coherent.sound.walks.have_followed me w d l u on_it.among has (ap Rattle.result_law.specs.Below.heap_law.Passing.followed_place reads) lt (record { path = paths_law.located (sight k).ground y.number w.slot d l located; stands = stands })
 
-    module _ (o : Rattle.fr_typing.specs.Kinds.Owned) (may : IsReadable (entry k n t s y i z) w (own (mutex o))) (lends_none : (p : Lval) → i ≡ instr.BorrowMut p → ⊥) where
+    module _ (o : Rattle.result_law.specs.Below.fr_typing.Kinds.Owned) (may : IsReadable (entry k n t s y i z) w (own (mutex o))) (lends_none : (p : Lval) → i ≡ instr.BorrowMut p → ⊥) where
       its_place : (p : Place k (paths k n t s y i z) (standing k n t s y i z) false w) × ExactOf (slot_k y.number) (paths k n t s y i z).types.typing.exact (whole (own (mutex o))) p.type
       its_place = readable_place k (paths k n t s y i z) (standing k n t s y i z) (goes k n t s y i z) w (own (mutex o)) may
 
@@ -191,7 +191,7 @@ module _ (k : Cluster) (n t : ℕ) (s : Server) (y : ThreadState) where
       let at = typed k n t s y i z in
       let to = to_entry (types k n t s y i z).table y.pc (entry k n t s y i z) i at.0 at.1 (λ o e. cc) in
       let q = readable_lock (types k n t s y i z).table (entry k n t s y i z) to.0 w to.1 in
-      let has : has_followed (sight k) (standing k n t s y i z) phase.Got ≡ true = ap (λ o. Rattle.heap_law.specs.Walking.has_gift_there y.gift o) z.code ∙ ap (λ g. Rattle.heap_law.specs.Walking.has_gift_there g (Some i)) given in
+      let has : has_followed (sight k) (standing k n t s y i z) phase.Got ≡ true = ap (λ o. Rattle.result_law.specs.Below.heap_law.Walking.has_gift_there y.gift o) z.code ∙ ap (λ g. Rattle.result_law.specs.Below.heap_law.Walking.has_gift_there g (Some i)) given in
       takes_it k n t s y i z v given w has (ap (λ o. path_of o y) z.code) q.0 q.1 (λ p e. cc) k.options.servers (λ sp h e. subst (λ g. Gives Bare (committed (lock sp g h))) (sym e) (lock_takes sp v h))
 
   -- that of a dup
@@ -201,7 +201,7 @@ module _ (k : Cluster) (n t : ℕ) (s : Server) (y : ThreadState) where
       let at = typed k n t s y i z in
       let to = to_entry (types k n t s y i z).table y.pc (entry k n t s y i z) i at.0 at.1 (λ o e. cc) in
       let q = readable_dup (types k n t s y i z).table (entry k n t s y i z) to.0 w to.1 in
-      let has : has_followed (sight k) (standing k n t s y i z) phase.Got ≡ true = ap (λ o. Rattle.heap_law.specs.Walking.has_gift_there y.gift o) z.code ∙ ap (λ g. Rattle.heap_law.specs.Walking.has_gift_there g (Some i)) given in
+      let has : has_followed (sight k) (standing k n t s y i z) phase.Got ≡ true = ap (λ o. Rattle.result_law.specs.Below.heap_law.Walking.has_gift_there y.gift o) z.code ∙ ap (λ g. Rattle.result_law.specs.Below.heap_law.Walking.has_gift_there g (Some i)) given in
       takes_it k n t s y i z v given w has (ap (λ o. path_of o y) z.code) q.0 q.1 (λ p e. cc) k.options.servers (λ sp h e. subst (λ g. Gives Bare (committed (dup sp g h))) (sym e) (dup_takes sp v h))
 
   -- that of a join

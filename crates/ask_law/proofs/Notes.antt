@@ -1,14 +1,14 @@
 -- What a server has noted of threads: each one once, and of the two of a pair at most one as over.
 use Rattle.std.proofs.Common.{◌≡◌, ℕ, ◌+◌, ◌≤◌, ◌==◌, ◌&&◌, not, Bool, true, false, if◌then◌else◌, List, [], ◌∷◌, Option, Some, None, refl, sym, ap, subst, ◌∙◌, arith}
 use Rattle.std.specs.Prelude.{is_some}
-use Rattle.fr_typing.proofs.PlaceLemmas.{eq_cases}
-use Rattle.heap_partition.specs.declared.value.Owned.{Owned}
-use Rattle.join_home.specs.Tasks.{Task, TaskState, going, let_go, kept, asked, in_pair, task_in, state_of, with_state, without_task, noted, is_noted, has_pair, can_begin, begin, can_begin_pair, begin_pair, over_of, over_in, pair_ended, ended_from, ended, asked_from, ask, let_go_from, let_go_of}
-use Rattle.heap_law.specs.Names.{one}
-use Rattle.heap_law.specs.Naming.{rising, rising_from, numbers_of}
-use Rattle.heap_law.proofs.Names.{and_left, and_right}
-use Rattle.event_law.specs.Laws.{Gives}
-use Rattle.event_law.proofs.NotesFound.{below}
+use Rattle.result_law.proofs.Below.fr_typing.PlaceLemmas.{eq_cases}
+use Rattle.result_law.specs.Below.heap_partition.declared.value.Owned.{Owned}
+use Rattle.result_law.specs.Below.join_home.Tasks.{Task, TaskState, going, let_go, kept, asked, in_pair, task_in, state_of, with_state, without_task, noted, is_noted, has_pair, can_begin, begin, can_begin_pair, begin_pair, over_of, over_in, pair_ended, ended_from, ended, asked_from, ask, let_go_from, let_go_of}
+use Rattle.result_law.specs.Below.heap_law.Names.{one}
+use Rattle.result_law.specs.Below.heap_law.Naming.{rising, rising_from, numbers_of}
+use Rattle.result_law.proofs.Below.heap_law.Names.{and_left, and_right}
+use Rattle.result_law.specs.Below.event_law.Laws.{Gives}
+use Rattle.result_law.proofs.Below.event_law.NotesFound.{below}
 
 -- SUMS OVER NOTES
 

@@ -1,43 +1,43 @@
 -- A thread that waits for a pair waits for two threads of which not both are over, after each event of a sound cluster.
 use Rattle.std.proofs.Common.{◌≡◌, ℕ, zero, suc, ◌+◌, ◌≤◌, ◌==◌, ◌&&◌, not, Bool, true, false, if◌then◌else◌, List, [], ◌∷◌, ◌++◌, Option, Some, None, refl, sym, ap, subst, ◌∙◌, arith}
 use Rattle.std.proofs.lemmas.Bool.{eqb-true, eq-eqb}
-use Rattle.fr_typing.proofs.PlaceLemmas.{eq_cases}
-use Rattle.join_home.specs.Tasks.{Task, TaskState, going, let_go, kept, asked, in_pair, over_of}
-use Rattle.mutex_home.specs.Mutexes.{Mutex}
-use Rattle.thread_state.specs.View.{ThreadState}
-use Rattle.thread_state.specs.declared.phase.Phase.{Phase}
-use Rattle.thread_state.specs.declared.phase.Phase.TheVariants as phase
-use Rattle.server_msgs.specs.declared.message.Message.{Message}
-use Rattle.server_msgs.specs.declared.message.Message.TheVariants as message
-use Rattle.journal.specs.View.{EntryView}
-use Rattle.server_model.specs.declared.event.Event.{Event}
-use Rattle.server_model.specs.Servers.{Rest, Server, Cluster, server_at}
-use Rattle.server_model.specs.Events.{enabled}
-use Rattle.server_model.specs.Clusters.{done_at, act_at, apply}
-use Rattle.heap_law.specs.Names.{tot, one, other, if_so, some}
-use Rattle.heap_law.specs.Things.{Thing, noted, stands, things_at, content_things, queue_things, mutex_things, task_things, standing_things, waiting_things, leaving_things, message_things, server_things, servers_things, things_of}
-use Rattle.heap_law.specs.Follow.{Standing, threads_in, thread_at}
-use Rattle.heap_law.specs.Sight.{sight}
-use Rattle.heap_law.specs.Weights.{is_thread}
-use Rattle.heap_law.specs.Naming.{servers_wrong, pinned_parcel}
-use Rattle.heap_law.specs.Walking.{sum_threads}
-use Rattle.heap_law.specs.Requests.{Branch, half_noted, half_over, pair_notes, pair_places, branch_places, over_at, both_over}
-use Rattle.heap_law.specs.Coherent.{IsSound, Holds, pairs_go_on}
-use Rattle.heap_law.proofs.Names.{left_none}
-use Rattle.heap_law.proofs.Sums.{tot-append, server_parts}
-use Rattle.event_law.specs.Laws.{Gives, FewEvents, PairsNoted}
-use Rattle.event_law.proofs.Results.{then_gives, over_gives, test_gives, both_give}
-use Rattle.event_law.proofs.Unseen.{Unseen, none_at, thread_alone, content_none, result_none, partition_none, copies_none}
-use Rattle.event_law.proofs.Elsewhere.{here_alone}
-use Rattle.event_law.proofs.Events.{tot-server}
-use Rattle.event_law.proofs.Applied.{handed_on}
-use Rattle.event_law.proofs.Sending.{each_event_sends}
-use Rattle.event_law.proofs.FinishSteps.{notes_rise}
-use Rattle.event_law.proofs.StandsHere.{found_none}
-use Rattle.event_law.proofs.TurnEvents.{asking_applied}
-use Rattle.local_law.specs.Laws.{EachEventKeeps}
-use Rattle.local_law.proofs.MutexLists.{given}
-use Rattle.local_law.proofs.Rests.{Parts, rests}
+use Rattle.result_law.proofs.Below.fr_typing.PlaceLemmas.{eq_cases}
+use Rattle.result_law.specs.Below.join_home.Tasks.{Task, TaskState, going, let_go, kept, asked, in_pair, over_of}
+use Rattle.result_law.specs.Below.mutex_home.Mutexes.{Mutex}
+use Rattle.result_law.specs.Below.thread_state.View.{ThreadState}
+use Rattle.result_law.specs.Below.thread_state.declared.phase.Phase.{Phase}
+use Rattle.result_law.specs.Below.thread_state.declared.phase.Phase.TheVariants as phase
+use Rattle.result_law.specs.Below.server_msgs.declared.message.Message.{Message}
+use Rattle.result_law.specs.Below.server_msgs.declared.message.Message.TheVariants as message
+use Rattle.result_law.specs.Below.journal.View.{EntryView}
+use Rattle.result_law.specs.Below.server_model.declared.event.Event.{Event}
+use Rattle.result_law.specs.Below.server_model.Servers.{Rest, Server, Cluster, server_at}
+use Rattle.result_law.specs.Below.server_model.Events.{enabled}
+use Rattle.result_law.specs.Below.server_model.Clusters.{done_at, act_at, apply}
+use Rattle.result_law.specs.Below.heap_law.Names.{tot, one, other, if_so, some}
+use Rattle.result_law.specs.Below.heap_law.Things.{Thing, noted, stands, things_at, content_things, queue_things, mutex_things, task_things, standing_things, waiting_things, leaving_things, message_things, server_things, servers_things, things_of}
+use Rattle.result_law.specs.Below.heap_law.Follow.{Standing, threads_in, thread_at}
+use Rattle.result_law.specs.Below.heap_law.Sight.{sight}
+use Rattle.result_law.specs.Below.heap_law.Weights.{is_thread}
+use Rattle.result_law.specs.Below.heap_law.Naming.{servers_wrong, pinned_parcel}
+use Rattle.result_law.specs.Below.heap_law.Walking.{sum_threads}
+use Rattle.result_law.specs.Below.heap_law.Requests.{Branch, half_noted, half_over, pair_notes, pair_places, branch_places, over_at, both_over}
+use Rattle.result_law.specs.Below.heap_law.Coherent.{IsSound, Holds, pairs_go_on}
+use Rattle.result_law.proofs.Below.heap_law.Names.{left_none}
+use Rattle.result_law.proofs.Below.heap_law.Sums.{tot-append, server_parts}
+use Rattle.result_law.specs.Below.event_law.Laws.{Gives, FewEvents, PairsNoted}
+use Rattle.result_law.proofs.Below.event_law.Results.{then_gives, over_gives, test_gives, both_give}
+use Rattle.result_law.proofs.Below.event_law.Unseen.{Unseen, none_at, thread_alone, content_none, result_none, partition_none, copies_none}
+use Rattle.result_law.proofs.Below.event_law.Elsewhere.{here_alone}
+use Rattle.result_law.proofs.Below.event_law.Events.{tot-server}
+use Rattle.result_law.proofs.Below.event_law.Applied.{handed_on}
+use Rattle.result_law.proofs.Below.event_law.Sending.{each_event_sends}
+use Rattle.result_law.proofs.Below.event_law.FinishSteps.{notes_rise}
+use Rattle.result_law.proofs.Below.event_law.StandsHere.{found_none}
+use Rattle.result_law.proofs.Below.event_law.TurnEvents.{asking_applied}
+use Rattle.value_law.specs.Below.local_law.Laws.{EachEventKeeps}
+use Rattle.value_law.proofs.Below.local_law.MutexLists.{given}
+use Rattle.value_law.proofs.Below.local_law.Rests.{Parts, rests}
 use Rattle.ask_law.proofs.Notes.{over_notes, names, is_over_for, Orderly, begins, pair_begins, asks, lets_go, ends, rising_once}
 
 -- A SERVER
@@ -70,9 +70,9 @@ orders n = record {
   began = λ r e a. (a.0, begins r.tasks _ e a.1);
   pair = λ parent r e a. (a.0, pair_begins r.tasks parent _ _ e a.1);
   counted = λ r a. a;
-  joined = λ u s b r p e a. (a.0, given Left (Rattle.join_home.specs.Tasks.ask r.tasks u s b) p (asks r.tasks u s b a.1) e);
-  let_go = λ u r p e a. (a.0, given Left (Rattle.join_home.specs.Tasks.let_go_of r.tasks u) p (lets_go r.tasks u a.1) e);
-  over = λ u v r p e a. (a.0, given Left (Rattle.join_home.specs.Tasks.ended r.tasks u v) p (ends r.tasks u v a.1) e);
+  joined = λ u s b r p e a. (a.0, given Left (Rattle.result_law.specs.Below.join_home.Tasks.ask r.tasks u s b) p (asks r.tasks u s b a.1) e);
+  let_go = λ u r p e a. (a.0, given Left (Rattle.result_law.specs.Below.join_home.Tasks.let_go_of r.tasks u) p (lets_go r.tasks u a.1) e);
+  over = λ u v r p e a. (a.0, given Left (Rattle.result_law.specs.Below.join_home.Tasks.ended r.tasks u v) p (ends r.tasks u v a.1) e);
 }
   where
     by : (b : Bool) (t : ℕ) (m : Message) (r : Rest) → Numbered n r → Numbered n (if b then record r { inbox = r.inbox ++ m ∷ [] } else record r { outbox = r.outbox ++ record { target = t; message = m } ∷ [] })
@@ -414,7 +414,7 @@ module _ (k : Cluster) (sound : IsSound k) (number : ℕ) (s : Server) (at : ser
 
   module _ (new : Server) (numbered : new.rest.number ≡ n) (order : Orderly new.rest.tasks) where
     abbrev after : List Thing
-    after = servers_things (Rattle.server_model.specs.Clusters.with_server k.servers number new)
+    after = servers_things (Rattle.result_law.specs.Below.server_model.Clusters.with_server k.servers number new)
 
     -- at the server it is that of its notes, elsewhere what it was
     changes : (f : Task → ℕ) (r : ℕ) (P : ℕ → Type 0) → P (tot (at_server f r) (things_of k)) → P (over_notes f new.rest.tasks) → P (tot (at_server f r) after)

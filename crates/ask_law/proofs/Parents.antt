@@ -1,28 +1,28 @@
 -- Going up from the branches of pairs to their parents comes to an end, after each event of a sound cluster.
 use Rattle.std.proofs.Common.{◌≡◌, inl, inr, ℕ, suc, ◌+◌, ◌≤◌, ◌<◌, ◌==◌, Bool, true, false, List, [], ◌∷◌, ◌++◌, refl, ap, subst, arith}
-use Rattle.fr_typing.proofs.PlaceLemmas.{eq_cases}
-use Rattle.join_home.specs.Tasks.{TaskState, in_pair}
-use Rattle.journal.specs.View.{EntryView}
-use Rattle.server_model.specs.Servers.{Cluster}
-use Rattle.server_model.specs.Clusters.{apply}
-use Rattle.heap_law.specs.Names.{tot, one, other, if_so, some, Among}
-use Rattle.heap_law.specs.Things.{Thing, noted, stands, things_of}
-use Rattle.heap_law.specs.Follow.{Standing, threads_in}
-use Rattle.heap_law.specs.Sight.{sight}
-use Rattle.heap_law.specs.Weights.{is_thread}
-use Rattle.heap_law.specs.Ranks.{Step, Falls}
-use Rattle.heap_law.specs.Rooted.{parents_of, parents}
-use Rattle.heap_law.specs.Naming.{threads, named_mutexes, uncounted_thread, uncounted_mutex}
-use Rattle.heap_law.specs.Requests.{half_noted}
-use Rattle.heap_law.specs.Coherent.{IsSound, Holds, parents_end}
-use Rattle.heap_law.proofs.Names.{left_none}
-use Rattle.heap_law.proofs.Ranks.{numbers_none}
-use Rattle.event_law.specs.Laws.{PairsNoted, NumbersDiffer}
-use Rattle.event_law.proofs.Results.{both_give}
-use Rattle.event_law.proofs.Applied.{handed_part}
-use Rattle.event_law.proofs.Sending.{each_event_sends}
-use Rattle.event_law.proofs.TurnEvents.{asking_applied}
-use Rattle.local_law.specs.Laws.{EachEventKeeps}
+use Rattle.result_law.proofs.Below.fr_typing.PlaceLemmas.{eq_cases}
+use Rattle.result_law.specs.Below.join_home.Tasks.{TaskState, in_pair}
+use Rattle.result_law.specs.Below.journal.View.{EntryView}
+use Rattle.result_law.specs.Below.server_model.Servers.{Cluster}
+use Rattle.result_law.specs.Below.server_model.Clusters.{apply}
+use Rattle.result_law.specs.Below.heap_law.Names.{tot, one, other, if_so, some, Among}
+use Rattle.result_law.specs.Below.heap_law.Things.{Thing, noted, stands, things_of}
+use Rattle.result_law.specs.Below.heap_law.Follow.{Standing, threads_in}
+use Rattle.result_law.specs.Below.heap_law.Sight.{sight}
+use Rattle.result_law.specs.Below.heap_law.Weights.{is_thread}
+use Rattle.result_law.specs.Below.heap_law.Ranks.{Step, Falls}
+use Rattle.result_law.specs.Below.heap_law.Rooted.{parents_of, parents}
+use Rattle.result_law.specs.Below.heap_law.Naming.{threads, named_mutexes, uncounted_thread, uncounted_mutex}
+use Rattle.result_law.specs.Below.heap_law.Requests.{half_noted}
+use Rattle.result_law.specs.Below.heap_law.Coherent.{IsSound, Holds, parents_end}
+use Rattle.result_law.proofs.Below.heap_law.Names.{left_none}
+use Rattle.result_law.proofs.Below.heap_law.Ranks.{numbers_none}
+use Rattle.result_law.specs.Below.event_law.Laws.{PairsNoted, NumbersDiffer}
+use Rattle.result_law.proofs.Below.event_law.Results.{both_give}
+use Rattle.result_law.proofs.Below.event_law.Applied.{handed_part}
+use Rattle.result_law.proofs.Below.event_law.Sending.{each_event_sends}
+use Rattle.result_law.proofs.Below.event_law.TurnEvents.{asking_applied}
+use Rattle.value_law.specs.Below.local_law.Laws.{EachEventKeeps}
 use Rattle.ask_law.proofs.Branches.{is_counted, pair_of, waits_unpaired, is_some_number, ParentOf, parent_of, noted_before, unpaired_after}
 
 -- RANKS

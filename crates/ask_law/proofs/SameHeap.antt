@@ -1,27 +1,27 @@
 -- Where the one heap shows the same of a thread and of its objects, its places lead alike in both clusters, and the same mutex stands there.
 use Rattle.std.proofs.Common.{◌≡◌, ℕ, zero, suc, Bool, true, false, if◌then◌else◌, Option, Some, None, option_map, refl, sym, ap, ◌∙◌}
 use Rattle.std.specs.Prelude.{slice_get}
-use Rattle.fr_base.specs.declared.place.Lval.{Lval}
-use Rattle.fr_base.specs.declared.name.ObjNo.{ObjNo}
-use Rattle.fr_base.specs.declared.label.Plain.{Plain}
-use Rattle.fr_plain.specs.declared.value.Value.TheVariants.{Own}
-use Rattle.fr_plain.specs.State.{slot_at}
-use Rattle.fr_plain.specs.MachineThreads.{owing, loose}
-use Rattle.fr_plain.specs.PlainState.{place_in, place_of}
-use Rattle.fr_code.specs.Machine.{CodeRunning}
-use Rattle.fr_sound.specs.Seen.{seen_cell}
-use Rattle.thread_state.specs.View.{is_over}
-use Rattle.server_model.specs.Servers.{Cluster}
-use Rattle.heap_law.specs.Things.{Location, in_cell}
-use Rattle.heap_law.specs.Follow.{Standing, Ground, thread_at, slot_of, value_of, value_in, value_behind, leads, locate, value_at}
-use Rattle.heap_law.specs.Sight.{Sight, sight}
-use Rattle.heap_law.specs.Requests.{mutex_of}
-use Rattle.heap_law.specs.OneHeap.{one_heap, state_of, object_value, plain_value, going_on, was_let_go, running_at, ended_with, result_of, life_of, life_at, if_given, is_given_thread}
-use Rattle.path_law.specs.HeapStore.{GoesOn, HasPaths}
-use Rattle.path_law.proofs.Shown.{shown_value, object_shown, stands_there}
-use Rattle.path_law.proofs.Alike.{IsShown, a_slot, an_object, leads_in_heap}
-use Rattle.path_law.proofs.Sole.{some_is}
-use Rattle.still_law.proofs.PlainValues.{plain_leads, plain_mutex, leads_plain, mutex_plain}
+use Rattle.result_law.specs.Below.fr_base.declared.place.Lval.{Lval}
+use Rattle.result_law.specs.Below.fr_base.declared.name.ObjNo.{ObjNo}
+use Rattle.result_law.specs.Below.fr_base.declared.label.Plain.{Plain}
+use Rattle.result_law.specs.Below.fr_plain.declared.value.Value.TheVariants.{Own}
+use Rattle.result_law.specs.Below.fr_plain.State.{slot_at}
+use Rattle.result_law.specs.Below.fr_plain.MachineThreads.{owing, loose}
+use Rattle.result_law.specs.Below.fr_plain.PlainState.{place_in, place_of}
+use Rattle.result_law.specs.Below.fr_code.Machine.{CodeRunning}
+use Rattle.result_law.specs.Below.fr_sound.Seen.{seen_cell}
+use Rattle.result_law.specs.Below.thread_state.View.{is_over}
+use Rattle.result_law.specs.Below.server_model.Servers.{Cluster}
+use Rattle.result_law.specs.Below.heap_law.Things.{Location, in_cell}
+use Rattle.result_law.specs.Below.heap_law.Follow.{Standing, Ground, thread_at, slot_of, value_of, value_in, value_behind, leads, locate, value_at}
+use Rattle.result_law.specs.Below.heap_law.Sight.{Sight, sight}
+use Rattle.result_law.specs.Below.heap_law.Requests.{mutex_of}
+use Rattle.result_law.specs.Below.heap_law.OneHeap.{one_heap, state_of, object_value, plain_value, going_on, was_let_go, running_at, ended_with, result_of, life_of, life_at, if_given, is_given_thread}
+use Rattle.result_law.specs.Below.path_law.HeapStore.{GoesOn, HasPaths}
+use Rattle.result_law.proofs.Below.path_law.Shown.{shown_value, object_shown, stands_there}
+use Rattle.result_law.proofs.Below.path_law.Alike.{IsShown, a_slot, an_object, leads_in_heap}
+use Rattle.result_law.proofs.Below.path_law.Sole.{some_is}
+use Rattle.undone_law.proofs.Below.still_law.PlainValues.{plain_leads, plain_mutex, leads_plain, mutex_plain}
 
 -- THREADS
 

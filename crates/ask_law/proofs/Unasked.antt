@@ -1,31 +1,31 @@
 -- Where each pointer of a place that is read is at hand, nothing is asked for.
 use Rattle.std.proofs.Common.{◌≡◌, ℕ, zero, suc, ◌+◌, ◌≤◌, ◌<◌, ◌==◌, ◌&&◌, ◌||◌, not, is_some, Bool, true, false, if◌then◌else◌, List, [], ◌∷◌, Option, Some, None, refl, sym, ap, subst, ◌∙◌, arith}
 use Rattle.std.specs.Bool.{⊤}
-use Rattle.fr_base.specs.Lists.{is_in}
-use Rattle.fr_base.specs.declared.place.Lval.{Lval}
-use Rattle.fr_base.specs.declared.instruction.Instr.{Instr}
-use Rattle.global_addr.specs.Words.{server_of}
-use Rattle.heap_partition.specs.declared.value.Owned.TheVariants as owned
-use Rattle.mut_borrow.specs.declared.mutable.MutRef.{MutRef}
-use Rattle.migration.specs.Packing.{used_words}
-use Rattle.place_walk.specs.declared.hop.Hop.{Hop}
-use Rattle.place_walk.specs.declared.hop.Hop.TheVariants as hop
-use Rattle.place_walk.specs.Hops.{by_copy, clean_hop, dirty_hop, read_hop}
-use Rattle.read_cache.specs.Cache.{Copy, copy_of, is_cached, users, users_in}
-use Rattle.thread_state.specs.View.{ThreadState}
-use Rattle.thread_state.specs.declared.value.Value.{Value}
-use Rattle.thread_state.specs.declared.value.Value.TheVariants as value
-use Rattle.server_model.specs.Servers.{Server, Cluster}
-use Rattle.server_model.specs.Work.{Hand}
-use Rattle.server_model.specs.Places.{Spot, in_slot, in_cell, in_copy, on_top, nowhere, value_at, load_at}
-use Rattle.server_model.specs.Prepare.{Prepared, ready, requested, nothing, and_then, ready_at, use_copy, hit_by, read_by, read_value, read_clean, tinted_first, read_star, read_stars}
-use Rattle.heap_law.specs.Names.{one, other}
-use Rattle.heap_law.specs.Things.{Location}
-use Rattle.heap_law.specs.Follow.{Standing, Ground, value_in, locate}
-use Rattle.heap_law.specs.Sight.{sight}
-use Rattle.heap_law.specs.Walking.{loose_hop}
-use Rattle.heap_law.specs.Paths.{is_at_hand}
-use Rattle.event_law.proofs.Askers.{other_none}
+use Rattle.result_law.specs.Below.fr_base.Lists.{is_in}
+use Rattle.result_law.specs.Below.fr_base.declared.place.Lval.{Lval}
+use Rattle.result_law.specs.Below.fr_base.declared.instruction.Instr.{Instr}
+use Rattle.result_law.specs.Below.global_addr.Words.{server_of}
+use Rattle.result_law.specs.Below.heap_partition.declared.value.Owned.TheVariants as owned
+use Rattle.result_law.specs.Below.mut_borrow.declared.mutable.MutRef.{MutRef}
+use Rattle.result_law.specs.Below.migration.Packing.{used_words}
+use Rattle.result_law.specs.Below.place_walk.declared.hop.Hop.{Hop}
+use Rattle.result_law.specs.Below.place_walk.declared.hop.Hop.TheVariants as hop
+use Rattle.result_law.specs.Below.place_walk.Hops.{by_copy, clean_hop, dirty_hop, read_hop}
+use Rattle.result_law.specs.Below.read_cache.Cache.{Copy, copy_of, is_cached, users, users_in}
+use Rattle.result_law.specs.Below.thread_state.View.{ThreadState}
+use Rattle.result_law.specs.Below.thread_state.declared.value.Value.{Value}
+use Rattle.result_law.specs.Below.thread_state.declared.value.Value.TheVariants as value
+use Rattle.result_law.specs.Below.server_model.Servers.{Server, Cluster}
+use Rattle.result_law.specs.Below.server_model.Work.{Hand}
+use Rattle.result_law.specs.Below.server_model.Places.{Spot, in_slot, in_cell, in_copy, on_top, nowhere, value_at, load_at}
+use Rattle.result_law.specs.Below.server_model.Prepare.{Prepared, ready, requested, nothing, and_then, ready_at, use_copy, hit_by, read_by, read_value, read_clean, tinted_first, read_star, read_stars}
+use Rattle.result_law.specs.Below.heap_law.Names.{one, other}
+use Rattle.result_law.specs.Below.heap_law.Things.{Location}
+use Rattle.result_law.specs.Below.heap_law.Follow.{Standing, Ground, value_in, locate}
+use Rattle.result_law.specs.Below.heap_law.Sight.{sight}
+use Rattle.result_law.specs.Below.heap_law.Walking.{loose_hop}
+use Rattle.result_law.specs.Below.heap_law.Paths.{is_at_hand}
+use Rattle.result_law.proofs.Below.event_law.Askers.{other_none}
 use Rattle.result_law.proofs.Known.{Steps, able, goes, paths, standing, usable}
 use Rattle.result_law.proofs.Usable.{times}
 use Rattle.result_law.proofs.Followed.{Place, at, hop_from}

@@ -2,38 +2,38 @@
 use Rattle.std.proofs.Common.{◌≡◌, inl, inr, ℕ, ◌%◌, ◌^◌, ◌≤◌, ◌==◌, ◌&&◌, ◌||◌, not, is_some, Bool, true, false, List, [], ◌∷◌, Option, Some, None, refl, sym, ap, subst, ◌∙◌, arith}
 use Rattle.std.specs.Prelude.{slice_get}
 use Rattle.std.proofs.lemmas.Bool.{eq-eqb}
-use Rattle.fr_base.specs.declared.place.Lval.{Lval}
-use Rattle.fr_base.specs.declared.instruction.Instr.{Instr}
-use Rattle.fr_base.specs.declared.instruction.Instr.TheVariants as instr
-use Rattle.fr_plain.specs.PlainState.{SameState, place_in}
-use Rattle.heap_partition.specs.declared.value.Owned.{Owned}
-use Rattle.thread_state.specs.View.{is_over}
-use Rattle.thread_state.specs.declared.phase.Phase.{Phase}
-use Rattle.thread_state.specs.declared.phase.Phase.TheVariants as phase
-use Rattle.journal.specs.View.{EntryView}
-use Rattle.server_model.specs.declared.event.Event.{Event}
-use Rattle.server_model.specs.Servers.{Cluster, server_at}
-use Rattle.server_model.specs.Clusters.{done_at, apply}
-use Rattle.heap_law.specs.Names.{tot, one, other, some, Among}
-use Rattle.heap_law.specs.Things.{Thing, stands, things_of}
-use Rattle.heap_law.specs.Follow.{Standing, threads_in, thread_at, value_at}
-use Rattle.heap_law.specs.Sight.{sight}
-use Rattle.heap_law.specs.Weights.{is_thread}
-use Rattle.heap_law.specs.Naming.{threads, named_mutexes, started_at, zeroth_thread, zeroth_mutex, uncounted_thread, uncounted_mutex}
-use Rattle.heap_law.specs.Requests.{home_of, mutex_of, is_mutex, is_task, is_got, early_gift, is_value_of, stands_wrong, gift_there, locked_mutex, dupped_mutex}
-use Rattle.heap_law.specs.Paths.{joined_thread}
-use Rattle.heap_law.specs.OneHeap.{one_heap, is_given_thread, running_at}
-use Rattle.heap_law.specs.Coherent.{Sentence, Holds, phases_stand, gifts_fit, gifts_got, names_counted, counts_from_one}
-use Rattle.heap_law.proofs.Names.{left_none}
-use Rattle.type_law.specs.ClusterTypes.{IsCoherent}
-use Rattle.type_law.proofs.Branches.{found}
-use Rattle.path_law.specs.HeapStore.{HasPaths}
-use Rattle.path_law.proofs.Alike.{coherent_has_paths}
-use Rattle.path_law.proofs.Contained.{among_thread}
-use Rattle.event_law.specs.Laws.{Gives, FewEvents, NumbersDiffer}
-use Rattle.event_law.proofs.Results.{then_gives, map_gives, weaker, both_give}
-use Rattle.event_law.proofs.Applied.{handed_part}
-use Rattle.event_law.proofs.Sending.{each_event_sends}
+use Rattle.result_law.specs.Below.fr_base.declared.place.Lval.{Lval}
+use Rattle.result_law.specs.Below.fr_base.declared.instruction.Instr.{Instr}
+use Rattle.result_law.specs.Below.fr_base.declared.instruction.Instr.TheVariants as instr
+use Rattle.result_law.specs.Below.fr_plain.PlainState.{SameState, place_in}
+use Rattle.result_law.specs.Below.heap_partition.declared.value.Owned.{Owned}
+use Rattle.result_law.specs.Below.thread_state.View.{is_over}
+use Rattle.result_law.specs.Below.thread_state.declared.phase.Phase.{Phase}
+use Rattle.result_law.specs.Below.thread_state.declared.phase.Phase.TheVariants as phase
+use Rattle.result_law.specs.Below.journal.View.{EntryView}
+use Rattle.result_law.specs.Below.server_model.declared.event.Event.{Event}
+use Rattle.result_law.specs.Below.server_model.Servers.{Cluster, server_at}
+use Rattle.result_law.specs.Below.server_model.Clusters.{done_at, apply}
+use Rattle.result_law.specs.Below.heap_law.Names.{tot, one, other, some, Among}
+use Rattle.result_law.specs.Below.heap_law.Things.{Thing, stands, things_of}
+use Rattle.result_law.specs.Below.heap_law.Follow.{Standing, threads_in, thread_at, value_at}
+use Rattle.result_law.specs.Below.heap_law.Sight.{sight}
+use Rattle.result_law.specs.Below.heap_law.Weights.{is_thread}
+use Rattle.result_law.specs.Below.heap_law.Naming.{threads, named_mutexes, started_at, zeroth_thread, zeroth_mutex, uncounted_thread, uncounted_mutex}
+use Rattle.result_law.specs.Below.heap_law.Requests.{home_of, mutex_of, is_mutex, is_task, is_got, early_gift, is_value_of, stands_wrong, gift_there, locked_mutex, dupped_mutex}
+use Rattle.result_law.specs.Below.heap_law.Paths.{joined_thread}
+use Rattle.result_law.specs.Below.heap_law.OneHeap.{one_heap, is_given_thread, running_at}
+use Rattle.result_law.specs.Below.heap_law.Coherent.{Sentence, Holds, phases_stand, gifts_fit, gifts_got, names_counted, counts_from_one}
+use Rattle.result_law.proofs.Below.heap_law.Names.{left_none}
+use Rattle.result_law.specs.Below.type_law.ClusterTypes.{IsCoherent}
+use Rattle.result_law.proofs.Below.type_law.Branches.{found}
+use Rattle.result_law.specs.Below.path_law.HeapStore.{HasPaths}
+use Rattle.result_law.proofs.Below.path_law.Alike.{coherent_has_paths}
+use Rattle.result_law.proofs.Below.path_law.Contained.{among_thread}
+use Rattle.result_law.specs.Below.event_law.Laws.{Gives, FewEvents, NumbersDiffer}
+use Rattle.result_law.proofs.Below.event_law.Results.{then_gives, map_gives, weaker, both_give}
+use Rattle.result_law.proofs.Below.event_law.Applied.{handed_part}
+use Rattle.result_law.proofs.Below.event_law.Sending.{each_event_sends}
 use Rattle.value_law.proofs.Sentences.{names_kept, counts_kept}
 use Rattle.undone_law.proofs.Undone.{each_undone}
 use Rattle.ask_law.specs.Standing.{locked, dupped, phase_off, gift_at, gift_off, off, StandBy, EachUndoneEventKeeps}
@@ -148,9 +148,9 @@ module _ (k c : Cluster) (p : HasPaths k) (a : After k c) (sees : (n : ℕ) → 
   gift_then y among early None e z = refl
   gift_then y among early (Some v) e z =
       let same = kept y among (got_going y v e early) in
-      ap (λ cs. Rattle.heap_law.specs.Requests.gift_fits (sight c) y v (slice_get cs y.thread.pc)) a.code ∙ by same (slice_get k.code y.thread.pc) z
+      ap (λ cs. Rattle.result_law.specs.Below.heap_law.Requests.gift_fits (sight c) y v (slice_get cs y.thread.pc)) a.code ∙ by same (slice_get k.code y.thread.pc) z
     where
-      by : Kept k c y.thread.number → (i : Option Instr) → gift_at (sight k).ground i y.thread v ≡ 0 → Rattle.heap_law.specs.Requests.gift_fits (sight c) y v i ≡ 0
+      by : Kept k c y.thread.number → (i : Option Instr) → gift_at (sight k).ground i y.thread v ≡ 0 → Rattle.result_law.specs.Below.heap_law.Requests.gift_fits (sight c) y v i ≡ 0
       by same (Some (instr.Lock w)) q = ap (λ o. other (is_some o)) (sym (same.at_lock (Some (instr.Lock w)))) ∙ q
       by same (Some (instr.Dup w)) q = ap (λ o. other (is_value_of v o)) (sym (same.at_dup (Some (instr.Dup w)))) ∙ q
       by same (Some (instr.Join o)) q = q

@@ -1,25 +1,25 @@
 -- Where a thread that waits for what a home gives stands, and one that has got it, by where places led before the event.
 use Rattle.std.specs.Prelude.{◌≡◌, ℕ, ◌+◌, is_some, Option, Some, None, slice_get}
-use Rattle.fr_base.specs.declared.name.MutexNo.{MutexNo}
-use Rattle.fr_base.specs.declared.instruction.Instr.{Instr}
-use Rattle.fr_base.specs.declared.instruction.Instr.TheVariants as instr
-use Rattle.heap_partition.specs.declared.value.Owned.{Owned}
-use Rattle.thread_state.specs.View.{ThreadState}
-use Rattle.thread_state.specs.declared.phase.Phase.{Phase}
-use Rattle.thread_state.specs.declared.phase.Phase.TheVariants as phase
-use Rattle.journal.specs.View.{EntryView}
-use Rattle.server_model.specs.declared.event.Event.{Event}
-use Rattle.server_model.specs.Servers.{Cluster}
-use Rattle.server_model.specs.Clusters.{apply}
-use Rattle.heap_law.specs.Names.{tot, other}
-use Rattle.heap_law.specs.Things.{things_of}
-use Rattle.heap_law.specs.Follow.{Standing, Ground, threads_in, value_at}
-use Rattle.heap_law.specs.Sight.{sight}
-use Rattle.heap_law.specs.Paths.{joined_thread}
-use Rattle.heap_law.specs.Coherent.{Sentence, Holds}
-use Rattle.heap_law.specs.Requests.{mutex_of, is_mutex, is_task, is_value_of}
-use Rattle.event_law.specs.Laws.{Gives, FewEvents}
-use Rattle.type_law.specs.ClusterTypes.{IsCoherent}
+use Rattle.result_law.specs.Below.fr_base.declared.name.MutexNo.{MutexNo}
+use Rattle.result_law.specs.Below.fr_base.declared.instruction.Instr.{Instr}
+use Rattle.result_law.specs.Below.fr_base.declared.instruction.Instr.TheVariants as instr
+use Rattle.result_law.specs.Below.heap_partition.declared.value.Owned.{Owned}
+use Rattle.result_law.specs.Below.thread_state.View.{ThreadState}
+use Rattle.result_law.specs.Below.thread_state.declared.phase.Phase.{Phase}
+use Rattle.result_law.specs.Below.thread_state.declared.phase.Phase.TheVariants as phase
+use Rattle.result_law.specs.Below.journal.View.{EntryView}
+use Rattle.result_law.specs.Below.server_model.declared.event.Event.{Event}
+use Rattle.result_law.specs.Below.server_model.Servers.{Cluster}
+use Rattle.result_law.specs.Below.server_model.Clusters.{apply}
+use Rattle.result_law.specs.Below.heap_law.Names.{tot, other}
+use Rattle.result_law.specs.Below.heap_law.Things.{things_of}
+use Rattle.result_law.specs.Below.heap_law.Follow.{Standing, Ground, threads_in, value_at}
+use Rattle.result_law.specs.Below.heap_law.Sight.{sight}
+use Rattle.result_law.specs.Below.heap_law.Paths.{joined_thread}
+use Rattle.result_law.specs.Below.heap_law.Coherent.{Sentence, Holds}
+use Rattle.result_law.specs.Below.heap_law.Requests.{mutex_of, is_mutex, is_task, is_value_of}
+use Rattle.result_law.specs.Below.event_law.Laws.{Gives, FewEvents}
+use Rattle.result_law.specs.Below.type_law.ClusterTypes.{IsCoherent}
 
 -- the mutex at the place of a lock, or of a dup, of a thread with that number
 abbrev pub locked : Ground → ℕ → Option Instr → Option MutexNo

@@ -1,8 +1,8 @@
 //! What each event keeps of threads that wait, one clause for each sentence.
 
 ghost use Rattle.ask_law.specs.Standing.{EachEventAsksForWhatIsThere, EachUndoneEventKeeps};
-ghost use Rattle.heap_law.specs.Coherent.{branches_give_unit, carry_what_is_asked, gifts_fit, gifts_got, pairs_go_on, parents_end, phases_stand};
-ghost use Rattle.local_law.specs.Laws.{EachCoherentEventKeeps, EachEventKeeps};
+ghost use Rattle.result_law.specs.Below.heap_law.Coherent.{branches_give_unit, carry_what_is_asked, gifts_fit, gifts_got, pairs_go_on, parents_end, phases_stand};
+ghost use Rattle.value_law.specs.Below.local_law.Laws.{EachCoherentEventKeeps, EachEventKeeps};
 
 /// What is told of pairs: the two threads that one waits for differ, and not both are noted as over, and going up from branches to their parents comes to an end, in a
 /// sound cluster; and the message that tells the end of a branch carries unit, in a coherent one.

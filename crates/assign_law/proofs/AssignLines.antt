@@ -1,49 +1,49 @@
 -- An assignment through stars that is done, wherever its place ends.
 use Rattle.std.proofs.Common.{◌≡◌, ℕ, suc, true, false, List, Option, Some, None, refl, sym, ap, subst, ◌∙◌, arith}
 use Rattle.std.specs.Prelude.{slice_get}
-use Rattle.fr_base.specs.declared.place.Lval.{Lval}
-use Rattle.fr_base.specs.declared.instruction.Operand.{Operand}
-use Rattle.fr_base.specs.declared.instruction.Instr.{Instr}
-use Rattle.fr_base.specs.declared.instruction.Instr.TheVariants as instr
-use Rattle.fr_typing.specs.Kinds.{Owned as OwnedType, Kind, own, Piece}
-use Rattle.fr_typing.specs.Places.{owned_shape, found, piece_shape, equal_shapes, shape_at}
-use Rattle.fr_typing.specs.Checks.{is_kept_out, has_shape_of}
-use Rattle.fr_typing.specs.Finding.{IsOpen}
-use Rattle.fr_store.specs.Keys.{slot_k}
-use Rattle.fr_store.specs.Typed.{KeyTypes}
-use Rattle.fr_store.specs.Below.{ExactOf}
-use Rattle.fr_store.proofs.Below.{Resolved, mut_place, resolved_writable}
-use Rattle.fr_code.specs.CodeTypes.{Entry, Table, HasType, InstrTypes, i_assign}
-use Rattle.heap_partition.specs.declared.value.Owned.{Owned}
-use Rattle.thread_state.specs.View.{ThreadState}
-use Rattle.thread_state.specs.declared.value.Value.{Value}
-use Rattle.thread_state.specs.declared.value.Value.TheVariants as value
-use Rattle.server_model.specs.declared.event.Event.{Event}
-use Rattle.server_model.specs.Servers.{Server, Cluster}
-use Rattle.server_model.specs.Work.{Hand, Popped, pop_owned, with_temps, then_some}
-use Rattle.server_model.specs.Places.{Spot, in_slot}
-use Rattle.server_model.specs.Commit.{goes_on, replace_at, assign}
-use Rattle.server_model.specs.Events.{Stepped, committed, step}
-use Rattle.heap_law.specs.Things.{Location, at_slot, in_cell as in_object}
-use Rattle.heap_law.specs.Follow.{Standing, cell_of, locate}
-use Rattle.heap_law.specs.Sight.{sight}
-use Rattle.type_law.specs.ClusterTypes.{IsCoherent}
-use Rattle.event_law.specs.Laws.{Gives, FewEvents}
-use Rattle.path_law.specs.HeapStore.{heap_store, GoesOn, IsUnmarked, HasPaths}
-use Rattle.path_law.proofs.Forms.{names as names_at}
-use Rattle.path_law.proofs.MayWrites.{awake_thread, slot_there, variable_unmarked}
-use Rattle.path_law.proofs.Sole.{some_is}
-use Rattle.turn_law.proofs.Instructions.{Pops, PopsTo}
-use Rattle.turn_law.proofs.Events.{AtStep}
-use Rattle.lock_law.proofs.NewLines.{popped_owned}
-use Rattle.result_law.proofs.Known.{Steps, standing, paths, goes, types, entry, typed}
-use Rattle.result_law.proofs.Found.{Stood, slot_stands, cell_stands}
-use Rattle.result_law.proofs.Readers.{to_entry}
-use Rattle.write_law.proofs.Memory.{Leads}
-use Rattle.write_law.proofs.Route.{Route, At, a_slot, a_cell}
-use Rattle.write_law.proofs.Writes.{Light, owned_value, light_form, owned_part, kept_owned, end_is}
-use Rattle.rewrite_law.specs.Writing.{assigns}
-use Rattle.rewrite_law.proofs.Ways.{writes, short}
+use Rattle.drop_law.specs.Below.fr_base.declared.place.Lval.{Lval}
+use Rattle.drop_law.specs.Below.fr_base.declared.instruction.Operand.{Operand}
+use Rattle.drop_law.specs.Below.fr_base.declared.instruction.Instr.{Instr}
+use Rattle.drop_law.specs.Below.fr_base.declared.instruction.Instr.TheVariants as instr
+use Rattle.drop_law.specs.Below.fr_typing.Kinds.{Owned as OwnedType, Kind, own, Piece}
+use Rattle.drop_law.specs.Below.fr_typing.Places.{owned_shape, found, piece_shape, equal_shapes, shape_at}
+use Rattle.drop_law.specs.Below.fr_typing.Checks.{is_kept_out, has_shape_of}
+use Rattle.drop_law.specs.Below.fr_typing.Finding.{IsOpen}
+use Rattle.drop_law.specs.Below.fr_store.Keys.{slot_k}
+use Rattle.drop_law.specs.Below.fr_store.Typed.{KeyTypes}
+use Rattle.drop_law.specs.Below.fr_store.Below.{ExactOf}
+use Rattle.drop_law.proofs.Below.fr_store.Below.{Resolved, mut_place, resolved_writable}
+use Rattle.drop_law.specs.Below.fr_code.CodeTypes.{Entry, Table, HasType, InstrTypes, i_assign}
+use Rattle.drop_law.specs.Below.heap_partition.declared.value.Owned.{Owned}
+use Rattle.drop_law.specs.Below.thread_state.View.{ThreadState}
+use Rattle.drop_law.specs.Below.thread_state.declared.value.Value.{Value}
+use Rattle.drop_law.specs.Below.thread_state.declared.value.Value.TheVariants as value
+use Rattle.drop_law.specs.Below.server_model.declared.event.Event.{Event}
+use Rattle.drop_law.specs.Below.server_model.Servers.{Server, Cluster}
+use Rattle.drop_law.specs.Below.server_model.Work.{Hand, Popped, pop_owned, with_temps, then_some}
+use Rattle.drop_law.specs.Below.server_model.Places.{Spot, in_slot}
+use Rattle.drop_law.specs.Below.server_model.Commit.{goes_on, replace_at, assign}
+use Rattle.drop_law.specs.Below.server_model.Events.{Stepped, committed, step}
+use Rattle.drop_law.specs.Below.heap_law.Things.{Location, at_slot, in_cell as in_object}
+use Rattle.drop_law.specs.Below.heap_law.Follow.{Standing, cell_of, locate}
+use Rattle.drop_law.specs.Below.heap_law.Sight.{sight}
+use Rattle.drop_law.specs.Below.type_law.ClusterTypes.{IsCoherent}
+use Rattle.drop_law.specs.Below.event_law.Laws.{Gives, FewEvents}
+use Rattle.drop_law.specs.Below.path_law.HeapStore.{heap_store, GoesOn, IsUnmarked, HasPaths}
+use Rattle.drop_law.proofs.Below.path_law.Forms.{names as names_at}
+use Rattle.drop_law.proofs.Below.path_law.MayWrites.{awake_thread, slot_there, variable_unmarked}
+use Rattle.drop_law.proofs.Below.path_law.Sole.{some_is}
+use Rattle.drop_law.proofs.Below.turn_law.Instructions.{Pops, PopsTo}
+use Rattle.drop_law.proofs.Below.turn_law.Events.{AtStep}
+use Rattle.drop_law.proofs.Below.lock_law.NewLines.{popped_owned}
+use Rattle.drop_law.proofs.Below.result_law.Known.{Steps, standing, paths, goes, types, entry, typed}
+use Rattle.drop_law.proofs.Below.result_law.Found.{Stood, slot_stands, cell_stands}
+use Rattle.drop_law.proofs.Below.result_law.Readers.{to_entry}
+use Rattle.through_law.proofs.Below.write_law.Memory.{Leads}
+use Rattle.through_law.proofs.Below.write_law.Route.{Route, At, a_slot, a_cell}
+use Rattle.through_law.proofs.Below.write_law.Writes.{Light, owned_value, light_form, owned_part, kept_owned, end_is}
+use Rattle.through_law.specs.Below.rewrite_law.Writing.{assigns}
+use Rattle.through_law.proofs.Below.rewrite_law.Ways.{writes, short}
 use Rattle.assign_law.proofs.AssignCells as cells
 use Rattle.assign_law.proofs.AssignCells.{cell_assigned}
 use Rattle.assign_law.proofs.AssignSlots.{slot_assigned}

@@ -1,72 +1,72 @@
 -- An assignment through stars to a variable to which a mutable reference leads, at the server and on the plain machine.
 use Rattle.std.proofs.Common.{◌≡◌, ℕ, suc, ◌+◌, true, false, if◌then◌else◌, List, [], ◌∷◌, ◌++◌, map, reverse, length, nat_lt, Bool, Option, Some, None, option_map, refl, sym, ap, ap₂, subst, ◌∙◌, arith}
 use Rattle.std.specs.Prelude.{slice_get, slice_set}
-use Rattle.fr_base.specs.declared.label.Label.{Label}
-use Rattle.fr_base.specs.declared.place.Lval.{Lval}
-use Rattle.fr_base.specs.declared.step.Fresh.TheVariants as fresh
-use Rattle.fr_base.specs.declared.instruction.Operand.{Operand}
-use Rattle.fr_base.specs.declared.instruction.Instr.{Instr}
-use Rattle.fr_base.specs.declared.instruction.Instr.TheVariants as instr
-use Rattle.fr_plain.specs.declared.value.Value.{Value as PlainValue}
-use Rattle.fr_plain.specs.declared.value.Value.TheVariants as plain_v
-use Rattle.fr_plain.specs.State as state
-use Rattle.fr_plain.specs.State.{then_reached, drops, without}
-use Rattle.fr_plain.specs.MachineActs.{act as act_of, do_assign, assign_did, drops_last, end_of, end_of_some, where_reached, unit}
-use Rattle.fr_plain.specs.Machine.{step_of}
-use Rattle.fr_plain.specs.PlainState.{SameState, plain_state}
-use Rattle.fr_plain.specs.MachineThreads.{dropped}
-use Rattle.fr_code.specs.Machine.{CodeWhole, CodeRunning}
-use Rattle.fr_code.specs.Steps.{Place, CodeAct, code_moves, over_at, run_instr, quiet}
-use Rattle.heap_partition.specs.Plain.{plain_of}
-use Rattle.heap_partition.specs.declared.value.Owned.{Owned}
-use Rattle.heap_partition.specs.declared.value.Owned.TheVariants as owned
-use Rattle.read_cache.specs.Cache.{Copy}
-use Rattle.migration.specs.Packing.{unpin_all}
-use Rattle.thread_state.specs.View.{ThreadState}
-use Rattle.thread_state.specs.declared.value.Value.{Value}
-use Rattle.thread_state.specs.declared.value.Value.TheVariants as value
-use Rattle.server_model.specs.declared.event.Event.{Event}
-use Rattle.server_model.specs.Servers.{Server, Cluster, Rest}
-use Rattle.server_model.specs.Work.{Hand, label_all, with_slots, with_temps, with_cache, working, then_some}
-use Rattle.server_model.specs.Places.{Spot, in_slot, nowhere}
-use Rattle.server_model.specs.Drop.{give_up, drop_labels, drop_value}
-use Rattle.server_model.specs.Commit.{goes_on, go_on, label_dropped, store_at, replace_at}
-use Rattle.server_model.specs.Events.{Stepped, committed}
-use Rattle.heap_law.specs.Names.{one}
-use Rattle.heap_law.specs.Things.{Thing, at_slot}
-use Rattle.heap_law.specs.Follow.{locate}
-use Rattle.heap_law.specs.Sight.{Sight, sight}
-use Rattle.heap_law.specs.OneHeap.{Node, owns, plain_value, running_at, one_heap, state_of}
-use Rattle.type_law.specs.ClusterTypes.{IsCoherent}
-use Rattle.event_law.specs.Laws.{Gives, FewEvents}
-use Rattle.event_law.proofs.Bags.{counts_of}
-use Rattle.path_law.proofs.Shown.{shown_value}
-use Rattle.still_law.proofs.Readied.{readied_slots, copies_ready}
-use Rattle.still_law.proofs.Sites.{Moves}
-use Rattle.turn_law.specs.Turns.{StepsTo}
-use Rattle.turn_law.proofs.Parts.{value_owns, owned_in}
-use Rattle.turn_law.proofs.OneTurn.{Calm, after}
-use Rattle.turn_law.proofs.PlainTurn.{state_at}
-use Rattle.turn_law.proofs.Instructions.{shown_last, Pops}
-use Rattle.turn_law.proofs.PlainReads.{stars_shown, plain_spot}
-use Rattle.turn_law.proofs.ReadWalk.{passed_loads}
-use Rattle.turn_law.proofs.SlotReads.{set_shown}
-use Rattle.turn_law.proofs.DropLines.{set_owned}
-use Rattle.turn_law.proofs.StarLines.{x as standing, goes}
-use Rattle.turn_law.proofs.StarSteps.{alike_owned}
-use Rattle.turn_law.proofs.Events.{AtStep, then_same}
-use Rattle.lock_law.proofs.Changed as changed
-use Rattle.lock_law.proofs.DupLines.{running_to}
-use Rattle.lock_law.proofs.OneThread.{GoesOn}
-use Rattle.lock_law.proofs.PlainMutex.{found}
-use Rattle.lock_law.proofs.ThreadTurns.{is_step}
+use Rattle.drop_law.specs.Below.fr_base.declared.label.Label.{Label}
+use Rattle.drop_law.specs.Below.fr_base.declared.place.Lval.{Lval}
+use Rattle.drop_law.specs.Below.fr_base.declared.step.Fresh.TheVariants as fresh
+use Rattle.drop_law.specs.Below.fr_base.declared.instruction.Operand.{Operand}
+use Rattle.drop_law.specs.Below.fr_base.declared.instruction.Instr.{Instr}
+use Rattle.drop_law.specs.Below.fr_base.declared.instruction.Instr.TheVariants as instr
+use Rattle.drop_law.specs.Below.fr_plain.declared.value.Value.{Value as PlainValue}
+use Rattle.drop_law.specs.Below.fr_plain.declared.value.Value.TheVariants as plain_v
+use Rattle.drop_law.specs.Below.fr_plain.State as state
+use Rattle.drop_law.specs.Below.fr_plain.State.{then_reached, drops, without}
+use Rattle.drop_law.specs.Below.fr_plain.MachineActs.{act as act_of, do_assign, assign_did, drops_last, end_of, end_of_some, where_reached, unit}
+use Rattle.drop_law.specs.Below.fr_plain.Machine.{step_of}
+use Rattle.drop_law.specs.Below.fr_plain.PlainState.{SameState, plain_state}
+use Rattle.drop_law.specs.Below.fr_plain.MachineThreads.{dropped}
+use Rattle.drop_law.specs.Below.fr_code.Machine.{CodeWhole, CodeRunning}
+use Rattle.drop_law.specs.Below.fr_code.Steps.{Place, CodeAct, code_moves, over_at, run_instr, quiet}
+use Rattle.drop_law.specs.Below.heap_partition.Plain.{plain_of}
+use Rattle.drop_law.specs.Below.heap_partition.declared.value.Owned.{Owned}
+use Rattle.drop_law.specs.Below.heap_partition.declared.value.Owned.TheVariants as owned
+use Rattle.drop_law.specs.Below.read_cache.Cache.{Copy}
+use Rattle.drop_law.specs.Below.migration.Packing.{unpin_all}
+use Rattle.drop_law.specs.Below.thread_state.View.{ThreadState}
+use Rattle.drop_law.specs.Below.thread_state.declared.value.Value.{Value}
+use Rattle.drop_law.specs.Below.thread_state.declared.value.Value.TheVariants as value
+use Rattle.drop_law.specs.Below.server_model.declared.event.Event.{Event}
+use Rattle.drop_law.specs.Below.server_model.Servers.{Server, Cluster, Rest}
+use Rattle.drop_law.specs.Below.server_model.Work.{Hand, label_all, with_slots, with_temps, with_cache, working, then_some}
+use Rattle.drop_law.specs.Below.server_model.Places.{Spot, in_slot, nowhere}
+use Rattle.drop_law.specs.Below.server_model.Drop.{give_up, drop_labels, drop_value}
+use Rattle.drop_law.specs.Below.server_model.Commit.{goes_on, go_on, label_dropped, store_at, replace_at}
+use Rattle.drop_law.specs.Below.server_model.Events.{Stepped, committed}
+use Rattle.drop_law.specs.Below.heap_law.Names.{one}
+use Rattle.drop_law.specs.Below.heap_law.Things.{Thing, at_slot}
+use Rattle.drop_law.specs.Below.heap_law.Follow.{locate}
+use Rattle.drop_law.specs.Below.heap_law.Sight.{Sight, sight}
+use Rattle.drop_law.specs.Below.heap_law.OneHeap.{Node, owns, plain_value, running_at, one_heap, state_of}
+use Rattle.drop_law.specs.Below.type_law.ClusterTypes.{IsCoherent}
+use Rattle.drop_law.specs.Below.event_law.Laws.{Gives, FewEvents}
+use Rattle.drop_law.proofs.Below.event_law.Bags.{counts_of}
+use Rattle.drop_law.proofs.Below.path_law.Shown.{shown_value}
+use Rattle.through_law.proofs.Below.still_law.Readied.{readied_slots, copies_ready}
+use Rattle.through_law.proofs.Below.still_law.Sites.{Moves}
+use Rattle.drop_law.specs.Below.turn_law.Turns.{StepsTo}
+use Rattle.drop_law.proofs.Below.turn_law.Parts.{value_owns, owned_in}
+use Rattle.drop_law.proofs.Below.turn_law.OneTurn.{Calm, after}
+use Rattle.drop_law.proofs.Below.turn_law.PlainTurn.{state_at}
+use Rattle.drop_law.proofs.Below.turn_law.Instructions.{shown_last, Pops}
+use Rattle.drop_law.proofs.Below.turn_law.PlainReads.{stars_shown, plain_spot}
+use Rattle.drop_law.proofs.Below.turn_law.ReadWalk.{passed_loads}
+use Rattle.drop_law.proofs.Below.turn_law.SlotReads.{set_shown}
+use Rattle.drop_law.proofs.Below.turn_law.DropLines.{set_owned}
+use Rattle.drop_law.proofs.Below.turn_law.StarLines.{x as standing, goes}
+use Rattle.drop_law.proofs.Below.turn_law.StarSteps.{alike_owned}
+use Rattle.drop_law.proofs.Below.turn_law.Events.{AtStep, then_same}
+use Rattle.drop_law.proofs.Below.lock_law.Changed as changed
+use Rattle.drop_law.proofs.Below.lock_law.DupLines.{running_to}
+use Rattle.drop_law.proofs.Below.lock_law.OneThread.{GoesOn}
+use Rattle.drop_law.proofs.Below.lock_law.PlainMutex.{found}
+use Rattle.drop_law.proofs.Below.lock_law.ThreadTurns.{is_step}
 use Rattle.drop_law.proofs.Carrying.{Carries}
 use Rattle.drop_law.proofs.Dropped.{drop_shows}
 use Rattle.drop_law.proofs.DropLines.{labels_shown}
 use Rattle.drop_law.proofs.PlainDrop.{goes_first, first_shows}
 use Rattle.drop_law.proofs.ThreadLoses as loses
-use Rattle.rewrite_law.specs.Writing.{assigns}
-use Rattle.write_law.proofs.Writes.{Light, owned_value, nothing_left}
+use Rattle.through_law.specs.Below.rewrite_law.Writing.{assigns}
+use Rattle.through_law.proofs.Below.write_law.Writes.{Light, owned_value, nothing_left}
 use Rattle.assign_law.proofs.AssignCells as cells
 use Rattle.assign_law.proofs.GivenUp.{gives_up, given_labels, then_moves, set_alike}
 use Rattle.assign_law.proofs.PlainCells.{drops_from}

@@ -2,51 +2,51 @@
 -- afterwards with what comes in their place.
 use Rattle.std.proofs.Common.{◌≡◌, ℕ, ◌+◌, ◌≤◌, ◌==◌, ◌&&◌, ◌||◌, not, true, false, List, [], ◌∷◌, ◌++◌, length, take, drop, Some, None, option_map, refl, sym, ap, ap₂, ◌∙◌, subst, arith}
 use Rattle.std.specs.List.{AllByRecursion}
-use Rattle.fr_base.specs.declared.step.Fresh.{Fresh}
-use Rattle.fr_base.specs.declared.instruction.Instr.{Instr}
-use Rattle.fr_plain.specs.PlainState.{SameState, plain_state}
-use Rattle.fr_code.specs.Machine.{CodeWhole}
-use Rattle.global_addr.specs.Words.{address_of}
-use Rattle.heap_partition.specs.declared.value.Cell.{Cell}
-use Rattle.heap_partition.specs.declared.value.Owned.{Owned}
-use Rattle.heap_partition.specs.declared.value.Owned.TheVariants as owned
-use Rattle.owner_box.specs.Partition.{stored}
-use Rattle.owner_box.specs.View.{PartitionState}
-use Rattle.thread_state.specs.View.{ThreadState}
-use Rattle.server_model.specs.declared.event.Event.{Event}
-use Rattle.server_model.specs.Servers.{Server, Cluster}
-use Rattle.server_model.specs.Work.{look, set_thread, without_thread, put_back}
-use Rattle.server_model.specs.Events.{Stepped, stepped}
-use Rattle.heap_law.specs.Names.{tot, some}
-use Rattle.heap_law.specs.Things.{Spot, Thing, stands, lies, gift_things, servers_things, things_of}
-use Rattle.heap_law.specs.Follow.{threads_in, thread_at, locate}
-use Rattle.heap_law.specs.Sight.{Sight, sight, with_things}
-use Rattle.heap_law.specs.Requests.{home_of, is_par_end}
-use Rattle.heap_law.specs.Naming.{count_of, started_at}
-use Rattle.heap_law.specs.Weights.{is_thread}
-use Rattle.heap_law.specs.OneHeap.{is_given_thread, one_heap, state_of, spot_owner}
-use Rattle.heap_law.specs.Coherent.{IsSound}
-use Rattle.event_law.proofs.Trades.{Trade, Same, tot-append}
-use Rattle.event_law.proofs.Bags.{counts_of, body_things, all_standing, rest_things, had_by, tot-without, tot-set, server_same, of_partition}
-use Rattle.event_law.proofs.Events.{others_of, tot-server}
-use Rattle.event_law.proofs.Applied.{go_with}
-use Rattle.event_law.proofs.Handing.{hand_over_newer_law}
-use Rattle.event_law.proofs.Values.{stores}
-use Rattle.still_law.specs.Shows.{sign_of, ShowAlike}
-use Rattle.still_law.proofs.Alike.{Once, same_state, same_once, same_spots, same_threads, same_places}
-use Rattle.still_law.proofs.Counting.{nought, stray, no_stray, no_stray_in}
-use Rattle.still_law.proofs.Gifts.{placed, telling, places_told}
-use Rattle.still_law.proofs.Once.{shown_once}
-use Rattle.still_law.proofs.PlainValues.{shown_of}
-use Rattle.still_law.proofs.Sites.{Moves, ends}
-use Rattle.turn_law.specs.Turns.{StepsTo, IsPlainStep}
-use Rattle.turn_law.proofs.Parts.{Own}
-use Rattle.turn_law.proofs.OneTurn.{of_thread}
-use Rattle.turn_law.proofs.Events.{AtStep, Sends, then_same}
-use Rattle.lock_law.proofs.Beside.{giftless, IsBeside, all_of, tot_of, thread_parted}
-use Rattle.lock_law.proofs.OneThread.{next, stray_stays}
-use Rattle.lock_law.proofs.Changed as changed
-use Rattle.lock_law.proofs.ThreadTurns.{Next}
+use Rattle.drop_law.specs.Below.fr_base.declared.step.Fresh.{Fresh}
+use Rattle.drop_law.specs.Below.fr_base.declared.instruction.Instr.{Instr}
+use Rattle.drop_law.specs.Below.fr_plain.PlainState.{SameState, plain_state}
+use Rattle.drop_law.specs.Below.fr_code.Machine.{CodeWhole}
+use Rattle.drop_law.specs.Below.global_addr.Words.{address_of}
+use Rattle.drop_law.specs.Below.heap_partition.declared.value.Cell.{Cell}
+use Rattle.drop_law.specs.Below.heap_partition.declared.value.Owned.{Owned}
+use Rattle.drop_law.specs.Below.heap_partition.declared.value.Owned.TheVariants as owned
+use Rattle.drop_law.specs.Below.owner_box.Partition.{stored}
+use Rattle.drop_law.specs.Below.owner_box.View.{PartitionState}
+use Rattle.drop_law.specs.Below.thread_state.View.{ThreadState}
+use Rattle.drop_law.specs.Below.server_model.declared.event.Event.{Event}
+use Rattle.drop_law.specs.Below.server_model.Servers.{Server, Cluster}
+use Rattle.drop_law.specs.Below.server_model.Work.{look, set_thread, without_thread, put_back}
+use Rattle.drop_law.specs.Below.server_model.Events.{Stepped, stepped}
+use Rattle.drop_law.specs.Below.heap_law.Names.{tot, some}
+use Rattle.drop_law.specs.Below.heap_law.Things.{Spot, Thing, stands, lies, gift_things, servers_things, things_of}
+use Rattle.drop_law.specs.Below.heap_law.Follow.{threads_in, thread_at, locate}
+use Rattle.drop_law.specs.Below.heap_law.Sight.{Sight, sight, with_things}
+use Rattle.drop_law.specs.Below.heap_law.Requests.{home_of, is_par_end}
+use Rattle.drop_law.specs.Below.heap_law.Naming.{count_of, started_at}
+use Rattle.drop_law.specs.Below.heap_law.Weights.{is_thread}
+use Rattle.drop_law.specs.Below.heap_law.OneHeap.{is_given_thread, one_heap, state_of, spot_owner}
+use Rattle.drop_law.specs.Below.heap_law.Coherent.{IsSound}
+use Rattle.drop_law.proofs.Below.event_law.Trades.{Trade, Same, tot-append}
+use Rattle.drop_law.proofs.Below.event_law.Bags.{counts_of, body_things, all_standing, rest_things, had_by, tot-without, tot-set, server_same, of_partition}
+use Rattle.drop_law.proofs.Below.event_law.Events.{others_of, tot-server}
+use Rattle.drop_law.proofs.Below.event_law.Applied.{go_with}
+use Rattle.drop_law.proofs.Below.event_law.Handing.{hand_over_newer_law}
+use Rattle.drop_law.proofs.Below.event_law.Values.{stores}
+use Rattle.through_law.specs.Below.still_law.Shows.{sign_of, ShowAlike}
+use Rattle.through_law.proofs.Below.still_law.Alike.{Once, same_state, same_once, same_spots, same_threads, same_places}
+use Rattle.through_law.proofs.Below.still_law.Counting.{nought, stray, no_stray, no_stray_in}
+use Rattle.through_law.proofs.Below.still_law.Gifts.{placed, telling, places_told}
+use Rattle.through_law.proofs.Below.still_law.Once.{shown_once}
+use Rattle.through_law.proofs.Below.still_law.PlainValues.{shown_of}
+use Rattle.through_law.proofs.Below.still_law.Sites.{Moves, ends}
+use Rattle.drop_law.specs.Below.turn_law.Turns.{StepsTo, IsPlainStep}
+use Rattle.drop_law.proofs.Below.turn_law.Parts.{Own}
+use Rattle.drop_law.proofs.Below.turn_law.OneTurn.{of_thread}
+use Rattle.drop_law.proofs.Below.turn_law.Events.{AtStep, Sends, then_same}
+use Rattle.drop_law.proofs.Below.lock_law.Beside.{giftless, IsBeside, all_of, tot_of, thread_parted}
+use Rattle.drop_law.proofs.Below.lock_law.OneThread.{next, stray_stays}
+use Rattle.drop_law.proofs.Below.lock_law.Changed as changed
+use Rattle.drop_law.proofs.Below.lock_law.ThreadTurns.{Next}
 
 module _ (k : Cluster) (sound : IsSound k) (e : Event) (i : Instr) (single : is_par_end (Some i) ≡ false) (s : Server) (t : ℕ) (x : ThreadState) (at : AtStep k e i s t x) (bare : x.gift ≡ None) (w : ℕ) (c : Cell) (there : look s.rest.partition w ≡ Some c) where
   abbrev pub n : ℕ

@@ -2,40 +2,40 @@
 -- the plain state but the thread and the object.
 use Rattle.std.proofs.Common.{◌≡◌, ◌≢◌, ℕ, zero, suc, ◌+◌, ◌≤◌, ◌||◌, not, Bool, true, false, if◌then◌else◌, List, [], ◌∷◌, ◌++◌, Option, Some, None, refl, sym, ap, ap₂, ◌∙◌, arith}
 use Rattle.std.specs.List.{AllByRecursion}
-use Rattle.fr_store.proofs.Keys.{object_cases}
-use Rattle.fr_base.specs.declared.name.MutexNo.{MutexNo}
-use Rattle.fr_base.specs.declared.name.ObjNo.{ObjNo}
-use Rattle.fr_base.specs.declared.label.Plain.{Plain}
-use Rattle.fr_base.specs.declared.instruction.Instr.{Instr}
-use Rattle.heap_partition.specs.Plain.{plain_of}
-use Rattle.heap_partition.specs.declared.value.Cell.{Cell}
-use Rattle.heap_partition.specs.declared.value.Owned.{Owned}
-use Rattle.thread_state.specs.View.{ThreadState}
-use Rattle.server_model.specs.declared.event.Event.{Event}
-use Rattle.server_model.specs.Servers.{Server, Cluster}
-use Rattle.server_model.specs.Work.{look}
-use Rattle.heap_law.specs.Names.{tot, one, some, if_so, same_object}
-use Rattle.heap_law.specs.Things.{in_hand, Thing, holds}
-use Rattle.heap_law.specs.Follow.{cells_in, cell_of, value_of}
-use Rattle.heap_law.specs.Sight.{Sight, with_things}
-use Rattle.heap_law.specs.Requests.{is_par_end}
-use Rattle.heap_law.specs.Naming.{started_at, made_at}
-use Rattle.heap_law.specs.OneHeap.{Node, object_n, mutex_n, inside, named_in, any_named, is_in_state, if_in, cell_value, or_else, first_shown, object_value, content_value, share_in, in_pair_of, result_value, is_given_mutex, running_at, state_of, a_thread, owns}
-use Rattle.heap_law.specs.Coherent.{IsSound}
-use Rattle.still_law.proofs.Alike.{Once, LocksSeeIn}
-use Rattle.still_law.proofs.Counting.{shown_result}
-use Rattle.still_law.proofs.Told.{told, ones}
-use Rattle.turn_law.proofs.Parts.{Own, owned_in}
-use Rattle.turn_law.proofs.OneTurn.{Calm, of_thread}
-use Rattle.turn_law.proofs.Events.{AtStep}
-use Rattle.lock_law.proofs.Reach.{SameOwners, or_cases, or_left, or_right, here, stays_in, comes_from}
-use Rattle.lock_law.proofs.Beside.{IsBeside, so_one, mine, any_mine, all_of, first_of, tot_of, cells_of}
-use Rattle.lock_law.proofs.Gifted.{or_false}
-use Rattle.lock_law.proofs.OneNode.{owned_under, some_there, there_some}
-use Rattle.lock_law.proofs.OneThread as one_thread
-use Rattle.lock_law.proofs.OneThread.{GoesOn, next}
-use Rattle.lock_law.proofs.SharedLines.{nothing_under}
-use Rattle.lock_law.proofs.ThreadTurns.{quiet}
+use Rattle.drop_law.proofs.Below.fr_store.Keys.{object_cases}
+use Rattle.drop_law.specs.Below.fr_base.declared.name.MutexNo.{MutexNo}
+use Rattle.drop_law.specs.Below.fr_base.declared.name.ObjNo.{ObjNo}
+use Rattle.drop_law.specs.Below.fr_base.declared.label.Plain.{Plain}
+use Rattle.drop_law.specs.Below.fr_base.declared.instruction.Instr.{Instr}
+use Rattle.drop_law.specs.Below.heap_partition.Plain.{plain_of}
+use Rattle.drop_law.specs.Below.heap_partition.declared.value.Cell.{Cell}
+use Rattle.drop_law.specs.Below.heap_partition.declared.value.Owned.{Owned}
+use Rattle.drop_law.specs.Below.thread_state.View.{ThreadState}
+use Rattle.drop_law.specs.Below.server_model.declared.event.Event.{Event}
+use Rattle.drop_law.specs.Below.server_model.Servers.{Server, Cluster}
+use Rattle.drop_law.specs.Below.server_model.Work.{look}
+use Rattle.drop_law.specs.Below.heap_law.Names.{tot, one, some, if_so, same_object}
+use Rattle.drop_law.specs.Below.heap_law.Things.{in_hand, Thing, holds}
+use Rattle.drop_law.specs.Below.heap_law.Follow.{cells_in, cell_of, value_of}
+use Rattle.drop_law.specs.Below.heap_law.Sight.{Sight, with_things}
+use Rattle.drop_law.specs.Below.heap_law.Requests.{is_par_end}
+use Rattle.drop_law.specs.Below.heap_law.Naming.{started_at, made_at}
+use Rattle.drop_law.specs.Below.heap_law.OneHeap.{Node, object_n, mutex_n, inside, named_in, any_named, is_in_state, if_in, cell_value, or_else, first_shown, object_value, content_value, share_in, in_pair_of, result_value, is_given_mutex, running_at, state_of, a_thread, owns}
+use Rattle.drop_law.specs.Below.heap_law.Coherent.{IsSound}
+use Rattle.through_law.proofs.Below.still_law.Alike.{Once, LocksSeeIn}
+use Rattle.through_law.proofs.Below.still_law.Counting.{shown_result}
+use Rattle.through_law.proofs.Below.still_law.Told.{told, ones}
+use Rattle.drop_law.proofs.Below.turn_law.Parts.{Own, owned_in}
+use Rattle.drop_law.proofs.Below.turn_law.OneTurn.{Calm, of_thread}
+use Rattle.drop_law.proofs.Below.turn_law.Events.{AtStep}
+use Rattle.drop_law.proofs.Below.lock_law.Reach.{SameOwners, or_cases, or_left, or_right, here, stays_in, comes_from}
+use Rattle.drop_law.proofs.Below.lock_law.Beside.{IsBeside, so_one, mine, any_mine, all_of, first_of, tot_of, cells_of}
+use Rattle.drop_law.proofs.Below.lock_law.Gifted.{or_false}
+use Rattle.drop_law.proofs.Below.lock_law.OneNode.{owned_under, some_there, there_some}
+use Rattle.drop_law.proofs.Below.lock_law.OneThread as one_thread
+use Rattle.drop_law.proofs.Below.lock_law.OneThread.{GoesOn, next}
+use Rattle.drop_law.proofs.Below.lock_law.SharedLines.{nothing_under}
+use Rattle.drop_law.proofs.Below.lock_law.ThreadTurns.{quiet}
 use Rattle.drop_law.proofs.InHand.{hand}
 use Rattle.assign_law.proofs.CellApart as apart
 

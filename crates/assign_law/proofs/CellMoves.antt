@@ -1,16 +1,16 @@
 -- A server's rest before a step that writes in a cell, and afterwards: it shows the same but for the cell.
 use Rattle.std.proofs.Common.{◌≡◌, ℕ, [], ◌∷◌, Some, subst, ◌∙◌, arith}
-use Rattle.global_addr.specs.Words.{address_of}
-use Rattle.heap_partition.specs.declared.value.Cell.{Cell}
-use Rattle.heap_partition.specs.declared.value.Owned.{Owned}
-use Rattle.owner_box.specs.Partition.{stored}
-use Rattle.server_model.specs.Servers.{Rest}
-use Rattle.server_model.specs.Work.{look}
-use Rattle.heap_law.specs.Things.{Thing, lies}
-use Rattle.event_law.proofs.Bags.{counts_of, rest_things, of_partition}
-use Rattle.event_law.proofs.Values.{stores}
-use Rattle.still_law.specs.Shows.{sign_of}
-use Rattle.still_law.proofs.Sites.{shown, Moves}
+use Rattle.drop_law.specs.Below.global_addr.Words.{address_of}
+use Rattle.drop_law.specs.Below.heap_partition.declared.value.Cell.{Cell}
+use Rattle.drop_law.specs.Below.heap_partition.declared.value.Owned.{Owned}
+use Rattle.drop_law.specs.Below.owner_box.Partition.{stored}
+use Rattle.drop_law.specs.Below.server_model.Servers.{Rest}
+use Rattle.drop_law.specs.Below.server_model.Work.{look}
+use Rattle.drop_law.specs.Below.heap_law.Things.{Thing, lies}
+use Rattle.drop_law.proofs.Below.event_law.Bags.{counts_of, rest_things, of_partition}
+use Rattle.drop_law.proofs.Below.event_law.Values.{stores}
+use Rattle.through_law.specs.Below.still_law.Shows.{sign_of}
+use Rattle.through_law.proofs.Below.still_law.Sites.{shown, Moves}
 
 -- where the cell lay at one address, and lies at another one when it gets the value
 pub cell_moves : (r r1 r2 : Rest) (u v : ℕ) (c : Cell) (new : Owned) → Moves [] [] r r1 → look r1.partition v ≡ Some c → Moves [] [] (record r1 { partition = stored r1.partition v new }) r2

@@ -1,38 +1,38 @@
 -- A thread assigns to a cell, and what was there is in hand: the object stays in the state, and what is known of the others for the drop.
 use Rattle.std.proofs.Common.{◌≡◌, ◌⊎◌, inl, inr, ℕ, suc, ◌+◌, ◌<◌, ◌≤◌, ◌==◌, ◌&&◌, ◌||◌, not, Bool, true, false, List, [], ◌∷◌, ◌++◌, Option, Some, None, refl, sym, ap, ap₂, ◌∙◌, subst, arith}
-use Rattle.fr_base.specs.declared.name.ObjNo.{ObjNo}
-use Rattle.fr_base.specs.declared.instruction.Instr.{Instr}
-use Rattle.heap_partition.specs.declared.value.Cell.{Cell}
-use Rattle.heap_partition.specs.declared.value.Owned.{Owned}
-use Rattle.heap_partition.specs.declared.value.Owned.TheVariants as owned
-use Rattle.thread_state.specs.View.{ThreadState}
-use Rattle.thread_state.specs.declared.value.Value.TheVariants as value
-use Rattle.server_model.specs.declared.event.Event.{Event}
-use Rattle.server_model.specs.Servers.{Server, Cluster}
-use Rattle.server_model.specs.Work.{look}
-use Rattle.heap_law.specs.Names.{tot, one, some, if_so, same_object}
-use Rattle.heap_law.specs.Things.{Thing, holds, stands, things_of}
-use Rattle.heap_law.specs.Follow.{cell_of}
-use Rattle.heap_law.specs.Sight.{Sight, sight}
-use Rattle.heap_law.specs.Requests.{home_of, is_par_end}
-use Rattle.heap_law.specs.Naming.{count_of, started_at}
-use Rattle.heap_law.specs.OneHeap.{Node, object_n, mutex_n, task_n, inside, owner_of, owns, names, named_in, any_named, is_in_state, is_given_thread, Owner, a_thread, outside, same_node}
-use Rattle.heap_law.specs.Coherent.{IsSound}
-use Rattle.event_law.proofs.Bags.{had_by}
-use Rattle.event_law.proofs.Trades.{tot-append}
-use Rattle.path_law.specs.HeapStore.{HasPaths, GoesOn}
-use Rattle.still_law.specs.Shows.{held_branch}
-use Rattle.still_law.proofs.Alike.{Once, LocksSeeIn}
-use Rattle.still_law.proofs.Counting.{stray}
-use Rattle.turn_law.proofs.Parts.{Own, owned_in, own_named}
-use Rattle.turn_law.proofs.OneTurn.{Calm}
-use Rattle.turn_law.proofs.Events.{AtStep}
-use Rattle.lock_law.proofs.Reach.{SameOwners, or_right, closes, here}
-use Rattle.lock_law.proofs.Beside.{giftless, mine, tot_of}
-use Rattle.lock_law.proofs.OneThread as one_thread
-use Rattle.lock_law.proofs.OneNode.{there_some, owned_under}
-use Rattle.lock_law.proofs.Places.{slot_owned}
-use Rattle.turn_law.proofs.Parts.{any_both}
+use Rattle.drop_law.specs.Below.fr_base.declared.name.ObjNo.{ObjNo}
+use Rattle.drop_law.specs.Below.fr_base.declared.instruction.Instr.{Instr}
+use Rattle.drop_law.specs.Below.heap_partition.declared.value.Cell.{Cell}
+use Rattle.drop_law.specs.Below.heap_partition.declared.value.Owned.{Owned}
+use Rattle.drop_law.specs.Below.heap_partition.declared.value.Owned.TheVariants as owned
+use Rattle.drop_law.specs.Below.thread_state.View.{ThreadState}
+use Rattle.drop_law.specs.Below.thread_state.declared.value.Value.TheVariants as value
+use Rattle.drop_law.specs.Below.server_model.declared.event.Event.{Event}
+use Rattle.drop_law.specs.Below.server_model.Servers.{Server, Cluster}
+use Rattle.drop_law.specs.Below.server_model.Work.{look}
+use Rattle.drop_law.specs.Below.heap_law.Names.{tot, one, some, if_so, same_object}
+use Rattle.drop_law.specs.Below.heap_law.Things.{Thing, holds, stands, things_of}
+use Rattle.drop_law.specs.Below.heap_law.Follow.{cell_of}
+use Rattle.drop_law.specs.Below.heap_law.Sight.{Sight, sight}
+use Rattle.drop_law.specs.Below.heap_law.Requests.{home_of, is_par_end}
+use Rattle.drop_law.specs.Below.heap_law.Naming.{count_of, started_at}
+use Rattle.drop_law.specs.Below.heap_law.OneHeap.{Node, object_n, mutex_n, task_n, inside, owner_of, owns, names, named_in, any_named, is_in_state, is_given_thread, Owner, a_thread, outside, same_node}
+use Rattle.drop_law.specs.Below.heap_law.Coherent.{IsSound}
+use Rattle.drop_law.proofs.Below.event_law.Bags.{had_by}
+use Rattle.drop_law.proofs.Below.event_law.Trades.{tot-append}
+use Rattle.drop_law.specs.Below.path_law.HeapStore.{HasPaths, GoesOn}
+use Rattle.through_law.specs.Below.still_law.Shows.{held_branch}
+use Rattle.through_law.proofs.Below.still_law.Alike.{Once, LocksSeeIn}
+use Rattle.through_law.proofs.Below.still_law.Counting.{stray}
+use Rattle.drop_law.proofs.Below.turn_law.Parts.{Own, owned_in, own_named}
+use Rattle.drop_law.proofs.Below.turn_law.OneTurn.{Calm}
+use Rattle.drop_law.proofs.Below.turn_law.Events.{AtStep}
+use Rattle.drop_law.proofs.Below.lock_law.Reach.{SameOwners, or_right, closes, here}
+use Rattle.drop_law.proofs.Below.lock_law.Beside.{giftless, mine, tot_of}
+use Rattle.drop_law.proofs.Below.lock_law.OneThread as one_thread
+use Rattle.drop_law.proofs.Below.lock_law.OneNode.{there_some, owned_under}
+use Rattle.drop_law.proofs.Below.lock_law.Places.{slot_owned}
+use Rattle.drop_law.proofs.Below.turn_law.Parts.{any_both}
 use Rattle.drop_law.proofs.InHand as held
 use Rattle.drop_law.proofs.InHand.{named_there}
 use Rattle.drop_law.proofs.Under.{owned_by, under_names, once_under, none_so, node_cases, node_is}

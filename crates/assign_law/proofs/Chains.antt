@@ -1,32 +1,32 @@
 -- The boxes that lead from a slot of a thread down to an object that its place leads to: each of these objects is owned by the slot or by the one before it.
 use Rattle.std.proofs.Common.{◌≡◌, inl, inr, ℕ, zero, suc, ◌≤◌, ◌||◌, Bool, true, false, List, [], ◌∷◌, Option, Some, None, refl, sym, ap, subst, ◌∙◌, arith}
 use Rattle.std.specs.Prelude.{slice_get}
-use Rattle.fr_base.specs.declared.name.MutexNo.{MutexNo}
-use Rattle.fr_base.specs.declared.name.ObjNo.{ObjNo}
-use Rattle.fr_store.proofs.Keys.{object_cases}
-use Rattle.fr_store.specs.Keys.{Key, slot_k}
-use Rattle.fr_store.specs.Store.{Location as StoreLocation, at_key, at_object, Val, gone_v, unit_v, int_v, box_v, mutex_v, task_v, ref_v, Store, value_at, box_target, box_hop, then_location, below_key}
-use Rattle.fr_sound.specs.Seen.{Gives as Given, owned_val}
-use Rattle.heap_partition.specs.Plain.{plain_of}
-use Rattle.heap_partition.specs.declared.value.BoxPtr.{BoxPtr}
-use Rattle.heap_partition.specs.declared.value.Cell.{Cell}
-use Rattle.heap_partition.specs.declared.value.Owned.{Owned}
-use Rattle.heap_partition.specs.declared.value.Owned.TheVariants as owned
-use Rattle.thread_state.specs.declared.value.Value.{Value}
-use Rattle.thread_state.specs.declared.value.Value.TheVariants as value
-use Rattle.server_model.specs.Servers.{Cluster}
-use Rattle.heap_law.specs.Names.{tot, one, if_so, same_object, Among}
-use Rattle.heap_law.specs.Things.{Thing, things_of}
-use Rattle.heap_law.specs.Follow.{Standing, cell_of}
-use Rattle.heap_law.specs.Sight.{sight}
-use Rattle.heap_law.specs.OneHeap.{Node, object_n, inside, owns}
-use Rattle.path_law.specs.HeapStore.{heap_store, GoesOn, HasPaths}
-use Rattle.path_law.proofs.Alike.{slot_none, slot_gone, slot_own, slot_shared_slot, slot_mut_slot, slot_shared, slot_mut, cell_there}
-use Rattle.path_law.proofs.Shown.{shown_value, is_running}
-use Rattle.word_law.proofs.Standing.{CellOf, lying, flying, cell_among}
-use Rattle.turn_law.proofs.Parts.{owned_in}
-use Rattle.lock_law.proofs.Places.{slot_owned}
-use Rattle.lock_law.proofs.Reach.{or_left, or_right}
+use Rattle.drop_law.specs.Below.fr_base.declared.name.MutexNo.{MutexNo}
+use Rattle.drop_law.specs.Below.fr_base.declared.name.ObjNo.{ObjNo}
+use Rattle.drop_law.proofs.Below.fr_store.Keys.{object_cases}
+use Rattle.drop_law.specs.Below.fr_store.Keys.{Key, slot_k}
+use Rattle.drop_law.specs.Below.fr_store.Store.{Location as StoreLocation, at_key, at_object, Val, gone_v, unit_v, int_v, box_v, mutex_v, task_v, ref_v, Store, value_at, box_target, box_hop, then_location, below_key}
+use Rattle.drop_law.specs.Below.fr_sound.Seen.{Gives as Given, owned_val}
+use Rattle.drop_law.specs.Below.heap_partition.Plain.{plain_of}
+use Rattle.drop_law.specs.Below.heap_partition.declared.value.BoxPtr.{BoxPtr}
+use Rattle.drop_law.specs.Below.heap_partition.declared.value.Cell.{Cell}
+use Rattle.drop_law.specs.Below.heap_partition.declared.value.Owned.{Owned}
+use Rattle.drop_law.specs.Below.heap_partition.declared.value.Owned.TheVariants as owned
+use Rattle.drop_law.specs.Below.thread_state.declared.value.Value.{Value}
+use Rattle.drop_law.specs.Below.thread_state.declared.value.Value.TheVariants as value
+use Rattle.drop_law.specs.Below.server_model.Servers.{Cluster}
+use Rattle.drop_law.specs.Below.heap_law.Names.{tot, one, if_so, same_object, Among}
+use Rattle.drop_law.specs.Below.heap_law.Things.{Thing, things_of}
+use Rattle.drop_law.specs.Below.heap_law.Follow.{Standing, cell_of}
+use Rattle.drop_law.specs.Below.heap_law.Sight.{sight}
+use Rattle.drop_law.specs.Below.heap_law.OneHeap.{Node, object_n, inside, owns}
+use Rattle.drop_law.specs.Below.path_law.HeapStore.{heap_store, GoesOn, HasPaths}
+use Rattle.drop_law.proofs.Below.path_law.Alike.{slot_none, slot_gone, slot_own, slot_shared_slot, slot_mut_slot, slot_shared, slot_mut, cell_there}
+use Rattle.drop_law.proofs.Below.path_law.Shown.{shown_value, is_running}
+use Rattle.through_law.proofs.Below.word_law.Standing.{CellOf, lying, flying, cell_among}
+use Rattle.drop_law.proofs.Below.turn_law.Parts.{owned_in}
+use Rattle.drop_law.proofs.Below.lock_law.Places.{slot_owned}
+use Rattle.drop_law.proofs.Below.lock_law.Reach.{or_left, or_right}
 use Rattle.drop_law.proofs.Under.{owned_by, under_names, node_itself}
 use Rattle.assign_law.proofs.CellChange.{itself}
 

@@ -1,23 +1,23 @@
 -- The clauses: each move and each assignment, whatever its place, is a plain step.
 use Rattle.std.proofs.Common.{◌≡◌, ℕ, zero, suc, ◌==◌, true, false, Some, refl, ap}
-use Rattle.fr_base.specs.declared.place.Lval.{Lval}
-use Rattle.fr_base.specs.declared.step.Fresh.{Fresh}
-use Rattle.fr_base.specs.declared.instruction.Operand.{Operand}
-use Rattle.fr_base.specs.declared.instruction.Instr.{Instr}
-use Rattle.fr_base.specs.declared.instruction.Instr.TheVariants as instr
-use Rattle.thread_state.specs.View.{ThreadState}
-use Rattle.server_model.specs.declared.event.Event.{Event}
-use Rattle.server_model.specs.Servers.{Server, Cluster}
-use Rattle.server_model.specs.Events.{Stepped, stepped, begin_work, step}
-use Rattle.server_model.specs.Clusters.{apply}
-use Rattle.heap_law.specs.Requests.{is_par_end}
-use Rattle.type_law.specs.ClusterTypes.{IsCoherent}
-use Rattle.event_law.specs.Laws.{Gives, FewEvents}
-use Rattle.event_law.proofs.Results.{weaker}
-use Rattle.turn_law.specs.Turns.{IsPlainStep, ArePlainSteps, instr_of}
-use Rattle.turn_law.proofs.Clauses as turns
-use Rattle.turn_law.proofs.Events.{AtStep, Sends, events_are_plain}
-use Rattle.lock_law.proofs.ThreadTurns.{Next}
+use Rattle.drop_law.specs.Below.fr_base.declared.place.Lval.{Lval}
+use Rattle.drop_law.specs.Below.fr_base.declared.step.Fresh.{Fresh}
+use Rattle.drop_law.specs.Below.fr_base.declared.instruction.Operand.{Operand}
+use Rattle.drop_law.specs.Below.fr_base.declared.instruction.Instr.{Instr}
+use Rattle.drop_law.specs.Below.fr_base.declared.instruction.Instr.TheVariants as instr
+use Rattle.drop_law.specs.Below.thread_state.View.{ThreadState}
+use Rattle.drop_law.specs.Below.server_model.declared.event.Event.{Event}
+use Rattle.drop_law.specs.Below.server_model.Servers.{Server, Cluster}
+use Rattle.drop_law.specs.Below.server_model.Events.{Stepped, stepped, begin_work, step}
+use Rattle.drop_law.specs.Below.server_model.Clusters.{apply}
+use Rattle.drop_law.specs.Below.heap_law.Requests.{is_par_end}
+use Rattle.drop_law.specs.Below.type_law.ClusterTypes.{IsCoherent}
+use Rattle.drop_law.specs.Below.event_law.Laws.{Gives, FewEvents}
+use Rattle.drop_law.proofs.Below.event_law.Results.{weaker}
+use Rattle.drop_law.specs.Below.turn_law.Turns.{IsPlainStep, ArePlainSteps, instr_of}
+use Rattle.drop_law.proofs.Below.turn_law.Clauses as turns
+use Rattle.drop_law.proofs.Below.turn_law.Events.{AtStep, Sends, events_are_plain}
+use Rattle.drop_law.proofs.Below.lock_law.ThreadTurns.{Next}
 use Rattle.drop_law.proofs.Clauses.{assigns as assigns_flat}
 use Rattle.assign_law.specs.Writes.{moves_place, assigns_place}
 use Rattle.assign_law.proofs.AssignLines.{assign_line}

@@ -1,31 +1,31 @@
 -- Each instruction's step that is done is the plain step, so each event is one plain step or leaves the one heap.
 use Rattle.std.proofs.Common.{◌≡◌, ℕ, true, false, length, Option, Some, None, option_map, refl, sym, ◌∙◌}
 use Rattle.std.specs.Prelude.{slice_get}
-use Rattle.fr_base.specs.declared.step.Fresh.{Fresh}
-use Rattle.fr_base.specs.declared.instruction.Instr.{Instr}
-use Rattle.fr_base.specs.declared.instruction.Instr.TheVariants as instr
-use Rattle.fr_plain.specs.PlainState.{SameState}
-use Rattle.journal.specs.View.{EntryView}
-use Rattle.thread_state.specs.View.{ThreadState}
-use Rattle.server_model.specs.declared.event.Event.{Event}
-use Rattle.server_model.specs.declared.event.What.{What}
-use Rattle.server_model.specs.declared.event.What.TheVariants.{Step, Deliver, Evict, Migrate}
-use Rattle.server_model.specs.Servers.{Server, Cluster, server_at}
-use Rattle.server_model.specs.Work.{then_some, thread_in}
-use Rattle.server_model.specs.Events.{enabled, begin_work, deliver, left_by, stepped, step, step_in, does}
-use Rattle.server_model.specs.Clusters.{hand_over_newer, done_at, apply}
-use Rattle.heap_law.specs.OneHeap.{one_heap}
-use Rattle.type_law.specs.ClusterTypes.{IsCoherent}
-use Rattle.event_law.specs.Laws.{Gives}
-use Rattle.event_law.proofs.Results.{over_gives, test_gives, map_gives, both_give}
-use Rattle.turn_law.specs.Turns.{IsPlainStep, ArePlainSteps, instr_at, instr_of}
-use Rattle.turn_law.proofs.Clauses as turns
-use Rattle.undone_law.proofs.Undone.{each_undone}
-use Rattle.lock_law.proofs.Clauses as locks
-use Rattle.task_law.proofs.JoinLines.{joins}
-use Rattle.task_law.proofs.PairLines.{pair_ends}
-use Rattle.task_law.proofs.ParLines.{pars}
-use Rattle.task_law.proofs.SpawnLines.{spawns}
+use Rattle.drop_law.specs.Below.fr_base.declared.step.Fresh.{Fresh}
+use Rattle.drop_law.specs.Below.fr_base.declared.instruction.Instr.{Instr}
+use Rattle.drop_law.specs.Below.fr_base.declared.instruction.Instr.TheVariants as instr
+use Rattle.drop_law.specs.Below.fr_plain.PlainState.{SameState}
+use Rattle.drop_law.specs.Below.journal.View.{EntryView}
+use Rattle.drop_law.specs.Below.thread_state.View.{ThreadState}
+use Rattle.drop_law.specs.Below.server_model.declared.event.Event.{Event}
+use Rattle.drop_law.specs.Below.server_model.declared.event.What.{What}
+use Rattle.drop_law.specs.Below.server_model.declared.event.What.TheVariants.{Step, Deliver, Evict, Migrate}
+use Rattle.drop_law.specs.Below.server_model.Servers.{Server, Cluster, server_at}
+use Rattle.drop_law.specs.Below.server_model.Work.{then_some, thread_in}
+use Rattle.drop_law.specs.Below.server_model.Events.{enabled, begin_work, deliver, left_by, stepped, step, step_in, does}
+use Rattle.drop_law.specs.Below.server_model.Clusters.{hand_over_newer, done_at, apply}
+use Rattle.drop_law.specs.Below.heap_law.OneHeap.{one_heap}
+use Rattle.drop_law.specs.Below.type_law.ClusterTypes.{IsCoherent}
+use Rattle.drop_law.specs.Below.event_law.Laws.{Gives}
+use Rattle.drop_law.proofs.Below.event_law.Results.{over_gives, test_gives, map_gives, both_give}
+use Rattle.drop_law.specs.Below.turn_law.Turns.{IsPlainStep, ArePlainSteps, instr_at, instr_of}
+use Rattle.drop_law.proofs.Below.turn_law.Clauses as turns
+use Rattle.drop_law.proofs.Below.undone_law.Undone.{each_undone}
+use Rattle.drop_law.proofs.Below.lock_law.Clauses as locks
+use Rattle.drop_law.proofs.Below.task_law.JoinLines.{joins}
+use Rattle.drop_law.proofs.Below.task_law.PairLines.{pair_ends}
+use Rattle.drop_law.proofs.Below.task_law.ParLines.{pars}
+use Rattle.drop_law.proofs.Below.task_law.SpawnLines.{spawns}
 use Rattle.drop_law.proofs.Clauses as drops
 use Rattle.drop_law.proofs.UnlockWhole.{unlocks_plain}
 use Rattle.drop_law.proofs.EndWhole.{ends_plain}

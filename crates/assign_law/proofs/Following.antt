@@ -3,33 +3,33 @@
 use Rattle.std.proofs.Common.{◌≡◌, ℕ, zero, suc, ◌+◌, ◌<◌, ◌==◌, nat_lt, Bool, true, false, if◌then◌else◌, List, ◌++◌, Option, Some, None, refl, sym, ap, ap₂, subst, ◌∙◌, arith, length}
 use Rattle.std.specs.Prelude.{⊤, slice_get, ◌&&◌, slice_set}
 use Rattle.std.proofs.lemmas.Bool.Decides.{nat_tests}
-use Rattle.fr_base.specs.declared.label.Label.{Label}
-use Rattle.fr_base.specs.declared.name.ObjNo.{ObjNo}
-use Rattle.global_addr.specs.Words.{colour_of, server_of}
-use Rattle.heap_partition.specs.declared.value.BoxPtr.{BoxPtr}
-use Rattle.heap_partition.specs.declared.value.Cell.{Cell}
-use Rattle.heap_partition.specs.declared.value.Owned.TheVariants as owned
-use Rattle.mut_borrow.specs.declared.mutable.MutRef.{MutRef}
-use Rattle.owner_box.specs.Partition.{freed, new_word, renewed, stored}
-use Rattle.journal.specs.declared.act.Act.TheVariants as act
-use Rattle.thread_state.specs.View.{ThreadState}
-use Rattle.thread_state.specs.declared.value.Value.{Value}
-use Rattle.thread_state.specs.declared.value.Value.TheVariants as value
-use Rattle.place_walk.specs.declared.hop.Hop.{Hop as Jump}
-use Rattle.place_walk.specs.declared.hop.Hop.TheVariants as jump
-use Rattle.place_walk.specs.Hops.{write_hop}
-use Rattle.server_model.specs.Servers.{Rest}
-use Rattle.server_model.specs.Work.{Hand, Work, working, with_partition, then_some, leads_here, note, with_slots}
-use Rattle.server_model.specs.NewWords.{NewWord, can_grow, is_last, issue_tint, issue_renewal, issue_colour}
-use Rattle.server_model.specs.Places.{Spot, in_slot, on_top, in_cell, in_copy, nowhere, cell_at, value_in, value_at, load_of, load_at, note_write, put_at, pointer_of, with_word, put_word}
-use Rattle.server_model.specs.Prepare.{Prepared, ready, requested, nothing, and_then, ready_at, ask_object, request_by, local, hopped, passing, box_ready, colour_box, write_by, pass_by, write_value, write_star, write_stars}
-use Rattle.heap_law.specs.Things.{Location, at_slot, in_cell as in_object}
-use Rattle.heap_law.specs.Follow.{Ground, cell_of, locate}
-use Rattle.event_law.specs.Laws.{Gives}
-use Rattle.path_law.proofs.Sole.{some_is}
-use Rattle.turn_law.proofs.ReadWalk.{loads_of, loads_behind, passed_loads}
-use Rattle.write_law.proofs.Memory.{Leads, looks}
-use Rattle.write_law.proofs.Route.{LeadsBy, Hop, by_slot, by_reference, by_box, by_cell, Route, Writing, At, a_slot, a_cell, Fine, hop_star}
+use Rattle.drop_law.specs.Below.fr_base.declared.label.Label.{Label}
+use Rattle.drop_law.specs.Below.fr_base.declared.name.ObjNo.{ObjNo}
+use Rattle.drop_law.specs.Below.global_addr.Words.{colour_of, server_of}
+use Rattle.drop_law.specs.Below.heap_partition.declared.value.BoxPtr.{BoxPtr}
+use Rattle.drop_law.specs.Below.heap_partition.declared.value.Cell.{Cell}
+use Rattle.drop_law.specs.Below.heap_partition.declared.value.Owned.TheVariants as owned
+use Rattle.drop_law.specs.Below.mut_borrow.declared.mutable.MutRef.{MutRef}
+use Rattle.drop_law.specs.Below.owner_box.Partition.{freed, new_word, renewed, stored}
+use Rattle.drop_law.specs.Below.journal.declared.act.Act.TheVariants as act
+use Rattle.drop_law.specs.Below.thread_state.View.{ThreadState}
+use Rattle.drop_law.specs.Below.thread_state.declared.value.Value.{Value}
+use Rattle.drop_law.specs.Below.thread_state.declared.value.Value.TheVariants as value
+use Rattle.drop_law.specs.Below.place_walk.declared.hop.Hop.{Hop as Jump}
+use Rattle.drop_law.specs.Below.place_walk.declared.hop.Hop.TheVariants as jump
+use Rattle.drop_law.specs.Below.place_walk.Hops.{write_hop}
+use Rattle.drop_law.specs.Below.server_model.Servers.{Rest}
+use Rattle.drop_law.specs.Below.server_model.Work.{Hand, Work, working, with_partition, then_some, leads_here, note, with_slots}
+use Rattle.drop_law.specs.Below.server_model.NewWords.{NewWord, can_grow, is_last, issue_tint, issue_renewal, issue_colour}
+use Rattle.drop_law.specs.Below.server_model.Places.{Spot, in_slot, on_top, in_cell, in_copy, nowhere, cell_at, value_in, value_at, load_of, load_at, note_write, put_at, pointer_of, with_word, put_word}
+use Rattle.drop_law.specs.Below.server_model.Prepare.{Prepared, ready, requested, nothing, and_then, ready_at, ask_object, request_by, local, hopped, passing, box_ready, colour_box, write_by, pass_by, write_value, write_star, write_stars}
+use Rattle.drop_law.specs.Below.heap_law.Things.{Location, at_slot, in_cell as in_object}
+use Rattle.drop_law.specs.Below.heap_law.Follow.{Ground, cell_of, locate}
+use Rattle.drop_law.specs.Below.event_law.Laws.{Gives}
+use Rattle.drop_law.proofs.Below.path_law.Sole.{some_is}
+use Rattle.drop_law.proofs.Below.turn_law.ReadWalk.{loads_of, loads_behind, passed_loads}
+use Rattle.through_law.proofs.Below.write_law.Memory.{Leads, looks}
+use Rattle.through_law.proofs.Below.write_law.Route.{LeadsBy, Hop, by_slot, by_reference, by_box, by_cell, Route, Writing, At, a_slot, a_cell, Fine, hop_star}
 
 -- THE LABELS
 

@@ -1,22 +1,22 @@
 -- What a write leaves as it was: what is given up is told to whoever has what it leads to, and the server's rest shows what it showed; a mark on a reference isn't shown.
 use Rattle.std.proofs.Common.{◌≡◌, ℕ, zero, suc, List, [], ◌∷◌, map, Option, Some, None, refl, ap, ap₂, subst, ◌∙◌, arith}
 use Rattle.std.specs.Prelude.{slice_get, slice_set}
-use Rattle.fr_base.specs.declared.release.Released.TheVariants as released
-use Rattle.global_addr.specs.Words.{server_of}
-use Rattle.heap_partition.specs.declared.value.Owned.{Owned}
-use Rattle.heap_partition.specs.declared.value.Owned.TheVariants as owned
-use Rattle.journal.specs.declared.act.Act.TheVariants as act
-use Rattle.server_msgs.specs.declared.message.Message.TheVariants as message
-use Rattle.thread_state.specs.declared.value.Value.{Value}
-use Rattle.thread_state.specs.declared.value.Value.TheVariants as value
-use Rattle.server_model.specs.Servers.{Rest}
-use Rattle.server_model.specs.Work.{Work, Hand, note, with_temps}
-use Rattle.server_model.specs.Places.{written, note_slot, note_write}
-use Rattle.server_model.specs.Drop.{home_of, give_up}
-use Rattle.still_law.proofs.Readied.{same_rest}
-use Rattle.heap_law.specs.OneHeap.{plain_value}
-use Rattle.event_law.proofs.Bags.{rest_things}
-use Rattle.still_law.proofs.Sites.{shown, Moves, sends}
+use Rattle.drop_law.specs.Below.fr_base.declared.release.Released.TheVariants as released
+use Rattle.drop_law.specs.Below.global_addr.Words.{server_of}
+use Rattle.drop_law.specs.Below.heap_partition.declared.value.Owned.{Owned}
+use Rattle.drop_law.specs.Below.heap_partition.declared.value.Owned.TheVariants as owned
+use Rattle.drop_law.specs.Below.journal.declared.act.Act.TheVariants as act
+use Rattle.drop_law.specs.Below.server_msgs.declared.message.Message.TheVariants as message
+use Rattle.drop_law.specs.Below.thread_state.declared.value.Value.{Value}
+use Rattle.drop_law.specs.Below.thread_state.declared.value.Value.TheVariants as value
+use Rattle.drop_law.specs.Below.server_model.Servers.{Rest}
+use Rattle.drop_law.specs.Below.server_model.Work.{Work, Hand, note, with_temps}
+use Rattle.drop_law.specs.Below.server_model.Places.{written, note_slot, note_write}
+use Rattle.drop_law.specs.Below.server_model.Drop.{home_of, give_up}
+use Rattle.through_law.proofs.Below.still_law.Readied.{same_rest}
+use Rattle.drop_law.specs.Below.heap_law.OneHeap.{plain_value}
+use Rattle.drop_law.proofs.Below.event_law.Bags.{rest_things}
+use Rattle.through_law.proofs.Below.still_law.Sites.{shown, Moves, sends}
 
 pub gives_up : (v : Owned) (w : Work) → Moves [] [] w.rest (give_up v w).rest
 gives_up (owned.Box p) w = sends [] [] w.rest (note (act.Condemn p.object p.word) w) (server_of p.word) (message.Drop p.word p.object) (same_rest w.rest) (λ q z. omega (arith, z))

@@ -1,3 +1,4 @@
+pub mod Below
 pub mod CellApart
 pub mod CellChange
 pub mod CellMoves

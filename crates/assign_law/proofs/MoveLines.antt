@@ -1,65 +1,65 @@
 -- A move out through stars, at the server and on the plain machine: what stood in the cell is on top, and nothing stands there.
 use Rattle.std.proofs.Common.{◌≡◌, ℕ, suc, ◌+◌, true, false, if◌then◌else◌, List, [], ◌∷◌, ◌++◌, map, reverse, Option, Some, None, option_map, refl, sym, ap, ap₂, subst, ◌∙◌, arith, not}
-use Rattle.fr_base.specs.declared.label.Label.TheVariants as label
-use Rattle.fr_base.specs.declared.label.Plain.TheVariants as plain
-use Rattle.fr_base.specs.declared.name.ObjNo.{ObjNo}
-use Rattle.fr_base.specs.declared.place.Lval.{Lval}
-use Rattle.fr_base.specs.declared.step.Fresh.{Fresh}
-use Rattle.fr_base.specs.declared.step.Fresh.TheVariants as fresh
-use Rattle.fr_base.specs.declared.instruction.Instr.{Instr}
-use Rattle.fr_base.specs.declared.instruction.Instr.TheVariants as instr
-use Rattle.fr_plain.specs.declared.value.Value.{Value as PlainValue}
-use Rattle.fr_plain.specs.declared.value.Value.TheVariants as plain_v
-use Rattle.fr_plain.specs.Heap.{with_cell}
-use Rattle.fr_plain.specs.State as state
-use Rattle.fr_plain.specs.State.{then_reached}
-use Rattle.fr_plain.specs.MachineActs.{act as act_of, do_read, read_did}
-use Rattle.fr_plain.specs.PlainState.{SameState, plain_state}
-use Rattle.fr_code.specs.Machine.{CodeWhole, CodeRunning}
-use Rattle.fr_code.specs.Steps.{Place, CodeAct, over_at, run_instr}
-use Rattle.heap_partition.specs.Plain.{plain_of}
-use Rattle.heap_partition.specs.declared.value.Cell.{Cell}
-use Rattle.heap_partition.specs.declared.value.Owned.TheVariants as owned
-use Rattle.owner_box.specs.Partition.{stored}
-use Rattle.read_cache.specs.Cache.{Copy}
-use Rattle.migration.specs.Packing.{unpin_all}
-use Rattle.thread_state.specs.View.{ThreadState}
-use Rattle.thread_state.specs.declared.value.Value.{Value}
-use Rattle.thread_state.specs.declared.value.Value.TheVariants as value
-use Rattle.server_model.specs.declared.event.Event.{Event}
-use Rattle.server_model.specs.Servers.{Server, Cluster}
-use Rattle.server_model.specs.Work.{Hand, Work, look, label_all, push_temp, with_partition, with_cache, working, then_some}
-use Rattle.server_model.specs.Places.{Spot, in_cell, cell_at as cell_of_spot, value_in as cell_value, load_at, note_write, load_of}
-use Rattle.server_model.specs.Commit.{goes_on, go_on, store_labels, take_out, read}
-use Rattle.server_model.specs.Events.{Stepped, stepped, committed, step}
-use Rattle.heap_law.specs.Names.{one, same_object}
-use Rattle.heap_law.specs.Things.{Location, Thing, in_cell as in_object}
-use Rattle.heap_law.specs.Follow.{cell_of, locate}
-use Rattle.heap_law.specs.Sight.{Sight, sight}
-use Rattle.heap_law.specs.OneHeap.{Node, object_n, mutex_n, task_n, owns, plain_value, is_in_state, running_at, one_heap, state_of}
-use Rattle.type_law.specs.ClusterTypes.{IsCoherent}
-use Rattle.event_law.specs.Laws.{Gives, FewEvents}
-use Rattle.event_law.proofs.GiftsTaken.{gift_fits}
-use Rattle.path_law.proofs.Sole.{some_is}
-use Rattle.still_law.proofs.Readied.{readied_slots, copies_ready}
-use Rattle.still_law.proofs.Sites.{Moves}
-use Rattle.still_law.proofs.Alike.{LocksSeeIn}
-use Rattle.turn_law.specs.Turns.{StepsTo, IsPlainStep}
-use Rattle.turn_law.proofs.Parts.{owned_in}
-use Rattle.turn_law.proofs.OneTurn.{Calm, after}
-use Rattle.turn_law.proofs.PlainTurn.{state_at}
-use Rattle.turn_law.proofs.Instructions.{shown_last, shown_push, owned_push}
-use Rattle.turn_law.proofs.PlainReads.{stars_shown, plain_spot}
-use Rattle.turn_law.proofs.ReadWalk.{passed_loads}
-use Rattle.turn_law.proofs.StarLines.{x as standing, goes}
-use Rattle.turn_law.proofs.StarSteps.{alike_owned}
-use Rattle.turn_law.proofs.Events.{AtStep, Sends, then_same}
-use Rattle.lock_law.proofs.DupLines.{running_to}
-use Rattle.lock_law.proofs.OneThread.{GoesOn}
-use Rattle.lock_law.proofs.ThreadTurns.{Next}
-use Rattle.write_law.proofs.Memory.{Leads, looks, leads_on}
-use Rattle.write_law.proofs.Route.{At, a_slot, a_cell}
-use Rattle.rewrite_law.specs.Writing.{moves}
+use Rattle.drop_law.specs.Below.fr_base.declared.label.Label.TheVariants as label
+use Rattle.drop_law.specs.Below.fr_base.declared.label.Plain.TheVariants as plain
+use Rattle.drop_law.specs.Below.fr_base.declared.name.ObjNo.{ObjNo}
+use Rattle.drop_law.specs.Below.fr_base.declared.place.Lval.{Lval}
+use Rattle.drop_law.specs.Below.fr_base.declared.step.Fresh.{Fresh}
+use Rattle.drop_law.specs.Below.fr_base.declared.step.Fresh.TheVariants as fresh
+use Rattle.drop_law.specs.Below.fr_base.declared.instruction.Instr.{Instr}
+use Rattle.drop_law.specs.Below.fr_base.declared.instruction.Instr.TheVariants as instr
+use Rattle.drop_law.specs.Below.fr_plain.declared.value.Value.{Value as PlainValue}
+use Rattle.drop_law.specs.Below.fr_plain.declared.value.Value.TheVariants as plain_v
+use Rattle.drop_law.specs.Below.fr_plain.Heap.{with_cell}
+use Rattle.drop_law.specs.Below.fr_plain.State as state
+use Rattle.drop_law.specs.Below.fr_plain.State.{then_reached}
+use Rattle.drop_law.specs.Below.fr_plain.MachineActs.{act as act_of, do_read, read_did}
+use Rattle.drop_law.specs.Below.fr_plain.PlainState.{SameState, plain_state}
+use Rattle.drop_law.specs.Below.fr_code.Machine.{CodeWhole, CodeRunning}
+use Rattle.drop_law.specs.Below.fr_code.Steps.{Place, CodeAct, over_at, run_instr}
+use Rattle.drop_law.specs.Below.heap_partition.Plain.{plain_of}
+use Rattle.drop_law.specs.Below.heap_partition.declared.value.Cell.{Cell}
+use Rattle.drop_law.specs.Below.heap_partition.declared.value.Owned.TheVariants as owned
+use Rattle.drop_law.specs.Below.owner_box.Partition.{stored}
+use Rattle.drop_law.specs.Below.read_cache.Cache.{Copy}
+use Rattle.drop_law.specs.Below.migration.Packing.{unpin_all}
+use Rattle.drop_law.specs.Below.thread_state.View.{ThreadState}
+use Rattle.drop_law.specs.Below.thread_state.declared.value.Value.{Value}
+use Rattle.drop_law.specs.Below.thread_state.declared.value.Value.TheVariants as value
+use Rattle.drop_law.specs.Below.server_model.declared.event.Event.{Event}
+use Rattle.drop_law.specs.Below.server_model.Servers.{Server, Cluster}
+use Rattle.drop_law.specs.Below.server_model.Work.{Hand, Work, look, label_all, push_temp, with_partition, with_cache, working, then_some}
+use Rattle.drop_law.specs.Below.server_model.Places.{Spot, in_cell, cell_at as cell_of_spot, value_in as cell_value, load_at, note_write, load_of}
+use Rattle.drop_law.specs.Below.server_model.Commit.{goes_on, go_on, store_labels, take_out, read}
+use Rattle.drop_law.specs.Below.server_model.Events.{Stepped, stepped, committed, step}
+use Rattle.drop_law.specs.Below.heap_law.Names.{one, same_object}
+use Rattle.drop_law.specs.Below.heap_law.Things.{Location, Thing, in_cell as in_object}
+use Rattle.drop_law.specs.Below.heap_law.Follow.{cell_of, locate}
+use Rattle.drop_law.specs.Below.heap_law.Sight.{Sight, sight}
+use Rattle.drop_law.specs.Below.heap_law.OneHeap.{Node, object_n, mutex_n, task_n, owns, plain_value, is_in_state, running_at, one_heap, state_of}
+use Rattle.drop_law.specs.Below.type_law.ClusterTypes.{IsCoherent}
+use Rattle.drop_law.specs.Below.event_law.Laws.{Gives, FewEvents}
+use Rattle.drop_law.proofs.Below.event_law.GiftsTaken.{gift_fits}
+use Rattle.drop_law.proofs.Below.path_law.Sole.{some_is}
+use Rattle.through_law.proofs.Below.still_law.Readied.{readied_slots, copies_ready}
+use Rattle.through_law.proofs.Below.still_law.Sites.{Moves}
+use Rattle.through_law.proofs.Below.still_law.Alike.{LocksSeeIn}
+use Rattle.drop_law.specs.Below.turn_law.Turns.{StepsTo, IsPlainStep}
+use Rattle.drop_law.proofs.Below.turn_law.Parts.{owned_in}
+use Rattle.drop_law.proofs.Below.turn_law.OneTurn.{Calm, after}
+use Rattle.drop_law.proofs.Below.turn_law.PlainTurn.{state_at}
+use Rattle.drop_law.proofs.Below.turn_law.Instructions.{shown_last, shown_push, owned_push}
+use Rattle.drop_law.proofs.Below.turn_law.PlainReads.{stars_shown, plain_spot}
+use Rattle.drop_law.proofs.Below.turn_law.ReadWalk.{passed_loads}
+use Rattle.drop_law.proofs.Below.turn_law.StarLines.{x as standing, goes}
+use Rattle.drop_law.proofs.Below.turn_law.StarSteps.{alike_owned}
+use Rattle.drop_law.proofs.Below.turn_law.Events.{AtStep, Sends, then_same}
+use Rattle.drop_law.proofs.Below.lock_law.DupLines.{running_to}
+use Rattle.drop_law.proofs.Below.lock_law.OneThread.{GoesOn}
+use Rattle.drop_law.proofs.Below.lock_law.ThreadTurns.{Next}
+use Rattle.through_law.proofs.Below.write_law.Memory.{Leads, looks, leads_on}
+use Rattle.through_law.proofs.Below.write_law.Route.{At, a_slot, a_cell}
+use Rattle.through_law.specs.Below.rewrite_law.Writing.{moves}
 use Rattle.through_law.proofs.Marking.{noted_work, noted_thread, noted_same}
 use Rattle.through_law.proofs.OwnEnds.{ends_in_cell}
 use Rattle.assign_law.proofs.CellApart as apart

@@ -1,30 +1,30 @@
 -- A thread of the plain machine goes on while the value of one object changes: a move out of a cell, and an assignment to one, which drops what was there.
 use Rattle.std.proofs.Common.{◌≡◌, ◌≢◌, ℕ, if◌then◌else◌, List, ◌++◌, Some, None, refl, sym, ap, ap₂, ◌∙◌}
 use Rattle.std.specs.Prelude.{slice_get}
-use Rattle.fr_store.proofs.Keys.{object_cases}
-use Rattle.fr_base.specs.declared.label.Label.{Label}
-use Rattle.fr_base.specs.declared.label.Plain.{Plain}
-use Rattle.fr_base.specs.declared.label.Plain.TheVariants as plain
-use Rattle.fr_base.specs.declared.name.MutexNo.{MutexNo}
-use Rattle.fr_base.specs.declared.name.ObjNo.{ObjNo}
-use Rattle.fr_base.specs.declared.step.Fresh.TheVariants as fresh
-use Rattle.fr_base.specs.declared.instruction.Instr.{Instr}
-use Rattle.fr_plain.specs.declared.value.Value.{Value}
-use Rattle.fr_plain.specs.declared.value.Value.TheVariants.{Own}
-use Rattle.fr_plain.specs.Heap.{Heap, cell_at, with_cell}
-use Rattle.fr_plain.specs.State.{without}
-use Rattle.fr_plain.specs.MachineActs.{act, drops_last, end_of}
-use Rattle.fr_plain.specs.MachineThreads.{going, Move, with_thread, pair_of, count_both, dropped}
-use Rattle.fr_plain.specs.Machine.{prints, done_act, alone_stepped, stepped, then_released, step_of}
-use Rattle.fr_plain.specs.PlainState.{SameState, two_of, plain_state}
-use Rattle.fr_plain.proofs.HeapLemmas.{live_made, cell_same, cell_other, made_kept}
-use Rattle.fr_code.specs.Machine.{CodeLife, CodeThread, CodeWhole, CodeStepped, CodeRunning, CodeState}
-use Rattle.fr_code.specs.Steps.{Place, CodeAct, code_move, code_moves, over_at}
-use Rattle.turn_law.specs.Turns.{StepsTo}
-use Rattle.turn_law.proofs.OneTurn.{Going}
-use Rattle.turn_law.proofs.PlainTurn.{thread_as, settled_as, state_at, none_released}
-use Rattle.lock_law.proofs.OneThread.{GoesOn}
-use Rattle.lock_law.proofs.PlainMutex.{found, acts, move_as, thread_same, over_same}
+use Rattle.drop_law.proofs.Below.fr_store.Keys.{object_cases}
+use Rattle.drop_law.specs.Below.fr_base.declared.label.Label.{Label}
+use Rattle.drop_law.specs.Below.fr_base.declared.label.Plain.{Plain}
+use Rattle.drop_law.specs.Below.fr_base.declared.label.Plain.TheVariants as plain
+use Rattle.drop_law.specs.Below.fr_base.declared.name.MutexNo.{MutexNo}
+use Rattle.drop_law.specs.Below.fr_base.declared.name.ObjNo.{ObjNo}
+use Rattle.drop_law.specs.Below.fr_base.declared.step.Fresh.TheVariants as fresh
+use Rattle.drop_law.specs.Below.fr_base.declared.instruction.Instr.{Instr}
+use Rattle.drop_law.specs.Below.fr_plain.declared.value.Value.{Value}
+use Rattle.drop_law.specs.Below.fr_plain.declared.value.Value.TheVariants.{Own}
+use Rattle.drop_law.specs.Below.fr_plain.Heap.{Heap, cell_at, with_cell}
+use Rattle.drop_law.specs.Below.fr_plain.State.{without}
+use Rattle.drop_law.specs.Below.fr_plain.MachineActs.{act, drops_last, end_of}
+use Rattle.drop_law.specs.Below.fr_plain.MachineThreads.{going, Move, with_thread, pair_of, count_both, dropped}
+use Rattle.drop_law.specs.Below.fr_plain.Machine.{prints, done_act, alone_stepped, stepped, then_released, step_of}
+use Rattle.drop_law.specs.Below.fr_plain.PlainState.{SameState, two_of, plain_state}
+use Rattle.drop_law.proofs.Below.fr_plain.HeapLemmas.{live_made, cell_same, cell_other, made_kept}
+use Rattle.drop_law.specs.Below.fr_code.Machine.{CodeLife, CodeThread, CodeWhole, CodeStepped, CodeRunning, CodeState}
+use Rattle.drop_law.specs.Below.fr_code.Steps.{Place, CodeAct, code_move, code_moves, over_at}
+use Rattle.drop_law.specs.Below.turn_law.Turns.{StepsTo}
+use Rattle.drop_law.proofs.Below.turn_law.OneTurn.{Going}
+use Rattle.drop_law.proofs.Below.turn_law.PlainTurn.{thread_as, settled_as, state_at, none_released}
+use Rattle.drop_law.proofs.Below.lock_law.OneThread.{GoesOn}
+use Rattle.drop_law.proofs.Below.lock_law.PlainMutex.{found, acts, move_as, thread_same, over_same}
 
 -- the thread has gone on, with that heap
 abbrev pub goes_with_heap : CodeWhole → Going → ℕ → CodeRunning → Heap → List Label → CodeWhole

@@ -1,40 +1,40 @@
 -- A step that writes through stars: what is known of the hand whose place is ready.
 use Rattle.std.proofs.Common.{◌≡◌, ℕ, true, Option, Some, None, refl, sym, ap, subst, arith}
 use Rattle.std.specs.Prelude.{⊤}
-use Rattle.fr_base.specs.declared.label.Plain.{Plain}
-use Rattle.fr_base.specs.declared.name.ObjNo.{ObjNo}
-use Rattle.fr_base.specs.declared.place.Lval.{Lval}
-use Rattle.fr_base.specs.declared.step.Fresh.{Fresh}
-use Rattle.fr_base.specs.declared.instruction.Instr.{Instr}
-use Rattle.fr_base.specs.declared.instruction.Instr.TheVariants as instr
-use Rattle.fr_store.specs.Store.{Val}
-use Rattle.fr_sound.specs.Seen.{seen_cell}
-use Rattle.thread_state.specs.View.{ThreadState}
-use Rattle.server_model.specs.declared.event.Event.{Event}
-use Rattle.server_model.specs.Servers.{Server, Cluster}
-use Rattle.server_model.specs.Work.{Hand}
-use Rattle.server_model.specs.Places.{Spot, in_slot}
-use Rattle.server_model.specs.Prepare.{WriteTo, Prepared, ready, requested, nothing, assigned, read_or_taken, prepare, write_stars}
-use Rattle.server_model.specs.Commit.{commit}
-use Rattle.server_model.specs.Events.{Stepped, has_phase, can_step, begin_work, committed, prepared, step}
-use Rattle.heap_law.specs.Things.{Location, at_slot, in_cell as in_object}
-use Rattle.heap_law.specs.Follow.{Ground, cell_of, locate}
-use Rattle.heap_law.specs.Sight.{sight}
-use Rattle.heap_law.specs.OneHeap.{object_value}
-use Rattle.type_law.specs.ClusterTypes.{IsCoherent}
-use Rattle.event_law.specs.Laws.{Gives, FewEvents}
-use Rattle.path_law.specs.HeapStore.{HasPaths}
-use Rattle.path_law.proofs.Alike.{leads_in_heap, heap_of_shown}
-use Rattle.path_law.proofs.Sole.{some_is}
-use Rattle.still_law.proofs.Prepares.{Fine as StillFine}
-use Rattle.still_law.proofs.Readied.{Readied}
-use Rattle.turn_law.proofs.Events.{AtStep}
-use Rattle.turn_law.proofs.ReadWalk.{passed_loads}
-use Rattle.turn_law.proofs.StarLines.{shows}
-use Rattle.result_law.proofs.Known.{Steps, standing, paths, goes}
-use Rattle.write_law.proofs.Route.{Route, Writing, At, a_slot, Fine, begins, all_hops}
-use Rattle.rewrite_law.specs.Writing.{WritesThrough, assigns, moves}
-use Rattle.rewrite_law.proofs.Ways.{route}
+use Rattle.drop_law.specs.Below.fr_base.declared.label.Plain.{Plain}
+use Rattle.drop_law.specs.Below.fr_base.declared.name.ObjNo.{ObjNo}
+use Rattle.drop_law.specs.Below.fr_base.declared.place.Lval.{Lval}
+use Rattle.drop_law.specs.Below.fr_base.declared.step.Fresh.{Fresh}
+use Rattle.drop_law.specs.Below.fr_base.declared.instruction.Instr.{Instr}
+use Rattle.drop_law.specs.Below.fr_base.declared.instruction.Instr.TheVariants as instr
+use Rattle.drop_law.specs.Below.fr_store.Store.{Val}
+use Rattle.drop_law.specs.Below.fr_sound.Seen.{seen_cell}
+use Rattle.drop_law.specs.Below.thread_state.View.{ThreadState}
+use Rattle.drop_law.specs.Below.server_model.declared.event.Event.{Event}
+use Rattle.drop_law.specs.Below.server_model.Servers.{Server, Cluster}
+use Rattle.drop_law.specs.Below.server_model.Work.{Hand}
+use Rattle.drop_law.specs.Below.server_model.Places.{Spot, in_slot}
+use Rattle.drop_law.specs.Below.server_model.Prepare.{WriteTo, Prepared, ready, requested, nothing, assigned, read_or_taken, prepare, write_stars}
+use Rattle.drop_law.specs.Below.server_model.Commit.{commit}
+use Rattle.drop_law.specs.Below.server_model.Events.{Stepped, has_phase, can_step, begin_work, committed, prepared, step}
+use Rattle.drop_law.specs.Below.heap_law.Things.{Location, at_slot, in_cell as in_object}
+use Rattle.drop_law.specs.Below.heap_law.Follow.{Ground, cell_of, locate}
+use Rattle.drop_law.specs.Below.heap_law.Sight.{sight}
+use Rattle.drop_law.specs.Below.heap_law.OneHeap.{object_value}
+use Rattle.drop_law.specs.Below.type_law.ClusterTypes.{IsCoherent}
+use Rattle.drop_law.specs.Below.event_law.Laws.{Gives, FewEvents}
+use Rattle.drop_law.specs.Below.path_law.HeapStore.{HasPaths}
+use Rattle.drop_law.proofs.Below.path_law.Alike.{leads_in_heap, heap_of_shown}
+use Rattle.drop_law.proofs.Below.path_law.Sole.{some_is}
+use Rattle.through_law.proofs.Below.still_law.Prepares.{Fine as StillFine}
+use Rattle.through_law.proofs.Below.still_law.Readied.{Readied}
+use Rattle.drop_law.proofs.Below.turn_law.Events.{AtStep}
+use Rattle.drop_law.proofs.Below.turn_law.ReadWalk.{passed_loads}
+use Rattle.drop_law.proofs.Below.turn_law.StarLines.{shows}
+use Rattle.drop_law.proofs.Below.result_law.Known.{Steps, standing, paths, goes}
+use Rattle.through_law.proofs.Below.write_law.Route.{Route, Writing, At, a_slot, Fine, begins, all_hops}
+use Rattle.through_law.specs.Below.rewrite_law.Writing.{WritesThrough, assigns, moves}
+use Rattle.through_law.proofs.Below.rewrite_law.Ways.{route}
 use Rattle.assign_law.proofs.Following.{Lay, Came, all_came}
 
 module _ (k : Cluster) (co : IsCoherent k) (few : FewEvents k) (e : Event) (i : Instr) (s : Server) (t : ℕ) (y : ThreadState) (a : AtStep k e i s t y) (w : Lval) (d : ℕ) (through : WritesThrough i w d) where

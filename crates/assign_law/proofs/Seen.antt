@@ -1,30 +1,30 @@
 -- The object at the end of a place that a thread writes: it is in the state, and no place of a lock passes it, with its cell in front of all other things too.
 use Rattle.std.proofs.Common.{◌≡◌, ℕ, not, Bool, true, false, Option, Some, None, option_map, refl, ap, subst, ◌∙◌}
 use Rattle.std.specs.Prelude.{slice_get}
-use Rattle.fr_base.specs.declared.label.Plain.{Plain}
-use Rattle.fr_base.specs.declared.place.Lval.{Lval}
-use Rattle.fr_base.specs.declared.instruction.Instr.{Instr}
-use Rattle.fr_base.specs.declared.instruction.Instr.TheVariants as instr
-use Rattle.heap_partition.specs.declared.value.Cell.{Cell}
-use Rattle.thread_state.specs.View.{ThreadState}
-use Rattle.server_model.specs.declared.event.Event.{Event}
-use Rattle.server_model.specs.Servers.{Server, Cluster}
-use Rattle.server_model.specs.Work.{look}
-use Rattle.heap_law.specs.Names.{same_object}
-use Rattle.heap_law.specs.Things.{in_cell, things_of}
-use Rattle.heap_law.specs.Follow.{Standing, threads_in, thread_at, locate}
-use Rattle.heap_law.specs.Sight.{Sight, sight, with_things}
-use Rattle.heap_law.specs.Walking.{instr_of}
-use Rattle.heap_law.specs.Requests.{is_par_end}
-use Rattle.heap_law.specs.OneHeap.{object_n, is_in_state, if_in, cell_value, first_shown}
-use Rattle.type_law.specs.ClusterTypes.{IsCoherent}
-use Rattle.event_law.specs.Laws.{FewEvents}
-use Rattle.still_law.specs.Shows.{ShownThread}
-use Rattle.still_law.proofs.Alike.{SeenAt, LocksSeeIn}
-use Rattle.still_law.proofs.PlainValues.{shown_of}
-use Rattle.turn_law.proofs.Events.{AtStep}
-use Rattle.lock_law.proofs.ThreadTurns.{quiet}
-use Rattle.rewrite_law.specs.Writing.{WritesThrough, assigns, moves}
+use Rattle.drop_law.specs.Below.fr_base.declared.label.Plain.{Plain}
+use Rattle.drop_law.specs.Below.fr_base.declared.place.Lval.{Lval}
+use Rattle.drop_law.specs.Below.fr_base.declared.instruction.Instr.{Instr}
+use Rattle.drop_law.specs.Below.fr_base.declared.instruction.Instr.TheVariants as instr
+use Rattle.drop_law.specs.Below.heap_partition.declared.value.Cell.{Cell}
+use Rattle.drop_law.specs.Below.thread_state.View.{ThreadState}
+use Rattle.drop_law.specs.Below.server_model.declared.event.Event.{Event}
+use Rattle.drop_law.specs.Below.server_model.Servers.{Server, Cluster}
+use Rattle.drop_law.specs.Below.server_model.Work.{look}
+use Rattle.drop_law.specs.Below.heap_law.Names.{same_object}
+use Rattle.drop_law.specs.Below.heap_law.Things.{in_cell, things_of}
+use Rattle.drop_law.specs.Below.heap_law.Follow.{Standing, threads_in, thread_at, locate}
+use Rattle.drop_law.specs.Below.heap_law.Sight.{Sight, sight, with_things}
+use Rattle.drop_law.specs.Below.heap_law.Walking.{instr_of}
+use Rattle.drop_law.specs.Below.heap_law.Requests.{is_par_end}
+use Rattle.drop_law.specs.Below.heap_law.OneHeap.{object_n, is_in_state, if_in, cell_value, first_shown}
+use Rattle.drop_law.specs.Below.type_law.ClusterTypes.{IsCoherent}
+use Rattle.drop_law.specs.Below.event_law.Laws.{FewEvents}
+use Rattle.through_law.specs.Below.still_law.Shows.{ShownThread}
+use Rattle.through_law.proofs.Below.still_law.Alike.{SeenAt, LocksSeeIn}
+use Rattle.through_law.proofs.Below.still_law.PlainValues.{shown_of}
+use Rattle.drop_law.proofs.Below.turn_law.Events.{AtStep}
+use Rattle.drop_law.proofs.Below.lock_law.ThreadTurns.{quiet}
+use Rattle.through_law.specs.Below.rewrite_law.Writing.{WritesThrough, assigns, moves}
 use Rattle.assign_law.proofs.CellApart as apart
 use Rattle.assign_law.proofs.Readies as readies
 use Rattle.assign_law.proofs.Untouched.{locks_pass_by}

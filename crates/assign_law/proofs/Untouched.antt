@@ -1,38 +1,38 @@
 -- No place of a lock passes the cell that a thread writes through stars.
 use Rattle.std.proofs.Common.{◌≡◌, ℕ, ◌+◌, ◌-◌, ◌≤◌, not, Bool, true, false, length, Option, Some, None, is_some, refl, sym, ap, subst, ◌∙◌, arith}
 use Rattle.std.specs.Prelude.{slice_get}
-use Rattle.fr_store.proofs.Keys.{object_cases}
-use Rattle.fr_store.specs.Keys.{slot_k}
-use Rattle.fr_store.specs.Store.{Store, below_key}
-use Rattle.fr_store.proofs.Sound.{sound}
-use Rattle.fr_base.specs.declared.name.ObjNo.{ObjNo}
-use Rattle.fr_base.specs.declared.place.Lval.{Lval}
-use Rattle.fr_base.specs.declared.instruction.Instr.{Instr}
-use Rattle.fr_base.specs.declared.instruction.Instr.TheVariants as instr
-use Rattle.thread_state.specs.View.{ThreadState, is_over}
-use Rattle.server_model.specs.Servers.{Server, Cluster}
-use Rattle.heap_law.specs.Names.{other, if_so, one, same_object}
-use Rattle.heap_law.specs.Things.{Location, at_slot, at_temp, in_cell, things_of}
-use Rattle.heap_law.specs.Follow.{Standing, threads_in, thread_at, locate}
-use Rattle.heap_law.specs.Sight.{sight}
-use Rattle.heap_law.specs.Walking.{instr_of}
-use Rattle.heap_law.specs.Rooted.{dressed, is_end}
-use Rattle.heap_law.specs.OneHeap.{two_in}
-use Rattle.path_law.specs.HeapStore.{in_store, heap_store, GoesOn, HasPaths}
-use Rattle.path_law.specs.Pointing.{MayWrite}
-use Rattle.path_law.proofs.Alike.{leads_in_heap}
-use Rattle.path_law.proofs.Circles.{base_in}
-use Rattle.path_law.proofs.Contained.{among_thread}
-use Rattle.path_law.proofs.Forms.{none_of}
-use Rattle.path_law.proofs.FreshPaths.{OwnSlot, own_closed}
-use Rattle.path_law.proofs.Shown.{stands_there}
-use Rattle.path_law.proofs.Sole.{some_is}
-use Rattle.read_law.specs.Reading.{locks}
-use Rattle.read_law.proofs.FreshReads.{reading_of, chain_apart}
-use Rattle.result_law.proofs.Known.{Steps, standing, paths, goes}
-use Rattle.still_law.proofs.Alike.{SeenAt, LocksSee}
-use Rattle.rewrite_law.specs.Writing.{WritesThrough, assigns, moves}
-use Rattle.rewrite_law.proofs.Ways.{may, place}
+use Rattle.drop_law.proofs.Below.fr_store.Keys.{object_cases}
+use Rattle.drop_law.specs.Below.fr_store.Keys.{slot_k}
+use Rattle.drop_law.specs.Below.fr_store.Store.{Store, below_key}
+use Rattle.drop_law.proofs.Below.fr_store.Sound.{sound}
+use Rattle.drop_law.specs.Below.fr_base.declared.name.ObjNo.{ObjNo}
+use Rattle.drop_law.specs.Below.fr_base.declared.place.Lval.{Lval}
+use Rattle.drop_law.specs.Below.fr_base.declared.instruction.Instr.{Instr}
+use Rattle.drop_law.specs.Below.fr_base.declared.instruction.Instr.TheVariants as instr
+use Rattle.drop_law.specs.Below.thread_state.View.{ThreadState, is_over}
+use Rattle.drop_law.specs.Below.server_model.Servers.{Server, Cluster}
+use Rattle.drop_law.specs.Below.heap_law.Names.{other, if_so, one, same_object}
+use Rattle.drop_law.specs.Below.heap_law.Things.{Location, at_slot, at_temp, in_cell, things_of}
+use Rattle.drop_law.specs.Below.heap_law.Follow.{Standing, threads_in, thread_at, locate}
+use Rattle.drop_law.specs.Below.heap_law.Sight.{sight}
+use Rattle.drop_law.specs.Below.heap_law.Walking.{instr_of}
+use Rattle.drop_law.specs.Below.heap_law.Rooted.{dressed, is_end}
+use Rattle.drop_law.specs.Below.heap_law.OneHeap.{two_in}
+use Rattle.drop_law.specs.Below.path_law.HeapStore.{in_store, heap_store, GoesOn, HasPaths}
+use Rattle.drop_law.specs.Below.path_law.Pointing.{MayWrite}
+use Rattle.drop_law.proofs.Below.path_law.Alike.{leads_in_heap}
+use Rattle.drop_law.proofs.Below.path_law.Circles.{base_in}
+use Rattle.drop_law.proofs.Below.path_law.Contained.{among_thread}
+use Rattle.drop_law.proofs.Below.path_law.Forms.{none_of}
+use Rattle.drop_law.proofs.Below.path_law.FreshPaths.{OwnSlot, own_closed}
+use Rattle.drop_law.proofs.Below.path_law.Shown.{stands_there}
+use Rattle.drop_law.proofs.Below.path_law.Sole.{some_is}
+use Rattle.through_law.specs.Below.read_law.Reading.{locks}
+use Rattle.through_law.proofs.Below.read_law.FreshReads.{reading_of, chain_apart}
+use Rattle.drop_law.proofs.Below.result_law.Known.{Steps, standing, paths, goes}
+use Rattle.through_law.proofs.Below.still_law.Alike.{SeenAt, LocksSee}
+use Rattle.through_law.specs.Below.rewrite_law.Writing.{WritesThrough, assigns, moves}
+use Rattle.through_law.proofs.Below.rewrite_law.Ways.{may, place}
 
 -- its instruction is no lock
 no_lock : (i : Instr) (w p : Lval) (d : ℕ) → WritesThrough i w d → i ≡ instr.Lock p → ⊥

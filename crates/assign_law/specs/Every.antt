@@ -1,17 +1,17 @@
 -- EACH EVENT is exactly one plain step on the cluster's one heap, or leaves that as it was (this project's rule).
 use Rattle.std.specs.Prelude.{◌≡◌, ℕ, Bool, true, Some, None}
-use Rattle.fr_base.specs.declared.step.Fresh.{Fresh}
-use Rattle.fr_base.specs.declared.instruction.Instr.{Instr}
-use Rattle.fr_plain.specs.PlainState.{SameState, plain_state}
-use Rattle.fr_code.specs.Machine.{CodeWhole}
-use Rattle.journal.specs.View.{EntryView}
-use Rattle.server_model.specs.declared.event.Event.{Event}
-use Rattle.server_model.specs.Servers.{Cluster}
-use Rattle.server_model.specs.Clusters.{apply}
-use Rattle.heap_law.specs.OneHeap.{one_heap}
-use Rattle.type_law.specs.ClusterTypes.{IsCoherent}
-use Rattle.event_law.specs.Laws.{Gives, FewEvents}
-use Rattle.turn_law.specs.Turns.{StepsTo}
+use Rattle.drop_law.specs.Below.fr_base.declared.step.Fresh.{Fresh}
+use Rattle.drop_law.specs.Below.fr_base.declared.instruction.Instr.{Instr}
+use Rattle.drop_law.specs.Below.fr_plain.PlainState.{SameState, plain_state}
+use Rattle.drop_law.specs.Below.fr_code.Machine.{CodeWhole}
+use Rattle.drop_law.specs.Below.journal.View.{EntryView}
+use Rattle.drop_law.specs.Below.server_model.declared.event.Event.{Event}
+use Rattle.drop_law.specs.Below.server_model.Servers.{Cluster}
+use Rattle.drop_law.specs.Below.server_model.Clusters.{apply}
+use Rattle.drop_law.specs.Below.heap_law.OneHeap.{one_heap}
+use Rattle.drop_law.specs.Below.type_law.ClusterTypes.{IsCoherent}
+use Rattle.drop_law.specs.Below.event_law.Laws.{Gives, FewEvents}
+use Rattle.drop_law.specs.Below.turn_law.Turns.{StepsTo}
 
 -- whatever it is
 abbrev pub each_instruction : Instr → Bool

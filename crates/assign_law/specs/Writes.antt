@@ -1,7 +1,7 @@
 -- WHICH INSTRUCTIONS put a value at a place, or take it out there (this project's rule).
 use Rattle.std.specs.Prelude.{Bool, true, false}
-use Rattle.fr_base.specs.declared.instruction.Instr.{Instr}
-use Rattle.fr_base.specs.declared.instruction.Instr.TheVariants as instr
+use Rattle.drop_law.specs.Below.fr_base.declared.instruction.Instr.{Instr}
+use Rattle.drop_law.specs.Below.fr_base.declared.instruction.Instr.TheVariants as instr
 
 -- a move of what a place leads to, through however many stars
 abbrev pub moves_place : Instr → Bool

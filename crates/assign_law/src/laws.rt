@@ -1,7 +1,7 @@
 ghost use Rattle.assign_law.specs.Every.{EachIsStepOrStill, each_instruction};
 ghost use Rattle.assign_law.specs.Writes.{assigns_place, moves_place};
-ghost use Rattle.turn_law.specs.Turns.{ArePlainSteps};
-ghost use Rattle.type_law.specs.ClusterTypes.{IsCoherent};
+ghost use Rattle.drop_law.specs.Below.turn_law.Turns.{ArePlainSteps};
+ghost use Rattle.drop_law.specs.Below.type_law.ClusterTypes.{IsCoherent};
 
 /// From a coherent cluster, each move out of what a place leads to, and each assignment to it, through however many stars, is the plain step of its thread on the one
 /// heap, with the entry's labels, its messages handed over: what stood there is on top, or is dropped with whatever goes with it. A step that ends with a request does

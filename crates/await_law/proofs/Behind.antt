@@ -2,45 +2,45 @@
 use Rattle.std.proofs.Common.{◌≡◌, ◌≤◌, ◌<◌, inl, inr, ℕ, zero, suc, ◌+◌, ◌==◌, nat_lt, Bool, true, false, if◌then◌else◌, List, [], ◌∷◌, ◌++◌, length, Option, Some, None, option_map, refl, sym, ap, subst, ◌∙◌, arith}
 use Rattle.std.specs.Prelude.{⊤, slice_get, slice_set}
 use Rattle.std.proofs.lemmas.List.{length-set, length-append}
-use Rattle.fr_base.specs.declared.name.ObjNo.{ObjNo}
-use Rattle.fr_base.specs.declared.place.Lval.{Lval}
-use Rattle.colour_retire.specs.Colours.{rest_of}
-use Rattle.heap_partition.specs.declared.value.BoxPtr.{BoxPtr}
-use Rattle.heap_partition.specs.declared.value.Cell.{Cell}
-use Rattle.heap_partition.specs.declared.value.Owned.{Owned}
-use Rattle.heap_partition.specs.declared.value.Owned.TheVariants as owned
-use Rattle.mut_borrow.specs.declared.mutable.MutRef.{MutRef}
-use Rattle.owner_box.specs.View.{PartitionState}
-use Rattle.owner_box.specs.Partition.{made, new_word, next_place, put_cell, stored}
-use Rattle.thread_state.specs.View.{ThreadState}
-use Rattle.thread_state.specs.declared.phase.Phase.TheVariants as phase
-use Rattle.thread_state.specs.declared.value.Value.{Value}
-use Rattle.thread_state.specs.declared.value.Value.TheVariants as value
-use Rattle.server_msgs.specs.declared.message.Message.TheVariants as message
-use Rattle.server_model.specs.Servers.{Rest, Server, Cluster, server_at}
-use Rattle.server_model.specs.Work.{Hand, leads_here, look, receive, thread_in, working, with_partition, with_phase, with_slots, then_some}
-use Rattle.server_model.specs.NewWords.{can_grow}
-use Rattle.server_model.specs.Places.{Spot, in_slot, in_cell, value_in as cell_value, note_write, pointer_of, put_at, put_slot, set_pointer, with_word}
-use Rattle.server_model.specs.Prepare.{Prepared, ready, requested, nothing, passing, write_stars}
-use Rattle.server_model.specs.Objects.{passed_spot, arrived_at, arrived_write}
-use Rattle.heap_law.specs.Names.{Among}
-use Rattle.heap_law.specs.Things.{Location, at_slot, in_cell as in_object}
-use Rattle.heap_law.specs.Follow.{Standing, Ground, cell_of, value_in, value_of, leads, locate}
-use Rattle.heap_law.specs.Paths.{Awaited, to_write, written_place}
-use Rattle.heap_law.specs.Sight.{sight}
-use Rattle.heap_law.specs.Turn.{NextHop}
-use Rattle.heap_law.specs.Walking.{path}
-use Rattle.heap_law.specs.Words.{IsStale}
-use Rattle.heap_law.proofs.Passing.{paths_law}
-use Rattle.type_law.specs.ClusterTypes.{IsCoherent}
-use Rattle.event_law.specs.Laws.{Gives, FewEvents}
-use Rattle.path_law.proofs.Sole.{some_is}
-use Rattle.read_law.specs.Reading.{LiesUnder}
-use Rattle.end_law.proofs.Fresh.{writing, writes_are_fresh}
-use Rattle.stay_law.proofs.Steps.{TakesNoneHere}
-use Rattle.word_law.specs.Soles.{IsSole}
-use Rattle.word_law.proofs.Cells.{CellPut, cell_put, cells_reword}
-use Rattle.word_law.proofs.Tints.{SlotPut, word_put}
+use Rattle.arrive_law.specs.Below.fr_base.declared.name.ObjNo.{ObjNo}
+use Rattle.arrive_law.specs.Below.fr_base.declared.place.Lval.{Lval}
+use Rattle.arrive_law.specs.Below.colour_retire.Colours.{rest_of}
+use Rattle.arrive_law.specs.Below.heap_partition.declared.value.BoxPtr.{BoxPtr}
+use Rattle.arrive_law.specs.Below.heap_partition.declared.value.Cell.{Cell}
+use Rattle.arrive_law.specs.Below.heap_partition.declared.value.Owned.{Owned}
+use Rattle.arrive_law.specs.Below.heap_partition.declared.value.Owned.TheVariants as owned
+use Rattle.arrive_law.specs.Below.mut_borrow.declared.mutable.MutRef.{MutRef}
+use Rattle.arrive_law.specs.Below.owner_box.View.{PartitionState}
+use Rattle.arrive_law.specs.Below.owner_box.Partition.{made, new_word, next_place, put_cell, stored}
+use Rattle.arrive_law.specs.Below.thread_state.View.{ThreadState}
+use Rattle.arrive_law.specs.Below.thread_state.declared.phase.Phase.TheVariants as phase
+use Rattle.arrive_law.specs.Below.thread_state.declared.value.Value.{Value}
+use Rattle.arrive_law.specs.Below.thread_state.declared.value.Value.TheVariants as value
+use Rattle.arrive_law.specs.Below.server_msgs.declared.message.Message.TheVariants as message
+use Rattle.arrive_law.specs.Below.server_model.Servers.{Rest, Server, Cluster, server_at}
+use Rattle.arrive_law.specs.Below.server_model.Work.{Hand, leads_here, look, receive, thread_in, working, with_partition, with_phase, with_slots, then_some}
+use Rattle.arrive_law.specs.Below.server_model.NewWords.{can_grow}
+use Rattle.arrive_law.specs.Below.server_model.Places.{Spot, in_slot, in_cell, value_in as cell_value, note_write, pointer_of, put_at, put_slot, set_pointer, with_word}
+use Rattle.arrive_law.specs.Below.server_model.Prepare.{Prepared, ready, requested, nothing, passing, write_stars}
+use Rattle.arrive_law.specs.Below.server_model.Objects.{passed_spot, arrived_at, arrived_write}
+use Rattle.arrive_law.specs.Below.heap_law.Names.{Among}
+use Rattle.arrive_law.specs.Below.heap_law.Things.{Location, at_slot, in_cell as in_object}
+use Rattle.arrive_law.specs.Below.heap_law.Follow.{Standing, Ground, cell_of, value_in, value_of, leads, locate}
+use Rattle.arrive_law.specs.Below.heap_law.Paths.{Awaited, to_write, written_place}
+use Rattle.arrive_law.specs.Below.heap_law.Sight.{sight}
+use Rattle.arrive_law.specs.Below.heap_law.Turn.{NextHop}
+use Rattle.arrive_law.specs.Below.heap_law.Walking.{path}
+use Rattle.arrive_law.specs.Below.heap_law.Words.{IsStale}
+use Rattle.arrive_law.proofs.Below.heap_law.Passing.{paths_law}
+use Rattle.arrive_law.specs.Below.type_law.ClusterTypes.{IsCoherent}
+use Rattle.arrive_law.specs.Below.event_law.Laws.{Gives, FewEvents}
+use Rattle.arrive_law.proofs.Below.path_law.Sole.{some_is}
+use Rattle.rewrite_law.specs.Below.read_law.Reading.{LiesUnder}
+use Rattle.rewrite_law.proofs.Below.end_law.Fresh.{writing, writes_are_fresh}
+use Rattle.rewrite_law.proofs.Below.stay_law.Steps.{TakesNoneHere}
+use Rattle.rewrite_law.specs.Below.word_law.Soles.{IsSole}
+use Rattle.rewrite_law.proofs.Below.word_law.Cells.{CellPut, cell_put, cells_reword}
+use Rattle.rewrite_law.proofs.Below.word_law.Tints.{SlotPut, word_put}
 use Rattle.rewrite_law.proofs.Below.write_law.Memory.{Leads, looks, made_leads, made_longer}
 use Rattle.rewrite_law.proofs.Below.write_law.Route.{Route, Hop, by_slot, by_reference, by_box, by_cell, Writing, begins, At, a_slot, a_cell, Fine, all_hops, rerouted}
 use Rattle.rewrite_law.proofs.Below.write_law.Routes.{road, roomy_at}
@@ -154,9 +154,9 @@ set_it (x ∷ xs) zero a e = ap (λ z. z ∷ xs) (sym (some_is e))
 set_it (x ∷ xs) (suc m) a e = ap (λ l. x ∷ l) (set_it xs m a e)
 
 -- no mark is put on what is no mutable reference
-unmarked : (h : Hand) (m : ℕ) (v : Value) → slice_get h.thread.slots m ≡ Some v → Rattle.server_model.specs.Places.written v ≡ v → note_write (Some m) h ≡ h
+unmarked : (h : Hand) (m : ℕ) (v : Value) → slice_get h.thread.slots m ≡ Some v → Rattle.arrive_law.specs.Below.server_model.Places.written v ≡ v → note_write (Some m) h ≡ h
 unmarked h m v e same =
-    ap (λ o. with_slots (Rattle.server_model.specs.Places.note_slot h.thread.slots m o) h) e
+    ap (λ o. with_slots (Rattle.arrive_law.specs.Below.server_model.Places.note_slot h.thread.slots m o) h) e
     ∙ ap (λ z. with_slots (slice_set h.thread.slots m z) h) same ∙ ap (λ l. with_slots l h) (set_it h.thread.slots m v e)
 
 -- THE NEXT HOP
@@ -201,10 +201,10 @@ module _ (k : Cluster) (coherent : IsCoherent k) (few : FewEvents k) (s : Server
   abbrev place : ℕ → Option Location
   place = locate g y.number w.slot
 
-  abbrev path_types : Rattle.path_law.specs.HeapStore.HasPaths k
+  abbrev path_types : Rattle.arrive_law.specs.Below.path_law.HeapStore.HasPaths k
   path_types = paths k coherent few s here t y at i old c message_there waiting grows
 
-  abbrev goes : Rattle.path_law.specs.HeapStore.GoesOn k me
+  abbrev goes : Rattle.arrive_law.specs.Below.path_law.HeapStore.GoesOn k me
   goes = on k coherent few s here t y at i old c message_there waiting grows
 
   untaken : TakesNoneHere k.code y
@@ -342,7 +342,7 @@ module _ (k : Cluster) (coherent : IsCoherent k) (few : FewEvents k) (s : Server
           in_hand : (v : Value) → slice_get y.slots m ≡ Some v → slice_get h2.thread.slots m ≡ Some v
           in_hand v e = ap (λ (x : ThreadState). slice_get x.slots m) put.thread ∙ e
 
-          as_it_was : (v : Value) → slice_get y.slots m ≡ Some v → Rattle.server_model.specs.Places.written v ≡ v → St (note_write (Some m) h2)
+          as_it_was : (v : Value) → slice_get y.slots m ≡ Some v → Rattle.arrive_law.specs.Below.server_model.Places.written v ≡ v → St (note_write (Some m) h2)
           as_it_was v e same = subst St (sym (unmarked h2 m v (in_hand v e) same)) st2
 
           by : (x : Location) → at_slot y.number m ≡ x → (z : Location) → Hop s.rest y C place j x z → St (note_write (Some m) h2)

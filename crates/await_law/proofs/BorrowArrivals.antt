@@ -2,60 +2,60 @@
 use Rattle.std.proofs.Common.{◌≡◌, ◌⊎◌, inl, inr, ⊎_elim, ◌<◌, ℕ, zero, suc, ◌+◌, ◌-◌, ◌==◌, ◌&&◌, not, Bool, true, false, if◌then◌else◌, List, ◌∷◌, ◌++◌, Option, Some, None, refl, sym, ap, subst, ◌∙◌, arith}
 use Rattle.std.specs.Prelude.{slice_get}
 use Rattle.std.proofs.lemmas.Bool.{eqb-true, eq-eqb}
-use Rattle.fr_base.specs.declared.instruction.Instr.TheVariants as instr
-use Rattle.fr_base.specs.declared.name.ObjNo.{ObjNo}
-use Rattle.fr_base.specs.declared.place.Lval.{Lval}
-use Rattle.heap_partition.specs.declared.value.BoxPtr.{BoxPtr}
-use Rattle.heap_partition.specs.declared.value.Cell.{Cell}
-use Rattle.heap_partition.specs.declared.value.Owned.TheVariants as owned
-use Rattle.mut_borrow.specs.declared.mutable.MutRef.{MutRef}
-use Rattle.owner_box.specs.Partition.{new_word}
-use Rattle.thread_state.specs.View.{ThreadState}
-use Rattle.thread_state.specs.declared.phase.Phase.TheVariants as phase
-use Rattle.thread_state.specs.declared.value.Value.{Value}
-use Rattle.thread_state.specs.declared.value.Value.TheVariants as value
-use Rattle.server_msgs.specs.declared.message.Message.TheVariants.{Moved}
-use Rattle.server_model.specs.Servers.{Server, Cluster, server_at}
-use Rattle.server_model.specs.Work.{Hand, thread_in, with_phase}
-use Rattle.server_model.specs.NewWords.{can_grow}
-use Rattle.server_model.specs.Places.{in_slot, pointer_of}
-use Rattle.server_model.specs.Objects.{chased, waits_under, arrived_at, arrived_lend, arrived, instr_access}
-use Rattle.heap_law.specs.Names.{Among, tot, one, same_object}
-use Rattle.heap_law.specs.Things.{Location, at_slot, in_cell, Thing, lies, stands, thread_things, things_of}
-use Rattle.heap_law.specs.Follow.{Standing, Ground, threads_in, cell_of, value_in, value_behind, leads, locate}
-use Rattle.heap_law.specs.Paths.{Path, lends, path_of, Awaited, to_write}
-use Rattle.heap_law.specs.Placing.{is_word_of, same_words, shared_words}
-use Rattle.heap_law.specs.Sight.{Pointer, pointers_in, taken_pointers, word, sight}
-use Rattle.heap_law.specs.Stale.{one_star_less}
-use Rattle.heap_law.specs.Turn.{InTurn, by_lend, AwaitsAt, before_lend, at_lend, IsAsked}
-use Rattle.heap_law.specs.Walking.{path}
-use Rattle.heap_law.specs.Words.{IsStale}
-use Rattle.heap_law.proofs.Bags.{among_split}
-use Rattle.heap_law.proofs.Passing.{paths_law}
-use Rattle.heap_law.proofs.Words.{none_at, named, words_law}
-use Rattle.type_law.specs.ClusterTypes.{IsCoherent}
-use Rattle.event_law.specs.Laws.{Gives, FewEvents}
-use Rattle.path_law.specs.HeapStore.{GoesOn, HasPaths}
-use Rattle.path_law.specs.Pointing.{MayWrite, lends as lends_to}
-use Rattle.path_law.proofs.Alike.{leads_in_heap, heap_of_shown, cell_there}
-use Rattle.path_law.proofs.MayWrites.{may_write_there}
-use Rattle.path_law.proofs.Origins.{among_first, among_second}
-use Rattle.path_law.proofs.Shown.{stands_there}
-use Rattle.path_law.proofs.Sole.{some_is}
-use Rattle.read_law.specs.Reading.{Reads, lends as lends_from}
-use Rattle.result_law.proofs.Mutables.{apart}
-use Rattle.word_law.specs.PutBack.{LeadsHome}
-use Rattle.word_law.specs.Reworded.{is_loose, HasPlaces}
-use Rattle.word_law.specs.Soles.{IsSole}
-use Rattle.word_law.specs.Unmoved.{Taking, taking_by, taking_of, takings}
-use Rattle.word_law.proofs.Alone.{written_are_sole}
-use Rattle.word_law.proofs.Past.{are_no_firsts}
-use Rattle.word_law.proofs.Put.{Split, put_split}
-use Rattle.word_law.proofs.Standing.{CellOf, lying, flying, cell_among, pointer_at, told}
-use Rattle.move_law.specs.Relaid.{Relaid}
-use Rattle.prepare_law.specs.Requests.{WordsRise}
-use Rattle.prepare_law.proofs.Rising.{rise_itself}
-use Rattle.prepare_law.proofs.Hands.{put, places, stands as stands_here}
+use Rattle.arrive_law.specs.Below.fr_base.declared.instruction.Instr.TheVariants as instr
+use Rattle.arrive_law.specs.Below.fr_base.declared.name.ObjNo.{ObjNo}
+use Rattle.arrive_law.specs.Below.fr_base.declared.place.Lval.{Lval}
+use Rattle.arrive_law.specs.Below.heap_partition.declared.value.BoxPtr.{BoxPtr}
+use Rattle.arrive_law.specs.Below.heap_partition.declared.value.Cell.{Cell}
+use Rattle.arrive_law.specs.Below.heap_partition.declared.value.Owned.TheVariants as owned
+use Rattle.arrive_law.specs.Below.mut_borrow.declared.mutable.MutRef.{MutRef}
+use Rattle.arrive_law.specs.Below.owner_box.Partition.{new_word}
+use Rattle.arrive_law.specs.Below.thread_state.View.{ThreadState}
+use Rattle.arrive_law.specs.Below.thread_state.declared.phase.Phase.TheVariants as phase
+use Rattle.arrive_law.specs.Below.thread_state.declared.value.Value.{Value}
+use Rattle.arrive_law.specs.Below.thread_state.declared.value.Value.TheVariants as value
+use Rattle.arrive_law.specs.Below.server_msgs.declared.message.Message.TheVariants.{Moved}
+use Rattle.arrive_law.specs.Below.server_model.Servers.{Server, Cluster, server_at}
+use Rattle.arrive_law.specs.Below.server_model.Work.{Hand, thread_in, with_phase}
+use Rattle.arrive_law.specs.Below.server_model.NewWords.{can_grow}
+use Rattle.arrive_law.specs.Below.server_model.Places.{in_slot, pointer_of}
+use Rattle.arrive_law.specs.Below.server_model.Objects.{chased, waits_under, arrived_at, arrived_lend, arrived, instr_access}
+use Rattle.arrive_law.specs.Below.heap_law.Names.{Among, tot, one, same_object}
+use Rattle.arrive_law.specs.Below.heap_law.Things.{Location, at_slot, in_cell, Thing, lies, stands, thread_things, things_of}
+use Rattle.arrive_law.specs.Below.heap_law.Follow.{Standing, Ground, threads_in, cell_of, value_in, value_behind, leads, locate}
+use Rattle.arrive_law.specs.Below.heap_law.Paths.{Path, lends, path_of, Awaited, to_write}
+use Rattle.arrive_law.specs.Below.heap_law.Placing.{is_word_of, same_words, shared_words}
+use Rattle.arrive_law.specs.Below.heap_law.Sight.{Pointer, pointers_in, taken_pointers, word, sight}
+use Rattle.arrive_law.specs.Below.heap_law.Stale.{one_star_less}
+use Rattle.arrive_law.specs.Below.heap_law.Turn.{InTurn, by_lend, AwaitsAt, before_lend, at_lend, IsAsked}
+use Rattle.arrive_law.specs.Below.heap_law.Walking.{path}
+use Rattle.arrive_law.specs.Below.heap_law.Words.{IsStale}
+use Rattle.arrive_law.proofs.Below.heap_law.Bags.{among_split}
+use Rattle.arrive_law.proofs.Below.heap_law.Passing.{paths_law}
+use Rattle.arrive_law.proofs.Below.heap_law.Words.{none_at, named, words_law}
+use Rattle.arrive_law.specs.Below.type_law.ClusterTypes.{IsCoherent}
+use Rattle.arrive_law.specs.Below.event_law.Laws.{Gives, FewEvents}
+use Rattle.arrive_law.specs.Below.path_law.HeapStore.{GoesOn, HasPaths}
+use Rattle.arrive_law.specs.Below.path_law.Pointing.{MayWrite, lends as lends_to}
+use Rattle.arrive_law.proofs.Below.path_law.Alike.{leads_in_heap, heap_of_shown, cell_there}
+use Rattle.arrive_law.proofs.Below.path_law.MayWrites.{may_write_there}
+use Rattle.arrive_law.proofs.Below.path_law.Origins.{among_first, among_second}
+use Rattle.arrive_law.proofs.Below.path_law.Shown.{stands_there}
+use Rattle.arrive_law.proofs.Below.path_law.Sole.{some_is}
+use Rattle.rewrite_law.specs.Below.read_law.Reading.{Reads, lends as lends_from}
+use Rattle.arrive_law.proofs.Below.result_law.Mutables.{apart}
+use Rattle.rewrite_law.specs.Below.word_law.PutBack.{LeadsHome}
+use Rattle.rewrite_law.specs.Below.word_law.Reworded.{is_loose, HasPlaces}
+use Rattle.rewrite_law.specs.Below.word_law.Soles.{IsSole}
+use Rattle.rewrite_law.specs.Below.word_law.Unmoved.{Taking, taking_by, taking_of, takings}
+use Rattle.rewrite_law.proofs.Below.word_law.Alone.{written_are_sole}
+use Rattle.rewrite_law.proofs.Below.word_law.Past.{are_no_firsts}
+use Rattle.rewrite_law.proofs.Below.word_law.Put.{Split, put_split}
+use Rattle.rewrite_law.proofs.Below.word_law.Standing.{CellOf, lying, flying, cell_among, pointer_at, told}
+use Rattle.rewrite_law.specs.Below.move_law.Relaid.{Relaid}
+use Rattle.rewrite_law.specs.Below.prepare_law.Requests.{WordsRise}
+use Rattle.rewrite_law.proofs.Below.prepare_law.Rising.{rise_itself}
+use Rattle.rewrite_law.proofs.Below.prepare_law.Hands.{put, places, stands as stands_here}
 use Rattle.rewrite_law.proofs.Passing.{Fits, same_values}
 use Rattle.arrive_law.specs.Awaited.{Awaits}
 use Rattle.arrive_law.proofs.Arrived.{arrivals_reword}

@@ -1,15 +1,15 @@
 -- Chasing references to slots finds the mutable reference to an object that a place follows: it stands in a slot at the end of a chain of slots.
 use Rattle.std.proofs.Common.{◌≡◌, ◌⊎◌, inl, inr, ◌≤◌, ℕ, zero, suc, ◌+◌, ◌-◌, List, Option, Some, None, refl, sym, ap, subst, ◌∙◌, arith}
 use Rattle.std.specs.Prelude.{slice_get}
-use Rattle.heap_partition.specs.declared.value.Cell.{Cell}
-use Rattle.heap_partition.specs.declared.value.Owned.{Owned}
-use Rattle.heap_partition.specs.declared.value.Owned.TheVariants as owned
-use Rattle.mut_borrow.specs.declared.mutable.MutRef.{MutRef}
-use Rattle.thread_state.specs.declared.value.Value.{Value}
-use Rattle.thread_state.specs.declared.value.Value.TheVariants as value
-use Rattle.server_model.specs.Objects.{chased, chased_from}
-use Rattle.heap_law.specs.Things.{Location, at_slot, at_temp, in_cell}
-use Rattle.heap_law.specs.Follow.{Standing, Ground, thread_at, cell_of, slot_of, value_of, value_in, value_behind, leads, locate}
+use Rattle.arrive_law.specs.Below.heap_partition.declared.value.Cell.{Cell}
+use Rattle.arrive_law.specs.Below.heap_partition.declared.value.Owned.{Owned}
+use Rattle.arrive_law.specs.Below.heap_partition.declared.value.Owned.TheVariants as owned
+use Rattle.arrive_law.specs.Below.mut_borrow.declared.mutable.MutRef.{MutRef}
+use Rattle.arrive_law.specs.Below.thread_state.declared.value.Value.{Value}
+use Rattle.arrive_law.specs.Below.thread_state.declared.value.Value.TheVariants as value
+use Rattle.arrive_law.specs.Below.server_model.Objects.{chased, chased_from}
+use Rattle.arrive_law.specs.Below.heap_law.Things.{Location, at_slot, at_temp, in_cell}
+use Rattle.arrive_law.specs.Below.heap_law.Follow.{Standing, Ground, thread_at, cell_of, slot_of, value_of, value_in, value_behind, leads, locate}
 
 -- a reference to a slot
 abbrev ToSlot : Option Value → ℕ → Type 0

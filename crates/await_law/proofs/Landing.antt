@@ -2,70 +2,70 @@
 use Rattle.std.proofs.Common.{◌≡◌, inl, inr, ℕ, ◌+◌, ◌<◌, ◌^◌, Bool, true, false, if◌then◌else◌, List, [], ◌∷◌, ◌++◌, Option, Some, None, option_map, refl, sym, ap, subst, ◌∙◌, arith}
 use Rattle.std.specs.Prelude.{⊤, slice_get, slice_index_or}
 use Rattle.std.proofs.lemmas.Bool.{eqb-true}
-use Rattle.global_addr.specs.Words.{server_of, address_of}
-use Rattle.heap_partition.specs.declared.value.BoxPtr.{BoxPtr}
-use Rattle.heap_partition.specs.declared.value.Cell.{Cell}
-use Rattle.heap_partition.specs.declared.value.Owned.TheVariants as owned
-use Rattle.mut_borrow.specs.declared.mutable.MutRef.{MutRef}
-use Rattle.owner_box.specs.View.{PartitionState}
-use Rattle.owner_box.specs.Partition.{cell_of, made, new_word, next_place}
-use Rattle.owner_box.proofs.Issued.{packed}
-use Rattle.journal.specs.View.{EntryView}
-use Rattle.journal.specs.declared.act.Act.TheVariants as act
-use Rattle.thread_state.specs.View.{ThreadState, is_over}
-use Rattle.thread_state.specs.declared.phase.Phase.{Phase}
-use Rattle.thread_state.specs.declared.phase.Phase.TheVariants as phase
-use Rattle.thread_state.specs.declared.value.Value.{Value}
-use Rattle.thread_state.specs.declared.value.Value.TheVariants as value
-use Rattle.server_msgs.specs.declared.message.Message.TheVariants as message
-use Rattle.server_model.specs.declared.event.What.TheVariants.{Deliver}
-use Rattle.server_model.specs.Servers.{Server, Cluster, server_at}
-use Rattle.server_model.specs.Work.{Hand, Site, look, note, put_back, thread_in, without_thread, with_partition, with_phase, then_some}
-use Rattle.server_model.specs.Clusters.{apply}
-use Rattle.server_model.specs.NewWords.{NewWord, can_grow}
-use Rattle.server_model.specs.Places.{Spot, in_slot, in_cell, pointer_of, set_pointer}
-use Rattle.server_model.specs.Objects.{waits_for_cell, arrived, instr_access, came, deliver_moved}
-use Rattle.server_model.specs.Events.{does, left_by, received, deliver, deliver_message}
-use Rattle.heap_law.specs.Things.{Location, at_slot, in_cell as in_object, borrows, Thing, flies, server_things, servers_things, things_of}
-use Rattle.heap_law.specs.Follow.{Standing, Ground, value_in}
-use Rattle.heap_law.specs.Sight.{sight, issued}
-use Rattle.heap_law.specs.Words.{IsStale}
-use Rattle.type_law.specs.ClusterTypes.{IsCoherent}
-use Rattle.event_law.specs.Laws.{Gives, FewEvents}
-use Rattle.event_law.specs.Sums.{Sums}
-use Rattle.event_law.proofs.Bags.{HandOk, all_standing, body_things}
-use Rattle.event_law.proofs.Chains.{takes, hand_front, phase_changes}
-use Rattle.event_law.proofs.Events.{others_of, receives_site, tot-server}
-use Rattle.event_law.proofs.Messages.{site_receives}
-use Rattle.event_law.proofs.ObjectMessages.{issues_placed}
-use Rattle.event_law.proofs.Pointers.{sets_pointer}
-use Rattle.event_law.proofs.Results.{given_by, over_gives}
-use Rattle.event_law.proofs.RulesKeep.{sums_kept}
-use Rattle.event_law.proofs.Sound.{sound_has_sums}
-use Rattle.event_law.proofs.ThreadThere.{thread_there}
-use Rattle.event_law.proofs.Trades.{tot-append}
-use Rattle.path_law.specs.HeapStore.{GoesOn, HasPaths}
-use Rattle.path_law.proofs.Alike.{coherent_has_paths}
-use Rattle.path_law.proofs.Contained.{among_thread}
-use Rattle.path_law.proofs.Shown.{stands_there}
-use Rattle.word_law.specs.PutBack.{LeadsHome}
-use Rattle.word_law.specs.Reworded.{HasPlaces, Reworded}
-use Rattle.word_law.specs.Soles.{IsSole, IsOnly}
-use Rattle.word_law.specs.Unmoved.{taking_by}
-use Rattle.word_law.specs.WordsAfter.{Rewrites, KeepsWords}
-use Rattle.word_law.proofs.NewWord.{new_words_go_on}
-use Rattle.word_law.proofs.Past.{first_issued}
-use Rattle.word_law.proofs.Standing.{slot_among}
-use Rattle.move_law.proofs.Relaid.{put_here}
-use Rattle.stay_law.proofs.Alike.{itself}
-use Rattle.stay_law.proofs.Servers.{held_if}
-use Rattle.stay_law.proofs.Steps.{TakesNoneHere}
-use Rattle.stay_law.proofs.Threads.{slots_of, temps_of, thread_alike}
-use Rattle.prepare_law.specs.Requests.{WordsRise}
-use Rattle.prepare_law.proofs.Rising.{rise_changed}
-use Rattle.prepare_law.proofs.Asking.{found_number}
-use Rattle.prepare_law.proofs.Hands.{put, places}
-use Rattle.result_law.proofs.Pointing.{its_partition}
+use Rattle.arrive_law.specs.Below.global_addr.Words.{server_of, address_of}
+use Rattle.arrive_law.specs.Below.heap_partition.declared.value.BoxPtr.{BoxPtr}
+use Rattle.arrive_law.specs.Below.heap_partition.declared.value.Cell.{Cell}
+use Rattle.arrive_law.specs.Below.heap_partition.declared.value.Owned.TheVariants as owned
+use Rattle.arrive_law.specs.Below.mut_borrow.declared.mutable.MutRef.{MutRef}
+use Rattle.arrive_law.specs.Below.owner_box.View.{PartitionState}
+use Rattle.arrive_law.specs.Below.owner_box.Partition.{cell_of, made, new_word, next_place}
+use Rattle.arrive_law.proofs.Below.owner_box.Issued.{packed}
+use Rattle.arrive_law.specs.Below.journal.View.{EntryView}
+use Rattle.arrive_law.specs.Below.journal.declared.act.Act.TheVariants as act
+use Rattle.arrive_law.specs.Below.thread_state.View.{ThreadState, is_over}
+use Rattle.arrive_law.specs.Below.thread_state.declared.phase.Phase.{Phase}
+use Rattle.arrive_law.specs.Below.thread_state.declared.phase.Phase.TheVariants as phase
+use Rattle.arrive_law.specs.Below.thread_state.declared.value.Value.{Value}
+use Rattle.arrive_law.specs.Below.thread_state.declared.value.Value.TheVariants as value
+use Rattle.arrive_law.specs.Below.server_msgs.declared.message.Message.TheVariants as message
+use Rattle.arrive_law.specs.Below.server_model.declared.event.What.TheVariants.{Deliver}
+use Rattle.arrive_law.specs.Below.server_model.Servers.{Server, Cluster, server_at}
+use Rattle.arrive_law.specs.Below.server_model.Work.{Hand, Site, look, note, put_back, thread_in, without_thread, with_partition, with_phase, then_some}
+use Rattle.arrive_law.specs.Below.server_model.Clusters.{apply}
+use Rattle.arrive_law.specs.Below.server_model.NewWords.{NewWord, can_grow}
+use Rattle.arrive_law.specs.Below.server_model.Places.{Spot, in_slot, in_cell, pointer_of, set_pointer}
+use Rattle.arrive_law.specs.Below.server_model.Objects.{waits_for_cell, arrived, instr_access, came, deliver_moved}
+use Rattle.arrive_law.specs.Below.server_model.Events.{does, left_by, received, deliver, deliver_message}
+use Rattle.arrive_law.specs.Below.heap_law.Things.{Location, at_slot, in_cell as in_object, borrows, Thing, flies, server_things, servers_things, things_of}
+use Rattle.arrive_law.specs.Below.heap_law.Follow.{Standing, Ground, value_in}
+use Rattle.arrive_law.specs.Below.heap_law.Sight.{sight, issued}
+use Rattle.arrive_law.specs.Below.heap_law.Words.{IsStale}
+use Rattle.arrive_law.specs.Below.type_law.ClusterTypes.{IsCoherent}
+use Rattle.arrive_law.specs.Below.event_law.Laws.{Gives, FewEvents}
+use Rattle.arrive_law.specs.Below.event_law.Sums.{Sums}
+use Rattle.arrive_law.proofs.Below.event_law.Bags.{HandOk, all_standing, body_things}
+use Rattle.arrive_law.proofs.Below.event_law.Chains.{takes, hand_front, phase_changes}
+use Rattle.arrive_law.proofs.Below.event_law.Events.{others_of, receives_site, tot-server}
+use Rattle.arrive_law.proofs.Below.event_law.Messages.{site_receives}
+use Rattle.arrive_law.proofs.Below.event_law.ObjectMessages.{issues_placed}
+use Rattle.arrive_law.proofs.Below.event_law.Pointers.{sets_pointer}
+use Rattle.arrive_law.proofs.Below.event_law.Results.{given_by, over_gives}
+use Rattle.arrive_law.proofs.Below.event_law.RulesKeep.{sums_kept}
+use Rattle.arrive_law.proofs.Below.event_law.Sound.{sound_has_sums}
+use Rattle.arrive_law.proofs.Below.event_law.ThreadThere.{thread_there}
+use Rattle.arrive_law.proofs.Below.event_law.Trades.{tot-append}
+use Rattle.arrive_law.specs.Below.path_law.HeapStore.{GoesOn, HasPaths}
+use Rattle.arrive_law.proofs.Below.path_law.Alike.{coherent_has_paths}
+use Rattle.arrive_law.proofs.Below.path_law.Contained.{among_thread}
+use Rattle.arrive_law.proofs.Below.path_law.Shown.{stands_there}
+use Rattle.rewrite_law.specs.Below.word_law.PutBack.{LeadsHome}
+use Rattle.rewrite_law.specs.Below.word_law.Reworded.{HasPlaces, Reworded}
+use Rattle.rewrite_law.specs.Below.word_law.Soles.{IsSole, IsOnly}
+use Rattle.rewrite_law.specs.Below.word_law.Unmoved.{taking_by}
+use Rattle.rewrite_law.specs.Below.word_law.WordsAfter.{Rewrites, KeepsWords}
+use Rattle.rewrite_law.proofs.Below.word_law.NewWord.{new_words_go_on}
+use Rattle.rewrite_law.proofs.Below.word_law.Past.{first_issued}
+use Rattle.rewrite_law.proofs.Below.word_law.Standing.{slot_among}
+use Rattle.rewrite_law.proofs.Below.move_law.Relaid.{put_here}
+use Rattle.rewrite_law.proofs.Below.stay_law.Alike.{itself}
+use Rattle.rewrite_law.proofs.Below.stay_law.Servers.{held_if}
+use Rattle.rewrite_law.proofs.Below.stay_law.Steps.{TakesNoneHere}
+use Rattle.rewrite_law.proofs.Below.stay_law.Threads.{slots_of, temps_of, thread_alike}
+use Rattle.rewrite_law.specs.Below.prepare_law.Requests.{WordsRise}
+use Rattle.rewrite_law.proofs.Below.prepare_law.Rising.{rise_changed}
+use Rattle.rewrite_law.proofs.Below.prepare_law.Asking.{found_number}
+use Rattle.rewrite_law.proofs.Below.prepare_law.Hands.{put, places}
+use Rattle.arrive_law.proofs.Below.result_law.Pointing.{its_partition}
 use Rattle.rewrite_law.proofs.Below.write_law.Memory.{Sane}
 use Rattle.rewrite_law.proofs.Below.write_law.Routes.{sane_at, roomy_at}
 use Rattle.rewrite_law.proofs.Onward.{Onward, onward_itself, onward_so, no_first, holds_alike}
@@ -184,10 +184,10 @@ module _ (k : Cluster) (coherent : IsCoherent k) (few : FewEvents k) (s : Server
 
     -- a slot of the thread has what it had
     pub slot_there : (m : ℕ) (v : Value) → value_in g (at_slot y.number m) ≡ Some v → slice_get y.slots m ≡ Some v
-    slot_there m v stands = sym (ap (λ o. Rattle.heap_law.specs.Follow.slot_of o m) (stands_there k paths me on)) ∙ stands
+    slot_there m v stands = sym (ap (λ o. Rattle.arrive_law.specs.Below.heap_law.Follow.slot_of o m) (stands_there k paths me on)) ∙ stands
 
     pub slot_stands : (m : ℕ) (v : Value) → slice_get y.slots m ≡ Some v → value_in g (at_slot y.number m) ≡ Some v
-    slot_stands m v e = ap (λ o. Rattle.heap_law.specs.Follow.slot_of o m) (stands_there k paths me on) ∙ e
+    slot_stands m v e = ap (λ o. Rattle.arrive_law.specs.Below.heap_law.Follow.slot_of o m) (stands_there k paths me on) ∙ e
 
     -- no reference has the word as its first one
     no_first_one : (m : ℕ) (r : MutRef) → slice_get y.slots m ≡ Some (value.Mut r) → new_word p ≡ r.first → ⊥

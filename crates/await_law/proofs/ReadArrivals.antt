@@ -1,47 +1,47 @@
 -- An object that comes to a read: a dirty mutable reference leads to it, which stands in a slot at the end of a chain of slots, and is alone.
 use Rattle.std.proofs.Common.{◌≡◌, inl, inr, ◌≤◌, ◌<◌, ℕ, zero, suc, ◌+◌, ◌-◌, ◌==◌, Bool, true, false, if◌then◌else◌, List, [], ◌∷◌, Option, Some, None, option_map, refl, sym, ap, subst, ◌∙◌, arith}
 use Rattle.std.specs.Prelude.{slice_get}
-use Rattle.fr_base.specs.declared.instruction.Instr.{Instr}
-use Rattle.fr_base.specs.declared.instruction.Instr.TheVariants as instr
-use Rattle.fr_base.specs.declared.place.Lval.{Lval}
-use Rattle.global_addr.specs.Words.{colour_of}
-use Rattle.heap_partition.specs.declared.value.BoxPtr.{BoxPtr}
-use Rattle.heap_partition.specs.declared.value.Cell.{Cell}
-use Rattle.heap_partition.specs.declared.value.Owned.{Owned}
-use Rattle.heap_partition.specs.declared.value.Owned.TheVariants as owned
-use Rattle.mut_borrow.specs.declared.mutable.MutRef.{MutRef}
-use Rattle.owner_box.specs.Partition.{new_word}
-use Rattle.thread_state.specs.View.{ThreadState}
-use Rattle.thread_state.specs.declared.phase.Phase.TheVariants as phase
-use Rattle.thread_state.specs.declared.value.Value.{Value}
-use Rattle.thread_state.specs.declared.value.Value.TheVariants as value
-use Rattle.server_msgs.specs.declared.message.Message.TheVariants.{Moved}
-use Rattle.server_model.specs.Servers.{Server, Cluster, server_at}
-use Rattle.server_model.specs.Work.{Hand, thread_in, with_phase}
-use Rattle.server_model.specs.NewWords.{can_grow}
-use Rattle.server_model.specs.Places.{in_slot, set_pointer}
-use Rattle.server_model.specs.Prepare.{access_of, read_or_taken}
-use Rattle.server_model.specs.Objects.{chased, waits_under, arrived_at, arrived_slot, arrived_read, arrived, instr_access}
-use Rattle.heap_law.specs.Names.{Among}
-use Rattle.heap_law.specs.Things.{Location, at_slot}
-use Rattle.heap_law.specs.Follow.{Standing, Ground, value_in, locate}
-use Rattle.heap_law.specs.Paths.{Path, reads, shares, path_of, Awaited, is_spent, to_read, to_clean}
-use Rattle.heap_law.specs.Sight.{sight}
-use Rattle.heap_law.specs.Turn.{InTurn, by_read, by_share, AwaitsAt, read_at, before_share, at_share, IsAsked}
-use Rattle.heap_law.specs.Walking.{path}
-use Rattle.heap_law.specs.Words.{IsStale}
-use Rattle.heap_law.proofs.Names.{and_left}
-use Rattle.heap_law.proofs.Passing.{paths_law}
-use Rattle.type_law.specs.ClusterTypes.{IsCoherent}
-use Rattle.event_law.specs.Laws.{Gives, FewEvents}
-use Rattle.path_law.specs.HeapStore.{GoesOn, HasPaths}
-use Rattle.path_law.proofs.Shown.{stands_there}
-use Rattle.read_law.specs.Reading.{Reads, copies, shares as shares_from, lends as lends_from, dups, locks}
-use Rattle.read_law.proofs.FreshReads.{reading_of, fresh_if}
-use Rattle.stay_law.proofs.Steps.{TakesNoneHere}
-use Rattle.word_law.specs.Soles.{IsOnly}
-use Rattle.word_law.proofs.Only.{are_only}
-use Rattle.word_law.proofs.Tints.{SlotPut, word_put}
+use Rattle.arrive_law.specs.Below.fr_base.declared.instruction.Instr.{Instr}
+use Rattle.arrive_law.specs.Below.fr_base.declared.instruction.Instr.TheVariants as instr
+use Rattle.arrive_law.specs.Below.fr_base.declared.place.Lval.{Lval}
+use Rattle.arrive_law.specs.Below.global_addr.Words.{colour_of}
+use Rattle.arrive_law.specs.Below.heap_partition.declared.value.BoxPtr.{BoxPtr}
+use Rattle.arrive_law.specs.Below.heap_partition.declared.value.Cell.{Cell}
+use Rattle.arrive_law.specs.Below.heap_partition.declared.value.Owned.{Owned}
+use Rattle.arrive_law.specs.Below.heap_partition.declared.value.Owned.TheVariants as owned
+use Rattle.arrive_law.specs.Below.mut_borrow.declared.mutable.MutRef.{MutRef}
+use Rattle.arrive_law.specs.Below.owner_box.Partition.{new_word}
+use Rattle.arrive_law.specs.Below.thread_state.View.{ThreadState}
+use Rattle.arrive_law.specs.Below.thread_state.declared.phase.Phase.TheVariants as phase
+use Rattle.arrive_law.specs.Below.thread_state.declared.value.Value.{Value}
+use Rattle.arrive_law.specs.Below.thread_state.declared.value.Value.TheVariants as value
+use Rattle.arrive_law.specs.Below.server_msgs.declared.message.Message.TheVariants.{Moved}
+use Rattle.arrive_law.specs.Below.server_model.Servers.{Server, Cluster, server_at}
+use Rattle.arrive_law.specs.Below.server_model.Work.{Hand, thread_in, with_phase}
+use Rattle.arrive_law.specs.Below.server_model.NewWords.{can_grow}
+use Rattle.arrive_law.specs.Below.server_model.Places.{in_slot, set_pointer}
+use Rattle.arrive_law.specs.Below.server_model.Prepare.{access_of, read_or_taken}
+use Rattle.arrive_law.specs.Below.server_model.Objects.{chased, waits_under, arrived_at, arrived_slot, arrived_read, arrived, instr_access}
+use Rattle.arrive_law.specs.Below.heap_law.Names.{Among}
+use Rattle.arrive_law.specs.Below.heap_law.Things.{Location, at_slot}
+use Rattle.arrive_law.specs.Below.heap_law.Follow.{Standing, Ground, value_in, locate}
+use Rattle.arrive_law.specs.Below.heap_law.Paths.{Path, reads, shares, path_of, Awaited, is_spent, to_read, to_clean}
+use Rattle.arrive_law.specs.Below.heap_law.Sight.{sight}
+use Rattle.arrive_law.specs.Below.heap_law.Turn.{InTurn, by_read, by_share, AwaitsAt, read_at, before_share, at_share, IsAsked}
+use Rattle.arrive_law.specs.Below.heap_law.Walking.{path}
+use Rattle.arrive_law.specs.Below.heap_law.Words.{IsStale}
+use Rattle.arrive_law.proofs.Below.heap_law.Names.{and_left}
+use Rattle.arrive_law.proofs.Below.heap_law.Passing.{paths_law}
+use Rattle.arrive_law.specs.Below.type_law.ClusterTypes.{IsCoherent}
+use Rattle.arrive_law.specs.Below.event_law.Laws.{Gives, FewEvents}
+use Rattle.arrive_law.specs.Below.path_law.HeapStore.{GoesOn, HasPaths}
+use Rattle.arrive_law.proofs.Below.path_law.Shown.{stands_there}
+use Rattle.rewrite_law.specs.Below.read_law.Reading.{Reads, copies, shares as shares_from, lends as lends_from, dups, locks}
+use Rattle.rewrite_law.proofs.Below.read_law.FreshReads.{reading_of, fresh_if}
+use Rattle.rewrite_law.proofs.Below.stay_law.Steps.{TakesNoneHere}
+use Rattle.rewrite_law.specs.Below.word_law.Soles.{IsOnly}
+use Rattle.rewrite_law.proofs.Below.word_law.Only.{are_only}
+use Rattle.rewrite_law.proofs.Below.word_law.Tints.{SlotPut, word_put}
 use Rattle.arrive_law.specs.Awaited.{Awaits}
 use Rattle.await_law.specs.ReadArrivals.{ReadArrivalsKeep}
 use Rattle.await_law.proofs.Landing.{before, landed, Kept, paths, on, awaits, untaken, begun_places, set_ok, in_a_slot, only_gets, got, delivered}

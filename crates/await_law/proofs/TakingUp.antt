@@ -1,42 +1,42 @@
 -- Where a thread takes an object from a pointer, what points to it in slots, temporary values and cells becomes stale, and the words hold.
 use Rattle.std.proofs.Common.{◌≡◌, ◌⊎◌, inl, inr, ⊎_elim, ℕ, zero, suc, ◌||◌, Bool, true, false, if◌then◌else◌, [], Option, Some, None, refl, sym, ap, subst, ◌∙◌, arith}
-use Rattle.fr_base.specs.declared.name.ObjNo.{ObjNo}
-use Rattle.fr_base.specs.declared.place.Lval.{Lval}
-use Rattle.heap_partition.specs.declared.value.Cell.{Cell}
-use Rattle.heap_partition.specs.declared.value.Owned.TheVariants as owned
-use Rattle.mut_borrow.specs.declared.mutable.MutRef.{MutRef}
-use Rattle.thread_state.specs.declared.value.Value.{Value}
-use Rattle.thread_state.specs.declared.value.Value.TheVariants as value
-use Rattle.server_model.specs.Servers.{Cluster}
-use Rattle.heap_law.specs.Names.{Among, one, other, same_object}
-use Rattle.heap_law.specs.Things.{Location, at_slot, in_cell, Thing, holds, shares, borrows, lies, flies, sent, things_of}
-use Rattle.heap_law.specs.Follow.{Ground, value_in, value_behind, leads}
-use Rattle.heap_law.specs.Stale.{is_among, Reference, references, holder_of, one_star_less, is_held_at, with_place, lent_places, changed_above, stale_above, taken_above}
-use Rattle.heap_law.specs.Sight.{Pointer, pointers_of, pointers_in, taken_object, taken_pointers, sight, issued}
-use Rattle.heap_law.specs.Placing.{is_first, other_first, standing_of, standing_in, standing_pointers}
-use Rattle.heap_law.specs.Coherent.{Holds, first_at_holder}
-use Rattle.heap_law.specs.Weights.{cells}
-use Rattle.heap_law.specs.Words.{all_pointers, IsStale, Fresh, HasWords, LeadsTo}
-use Rattle.heap_law.specs.Dirty.{DirtyAlone, PastWords}
-use Rattle.heap_law.proofs.Bags.{among_split}
-use Rattle.heap_law.proofs.Words.{none_at, none_all, named, itself as same_itself}
-use Rattle.path_law.specs.Pointing.{Above, made_from, made_below}
-use Rattle.path_law.proofs.InState.{only_one}
-use Rattle.path_law.proofs.Origins.{among_first, among_second}
-use Rattle.path_law.proofs.Contained.{location_itself, reference_there}
-use Rattle.path_law.proofs.FreshPaths.{held_at}
-use Rattle.path_law.proofs.Sole.{some_is}
-use Rattle.word_law.specs.Reworded.{HasPlaces}
-use Rattle.word_law.specs.Soles.{IsSole}
-use Rattle.word_law.specs.Unmoved.{Taking, takings}
-use Rattle.word_law.specs.WordsAfter.{IsNoFirst}
-use Rattle.word_law.proofs.Follows.{seen_places_lead, seen_holders_lead}
-use Rattle.word_law.proofs.Grounds.{of_borrows}
-use Rattle.word_law.proofs.Loose.{unplaced, remains, unplaced_standing}
-use Rattle.word_law.proofs.Standing.{of_thing, standing_among, pointer_at, tells, told, told_standing, stands_in, borrow_stands}
-use Rattle.word_law.proofs.Takings.{lent_by, taken_by, lents_are, takens_are, lent_listed, lent_told, taken_listed, taken_told}
-use Rattle.word_law.proofs.Words.{above_leads, taken_nowhere}
-use Rattle.prepare_law.specs.Requests.{WordsRise}
+use Rattle.arrive_law.specs.Below.fr_base.declared.name.ObjNo.{ObjNo}
+use Rattle.arrive_law.specs.Below.fr_base.declared.place.Lval.{Lval}
+use Rattle.arrive_law.specs.Below.heap_partition.declared.value.Cell.{Cell}
+use Rattle.arrive_law.specs.Below.heap_partition.declared.value.Owned.TheVariants as owned
+use Rattle.arrive_law.specs.Below.mut_borrow.declared.mutable.MutRef.{MutRef}
+use Rattle.arrive_law.specs.Below.thread_state.declared.value.Value.{Value}
+use Rattle.arrive_law.specs.Below.thread_state.declared.value.Value.TheVariants as value
+use Rattle.arrive_law.specs.Below.server_model.Servers.{Cluster}
+use Rattle.arrive_law.specs.Below.heap_law.Names.{Among, one, other, same_object}
+use Rattle.arrive_law.specs.Below.heap_law.Things.{Location, at_slot, in_cell, Thing, holds, shares, borrows, lies, flies, sent, things_of}
+use Rattle.arrive_law.specs.Below.heap_law.Follow.{Ground, value_in, value_behind, leads}
+use Rattle.arrive_law.specs.Below.heap_law.Stale.{is_among, Reference, references, holder_of, one_star_less, is_held_at, with_place, lent_places, changed_above, stale_above, taken_above}
+use Rattle.arrive_law.specs.Below.heap_law.Sight.{Pointer, pointers_of, pointers_in, taken_object, taken_pointers, sight, issued}
+use Rattle.arrive_law.specs.Below.heap_law.Placing.{is_first, other_first, standing_of, standing_in, standing_pointers}
+use Rattle.arrive_law.specs.Below.heap_law.Coherent.{Holds, first_at_holder}
+use Rattle.arrive_law.specs.Below.heap_law.Weights.{cells}
+use Rattle.arrive_law.specs.Below.heap_law.Words.{all_pointers, IsStale, Fresh, HasWords, LeadsTo}
+use Rattle.arrive_law.specs.Below.heap_law.Dirty.{DirtyAlone, PastWords}
+use Rattle.arrive_law.proofs.Below.heap_law.Bags.{among_split}
+use Rattle.arrive_law.proofs.Below.heap_law.Words.{none_at, none_all, named, itself as same_itself}
+use Rattle.arrive_law.specs.Below.path_law.Pointing.{Above, made_from, made_below}
+use Rattle.arrive_law.proofs.Below.path_law.InState.{only_one}
+use Rattle.arrive_law.proofs.Below.path_law.Origins.{among_first, among_second}
+use Rattle.arrive_law.proofs.Below.path_law.Contained.{location_itself, reference_there}
+use Rattle.arrive_law.proofs.Below.path_law.FreshPaths.{held_at}
+use Rattle.arrive_law.proofs.Below.path_law.Sole.{some_is}
+use Rattle.rewrite_law.specs.Below.word_law.Reworded.{HasPlaces}
+use Rattle.rewrite_law.specs.Below.word_law.Soles.{IsSole}
+use Rattle.rewrite_law.specs.Below.word_law.Unmoved.{Taking, takings}
+use Rattle.rewrite_law.specs.Below.word_law.WordsAfter.{IsNoFirst}
+use Rattle.rewrite_law.proofs.Below.word_law.Follows.{seen_places_lead, seen_holders_lead}
+use Rattle.rewrite_law.proofs.Below.word_law.Grounds.{of_borrows}
+use Rattle.rewrite_law.proofs.Below.word_law.Loose.{unplaced, remains, unplaced_standing}
+use Rattle.rewrite_law.proofs.Below.word_law.Standing.{of_thing, standing_among, pointer_at, tells, told, told_standing, stands_in, borrow_stands}
+use Rattle.rewrite_law.proofs.Below.word_law.Takings.{lent_by, taken_by, lents_are, takens_are, lent_listed, lent_told, taken_listed, taken_told}
+use Rattle.rewrite_law.proofs.Below.word_law.Words.{above_leads, taken_nowhere}
+use Rattle.rewrite_law.specs.Below.prepare_law.Requests.{WordsRise}
 use Rattle.await_law.specs.TakenUp.{TakenUp, TakingKeeps}
 
 -- the words with one changed

@@ -1,19 +1,19 @@
 -- What threads have taken, by their turns, and where one of them takes an object.
 use Rattle.std.proofs.Common.{◌≡◌, ◌⊎◌, inl, inr, ⊎_elim, ℕ, false, List, [], ◌∷◌, ◌++◌, map, Option, Some, None, refl, sym, ap, subst, ◌∙◌}
 use Rattle.std.specs.Prelude.{slice_get}
-use Rattle.fr_base.specs.declared.instruction.Instr.{Instr}
-use Rattle.fr_base.specs.declared.instruction.Instr.TheVariants as instr
-use Rattle.thread_state.specs.View.{ThreadState}
-use Rattle.thread_state.specs.declared.phase.Phase.{Phase}
-use Rattle.thread_state.specs.declared.phase.Phase.TheVariants as phase
-use Rattle.heap_law.specs.Names.{Among}
-use Rattle.heap_law.specs.Things.{Thing, thread_things}
-use Rattle.heap_law.specs.Follow.{Standing, threads_in}
-use Rattle.path_law.proofs.Contained.{rest_none}
-use Rattle.path_law.proofs.Origins.{threads_joined}
-use Rattle.word_law.specs.Reworded.{taken_word, Turn, turn_of}
-use Rattle.word_law.specs.Unmoved.{Taking, taking_by, taking_of, with_taking, takings}
-use Rattle.word_law.proofs.Put.{Split}
+use Rattle.arrive_law.specs.Below.fr_base.declared.instruction.Instr.{Instr}
+use Rattle.arrive_law.specs.Below.fr_base.declared.instruction.Instr.TheVariants as instr
+use Rattle.arrive_law.specs.Below.thread_state.View.{ThreadState}
+use Rattle.arrive_law.specs.Below.thread_state.declared.phase.Phase.{Phase}
+use Rattle.arrive_law.specs.Below.thread_state.declared.phase.Phase.TheVariants as phase
+use Rattle.arrive_law.specs.Below.heap_law.Names.{Among}
+use Rattle.arrive_law.specs.Below.heap_law.Things.{Thing, thread_things}
+use Rattle.arrive_law.specs.Below.heap_law.Follow.{Standing, threads_in}
+use Rattle.arrive_law.proofs.Below.path_law.Contained.{rest_none}
+use Rattle.arrive_law.proofs.Below.path_law.Origins.{threads_joined}
+use Rattle.rewrite_law.specs.Below.word_law.Reworded.{taken_word, Turn, turn_of}
+use Rattle.rewrite_law.specs.Below.word_law.Unmoved.{Taking, taking_by, taking_of, with_taking, takings}
+use Rattle.rewrite_law.proofs.Below.word_law.Put.{Split}
 
 -- BY THEIR TURNS
 

@@ -1,35 +1,35 @@
 -- An object that comes to an assignment or a move through stars.
 use Rattle.std.proofs.Common.{◌≡◌, ◌≤◌, ◌<◌, ℕ, suc, ◌-◌, true, false, Some, refl, ap, subst, ◌∙◌, sym, arith}
 use Rattle.std.specs.Prelude.{slice_get}
-use Rattle.fr_base.specs.declared.name.ObjNo.{ObjNo}
-use Rattle.fr_base.specs.declared.instruction.Instr.{Instr}
-use Rattle.fr_base.specs.declared.place.Lval.{Lval}
-use Rattle.fr_store.specs.Keys.{slot_k}
-use Rattle.heap_partition.specs.declared.value.Cell.{Cell}
-use Rattle.owner_box.specs.Partition.{new_word}
-use Rattle.thread_state.specs.View.{ThreadState}
-use Rattle.thread_state.specs.declared.phase.Phase.TheVariants as phase
-use Rattle.server_msgs.specs.declared.message.Message.TheVariants.{Moved}
-use Rattle.server_model.specs.Servers.{Server, Cluster, server_at}
-use Rattle.server_model.specs.Work.{thread_in}
-use Rattle.server_model.specs.NewWords.{can_grow}
-use Rattle.server_model.specs.Prepare.{WriteTo, access_of, assigned, read_or_taken}
-use Rattle.server_model.specs.Objects.{arrived, instr_access}
-use Rattle.heap_law.specs.Things.{Location, in_cell}
-use Rattle.heap_law.specs.Follow.{Standing, value_in, value_behind, leads, locate}
-use Rattle.heap_law.specs.Paths.{Path, writes, path_of, assigning, taking, written_place, Awaited}
-use Rattle.heap_law.specs.Sight.{sight}
-use Rattle.heap_law.specs.Turn.{InTurn, by_write, NextHop}
-use Rattle.heap_law.specs.Walking.{path}
-use Rattle.heap_law.specs.Words.{IsStale}
-use Rattle.type_law.specs.ClusterTypes.{IsCoherent}
-use Rattle.event_law.specs.Laws.{Gives, FewEvents}
-use Rattle.path_law.specs.HeapStore.{GoesOn, HasPaths}
-use Rattle.path_law.specs.Pointing.{MayWrite}
-use Rattle.path_law.proofs.Circles.{shorter}
-use Rattle.path_law.proofs.MayWrites.{may_write_there}
-use Rattle.word_law.specs.Soles.{IsSole}
-use Rattle.word_law.proofs.Alone.{written_are_sole}
+use Rattle.arrive_law.specs.Below.fr_base.declared.name.ObjNo.{ObjNo}
+use Rattle.arrive_law.specs.Below.fr_base.declared.instruction.Instr.{Instr}
+use Rattle.arrive_law.specs.Below.fr_base.declared.place.Lval.{Lval}
+use Rattle.arrive_law.specs.Below.fr_store.Keys.{slot_k}
+use Rattle.arrive_law.specs.Below.heap_partition.declared.value.Cell.{Cell}
+use Rattle.arrive_law.specs.Below.owner_box.Partition.{new_word}
+use Rattle.arrive_law.specs.Below.thread_state.View.{ThreadState}
+use Rattle.arrive_law.specs.Below.thread_state.declared.phase.Phase.TheVariants as phase
+use Rattle.arrive_law.specs.Below.server_msgs.declared.message.Message.TheVariants.{Moved}
+use Rattle.arrive_law.specs.Below.server_model.Servers.{Server, Cluster, server_at}
+use Rattle.arrive_law.specs.Below.server_model.Work.{thread_in}
+use Rattle.arrive_law.specs.Below.server_model.NewWords.{can_grow}
+use Rattle.arrive_law.specs.Below.server_model.Prepare.{WriteTo, access_of, assigned, read_or_taken}
+use Rattle.arrive_law.specs.Below.server_model.Objects.{arrived, instr_access}
+use Rattle.arrive_law.specs.Below.heap_law.Things.{Location, in_cell}
+use Rattle.arrive_law.specs.Below.heap_law.Follow.{Standing, value_in, value_behind, leads, locate}
+use Rattle.arrive_law.specs.Below.heap_law.Paths.{Path, writes, path_of, assigning, taking, written_place, Awaited}
+use Rattle.arrive_law.specs.Below.heap_law.Sight.{sight}
+use Rattle.arrive_law.specs.Below.heap_law.Turn.{InTurn, by_write, NextHop}
+use Rattle.arrive_law.specs.Below.heap_law.Walking.{path}
+use Rattle.arrive_law.specs.Below.heap_law.Words.{IsStale}
+use Rattle.arrive_law.specs.Below.type_law.ClusterTypes.{IsCoherent}
+use Rattle.arrive_law.specs.Below.event_law.Laws.{Gives, FewEvents}
+use Rattle.arrive_law.specs.Below.path_law.HeapStore.{GoesOn, HasPaths}
+use Rattle.arrive_law.specs.Below.path_law.Pointing.{MayWrite}
+use Rattle.arrive_law.proofs.Below.path_law.Circles.{shorter}
+use Rattle.arrive_law.proofs.Below.path_law.MayWrites.{may_write_there}
+use Rattle.rewrite_law.specs.Below.word_law.Soles.{IsSole}
+use Rattle.rewrite_law.proofs.Below.word_law.Alone.{written_are_sole}
 use Rattle.rewrite_law.specs.Writing.{WritesThrough, assigns, moves}
 use Rattle.rewrite_law.proofs.Ways.{writes_to}
 use Rattle.arrive_law.specs.Awaited.{Awaits}

@@ -1,20 +1,20 @@
 -- AN OBJECT COMES TO THE END OF ITS REFERENCE, and the words hold (this project's rules).
 use Rattle.std.specs.Prelude.{◌≡◌, ◌⊎◌, ℕ, Some, slice_get}
-use Rattle.fr_base.specs.declared.instruction.Instr.{Instr}
-use Rattle.heap_partition.specs.declared.value.Cell.{Cell}
-use Rattle.journal.specs.View.{EntryView}
-use Rattle.mut_borrow.specs.declared.mutable.MutRef.{MutRef}
-use Rattle.thread_state.specs.View.{ThreadState}
-use Rattle.thread_state.specs.declared.value.Value.TheVariants as value
-use Rattle.server_msgs.specs.declared.message.Message.TheVariants.{Moved}
-use Rattle.server_model.specs.declared.event.What.TheVariants.{Deliver}
-use Rattle.server_model.specs.Servers.{Server, Cluster, server_at}
-use Rattle.server_model.specs.Work.{thread_in}
-use Rattle.server_model.specs.Clusters.{apply}
-use Rattle.type_law.specs.ClusterTypes.{IsCoherent}
-use Rattle.path_law.specs.Pointing.{EndsSlot}
-use Rattle.event_law.specs.Laws.{Gives, FewEvents}
-use Rattle.prepare_law.specs.Requests.{WordsRise}
+use Rattle.arrive_law.specs.Below.fr_base.declared.instruction.Instr.{Instr}
+use Rattle.arrive_law.specs.Below.heap_partition.declared.value.Cell.{Cell}
+use Rattle.arrive_law.specs.Below.journal.View.{EntryView}
+use Rattle.arrive_law.specs.Below.mut_borrow.declared.mutable.MutRef.{MutRef}
+use Rattle.arrive_law.specs.Below.thread_state.View.{ThreadState}
+use Rattle.arrive_law.specs.Below.thread_state.declared.value.Value.TheVariants as value
+use Rattle.arrive_law.specs.Below.server_msgs.declared.message.Message.TheVariants.{Moved}
+use Rattle.arrive_law.specs.Below.server_model.declared.event.What.TheVariants.{Deliver}
+use Rattle.arrive_law.specs.Below.server_model.Servers.{Server, Cluster, server_at}
+use Rattle.arrive_law.specs.Below.server_model.Work.{thread_in}
+use Rattle.arrive_law.specs.Below.server_model.Clusters.{apply}
+use Rattle.arrive_law.specs.Below.type_law.ClusterTypes.{IsCoherent}
+use Rattle.arrive_law.specs.Below.path_law.Pointing.{EndsSlot}
+use Rattle.arrive_law.specs.Below.event_law.Laws.{Gives, FewEvents}
+use Rattle.rewrite_law.specs.Below.prepare_law.Requests.{WordsRise}
 
 -- the message brings the object of a mutable reference to its thread, at an instruction that ends that in its slot: it has the message's word, or was made from the pointer in
 -- a variable, for which nothing is waited for

@@ -1,20 +1,20 @@
 -- A THREAD TAKES AN OBJECT from a pointer for its mutable borrow (this project's rule): nothing that stands anywhere changes, and the word stands in the thread's phase.
 use Rattle.std.specs.Prelude.{◌≡◌, ◌⊎◌, ℕ, true, false, Some}
-use Rattle.fr_base.specs.declared.name.ObjNo.{ObjNo}
-use Rattle.heap_partition.specs.declared.value.Cell.{Cell}
-use Rattle.server_model.specs.Servers.{Cluster}
-use Rattle.heap_law.specs.Names.{Among}
-use Rattle.heap_law.specs.Things.{Location, Thing, in_cell, lies, things_of}
-use Rattle.heap_law.specs.Follow.{value_in, place_at}
-use Rattle.heap_law.specs.Stale.{one_star_less}
-use Rattle.heap_law.specs.Sight.{sight, issued}
-use Rattle.heap_law.specs.Weights.{cells}
-use Rattle.heap_law.specs.Words.{IsStale, LeadsTo}
-use Rattle.word_law.specs.Reworded.{HasPlaces, LiesThere, is_loose}
-use Rattle.word_law.specs.Soles.{IsSole}
-use Rattle.word_law.specs.Unmoved.{Taking, takings}
-use Rattle.word_law.specs.WordsAfter.{IsNoFirst}
-use Rattle.prepare_law.specs.Requests.{WordsRise}
+use Rattle.arrive_law.specs.Below.fr_base.declared.name.ObjNo.{ObjNo}
+use Rattle.arrive_law.specs.Below.heap_partition.declared.value.Cell.{Cell}
+use Rattle.arrive_law.specs.Below.server_model.Servers.{Cluster}
+use Rattle.arrive_law.specs.Below.heap_law.Names.{Among}
+use Rattle.arrive_law.specs.Below.heap_law.Things.{Location, Thing, in_cell, lies, things_of}
+use Rattle.arrive_law.specs.Below.heap_law.Follow.{value_in, place_at}
+use Rattle.arrive_law.specs.Below.heap_law.Stale.{one_star_less}
+use Rattle.arrive_law.specs.Below.heap_law.Sight.{sight, issued}
+use Rattle.arrive_law.specs.Below.heap_law.Weights.{cells}
+use Rattle.arrive_law.specs.Below.heap_law.Words.{IsStale, LeadsTo}
+use Rattle.rewrite_law.specs.Below.word_law.Reworded.{HasPlaces, LiesThere, is_loose}
+use Rattle.rewrite_law.specs.Below.word_law.Soles.{IsSole}
+use Rattle.rewrite_law.specs.Below.word_law.Unmoved.{Taking, takings}
+use Rattle.rewrite_law.specs.Below.word_law.WordsAfter.{IsNoFirst}
+use Rattle.rewrite_law.specs.Below.prepare_law.Requests.{WordsRise}
 
 pub record TakenUp (k z : Cluster) (h : Location) (o : ObjNo) (t : Taking) : Type 0 where
   pub code : z.code ≡ k.code

@@ -1,22 +1,22 @@
 -- A reference that is cleaned leaves a later partition.
 use Rattle.std.proofs.Common.{◌≡◌, ℕ, ◌==◌, nat_lt, Bool, true, false, if◌then◌else◌, Option, Some, None, refl, sym, ap, subst, ◌∙◌}
 use Rattle.std.specs.Bool.{⊤}
-use Rattle.fr_base.specs.Lists.{last_of}
-use Rattle.global_addr.specs.Words.{colour_of, server_of}
-use Rattle.mut_borrow.specs.Refs.{cleaned_answer}
-use Rattle.mut_borrow.specs.declared.mutable.Cleaned.{Cleaned}
-use Rattle.mut_borrow.specs.declared.mutable.Cleaned.TheVariants as cleaned
-use Rattle.mut_borrow.specs.declared.mutable.MutRef.{MutRef}
-use Rattle.owner_box.specs.View.{PartitionState}
-use Rattle.thread_state.specs.declared.value.Value.{Value}
-use Rattle.thread_state.specs.declared.value.Value.TheVariants as value
-use Rattle.server_model.specs.Servers.{Rest}
-use Rattle.server_model.specs.Work.{Hand, then_some}
-use Rattle.server_model.specs.NewWords.{NewWord, issue_tint, issue_renewal}
-use Rattle.server_model.specs.Places.{Spot, in_slot, on_top, put_at, with_word, put_word}
-use Rattle.server_model.specs.Prepare.{ready, requested, nothing, ready_at, ask_object, box_of, cleaned_by, clean_value}
-use Rattle.rewrite_law.proofs.Later.{Later, later_itself, later_renewed}
-use Rattle.rewrite_law.proofs.Hops.{renewed_work}
+use Rattle.fresh_law.specs.Below.fr_base.Lists.{last_of}
+use Rattle.fresh_law.specs.Below.global_addr.Words.{colour_of, server_of}
+use Rattle.fresh_law.specs.Below.mut_borrow.Refs.{cleaned_answer}
+use Rattle.fresh_law.specs.Below.mut_borrow.declared.mutable.Cleaned.{Cleaned}
+use Rattle.fresh_law.specs.Below.mut_borrow.declared.mutable.Cleaned.TheVariants as cleaned
+use Rattle.fresh_law.specs.Below.mut_borrow.declared.mutable.MutRef.{MutRef}
+use Rattle.fresh_law.specs.Below.owner_box.View.{PartitionState}
+use Rattle.fresh_law.specs.Below.thread_state.declared.value.Value.{Value}
+use Rattle.fresh_law.specs.Below.thread_state.declared.value.Value.TheVariants as value
+use Rattle.fresh_law.specs.Below.server_model.Servers.{Rest}
+use Rattle.fresh_law.specs.Below.server_model.Work.{Hand, then_some}
+use Rattle.fresh_law.specs.Below.server_model.NewWords.{NewWord, issue_tint, issue_renewal}
+use Rattle.fresh_law.specs.Below.server_model.Places.{Spot, in_slot, on_top, put_at, with_word, put_word}
+use Rattle.fresh_law.specs.Below.server_model.Prepare.{ready, requested, nothing, ready_at, ask_object, box_of, cleaned_by, clean_value}
+use Rattle.land_law.proofs.Below.rewrite_law.Later.{Later, later_itself, later_renewed}
+use Rattle.land_law.proofs.Below.rewrite_law.Hops.{renewed_work}
 use Rattle.bare_law.proofs.Good.{sets_slot}
 
 -- in a slot, or on top of the temporary values

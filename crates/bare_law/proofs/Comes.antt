@@ -1,49 +1,49 @@
 -- An object that comes: the pointer at which the thread waits gets a word that wasn't issued, and what the thread has passed are boxes with good words.
 use Rattle.std.proofs.Common.{◌≡◌, ◌⊎◌, inl, inr, ℕ, zero, suc, ◌+◌, ◌-◌, ◌≤◌, ◌==◌, nat_le, Bool, true, false, if◌then◌else◌, List, length, Option, Some, None, refl, sym, ap, subst, ◌∙◌, arith}
 use Rattle.std.specs.Prelude.{slice_get}
-use Rattle.fr_base.specs.Lists.{last_of}
-use Rattle.fr_base.specs.declared.name.ObjNo.{ObjNo}
-use Rattle.fr_base.specs.declared.place.Lval.{Lval}
-use Rattle.fr_base.specs.declared.instruction.Instr.{Instr}
-use Rattle.fr_base.specs.declared.instruction.Instr.TheVariants as instr
-use Rattle.heap_partition.specs.declared.value.Cell.{Cell}
-use Rattle.mut_borrow.specs.declared.mutable.MutRef.{MutRef}
-use Rattle.owner_box.specs.View.{PartitionState}
-use Rattle.owner_box.specs.Partition.{made, new_word}
-use Rattle.thread_state.specs.View.{ThreadState}
-use Rattle.thread_state.specs.declared.phase.Phase.TheVariants as phase
-use Rattle.thread_state.specs.declared.value.Value.{Value}
-use Rattle.thread_state.specs.declared.value.Value.TheVariants as value
-use Rattle.journal.specs.declared.act.Act.TheVariants as act
-use Rattle.server_model.specs.Servers.{Rest, Server, Cluster, server_at}
-use Rattle.server_model.specs.Work.{Work, Hand, receive, thread_in, then_some, with_phase}
-use Rattle.server_model.specs.NewWords.{NewWord, can_grow, issue_placed}
-use Rattle.server_model.specs.Places.{Spot, in_slot, on_top, value_at, set_pointer}
-use Rattle.server_model.specs.Prepare as steps_of
-use Rattle.server_model.specs.Prepare.{Access, ReadTo, ReadPointer, WriteTo, LendTo, EndRef, Prepared, ready, requested, nothing, access_of, passing, write_stars}
-use Rattle.server_model.specs.Objects.{waits_for_cell, chased, waits_under, arrived_at, arrived_slot, passed_spot, arrived_write, arrived_lend, arrived_end, arrived, instr_access, deliver_moved}
-use Rattle.server_model.specs.Events.{received}
-use Rattle.heap_law.specs.Names.{other}
-use Rattle.heap_law.specs.Things.{Location, at_slot}
-use Rattle.heap_law.specs.Follow.{Standing, Ground, cell_of, locate}
-use Rattle.heap_law.specs.Paths as paths_of
-use Rattle.heap_law.specs.Paths.{path_of, written_place}
-use Rattle.heap_law.specs.Sight.{sight}
-use Rattle.heap_law.specs.Walking.{path, hop_count, too_far}
-use Rattle.heap_law.proofs.Words.{none_at}
-use Rattle.type_law.specs.ClusterTypes.{IsCoherent}
-use Rattle.event_law.specs.Laws.{Gives, FewEvents}
-use Rattle.event_law.proofs.Each.{at_most}
-use Rattle.event_law.proofs.Results.{map_gives, test_gives, bind_gives, given_by}
-use Rattle.path_law.specs.HeapStore.{GoesOn, HasPaths}
-use Rattle.path_law.proofs.Alike.{coherent_has_paths}
-use Rattle.path_law.proofs.Sole.{some_is}
-use Rattle.end_law.proofs.Fresh.{writing}
-use Rattle.write_law.proofs.Memory.{Leads, made_leads, made_longer}
-use Rattle.write_law.proofs.Route.{Route, begins, At, a_slot, a_cell, Fine, Writing, all_hops, rerouted}
-use Rattle.write_law.proofs.Routes.{road, sane_at, roomy_at}
-use Rattle.write_law.proofs.Written.{IsFollowed, follows, short_place, may_pass, passed_lies}
-use Rattle.write_law.proofs.Passed.{on}
+use Rattle.fresh_law.specs.Below.fr_base.Lists.{last_of}
+use Rattle.fresh_law.specs.Below.fr_base.declared.name.ObjNo.{ObjNo}
+use Rattle.fresh_law.specs.Below.fr_base.declared.place.Lval.{Lval}
+use Rattle.fresh_law.specs.Below.fr_base.declared.instruction.Instr.{Instr}
+use Rattle.fresh_law.specs.Below.fr_base.declared.instruction.Instr.TheVariants as instr
+use Rattle.fresh_law.specs.Below.heap_partition.declared.value.Cell.{Cell}
+use Rattle.fresh_law.specs.Below.mut_borrow.declared.mutable.MutRef.{MutRef}
+use Rattle.fresh_law.specs.Below.owner_box.View.{PartitionState}
+use Rattle.fresh_law.specs.Below.owner_box.Partition.{made, new_word}
+use Rattle.fresh_law.specs.Below.thread_state.View.{ThreadState}
+use Rattle.fresh_law.specs.Below.thread_state.declared.phase.Phase.TheVariants as phase
+use Rattle.fresh_law.specs.Below.thread_state.declared.value.Value.{Value}
+use Rattle.fresh_law.specs.Below.thread_state.declared.value.Value.TheVariants as value
+use Rattle.fresh_law.specs.Below.journal.declared.act.Act.TheVariants as act
+use Rattle.fresh_law.specs.Below.server_model.Servers.{Rest, Server, Cluster, server_at}
+use Rattle.fresh_law.specs.Below.server_model.Work.{Work, Hand, receive, thread_in, then_some, with_phase}
+use Rattle.fresh_law.specs.Below.server_model.NewWords.{NewWord, can_grow, issue_placed}
+use Rattle.fresh_law.specs.Below.server_model.Places.{Spot, in_slot, on_top, value_at, set_pointer}
+use Rattle.fresh_law.specs.Below.server_model.Prepare as steps_of
+use Rattle.fresh_law.specs.Below.server_model.Prepare.{Access, ReadTo, ReadPointer, WriteTo, LendTo, EndRef, Prepared, ready, requested, nothing, access_of, passing, write_stars}
+use Rattle.fresh_law.specs.Below.server_model.Objects.{waits_for_cell, chased, waits_under, arrived_at, arrived_slot, passed_spot, arrived_write, arrived_lend, arrived_end, arrived, instr_access, deliver_moved}
+use Rattle.fresh_law.specs.Below.server_model.Events.{received}
+use Rattle.fresh_law.specs.Below.heap_law.Names.{other}
+use Rattle.fresh_law.specs.Below.heap_law.Things.{Location, at_slot}
+use Rattle.fresh_law.specs.Below.heap_law.Follow.{Standing, Ground, cell_of, locate}
+use Rattle.fresh_law.specs.Below.heap_law.Paths as paths_of
+use Rattle.fresh_law.specs.Below.heap_law.Paths.{path_of, written_place}
+use Rattle.fresh_law.specs.Below.heap_law.Sight.{sight}
+use Rattle.fresh_law.specs.Below.heap_law.Walking.{path, hop_count, too_far}
+use Rattle.fresh_law.proofs.Below.heap_law.Words.{none_at}
+use Rattle.fresh_law.specs.Below.type_law.ClusterTypes.{IsCoherent}
+use Rattle.fresh_law.specs.Below.event_law.Laws.{Gives, FewEvents}
+use Rattle.fresh_law.proofs.Below.event_law.Each.{at_most}
+use Rattle.fresh_law.proofs.Below.event_law.Results.{map_gives, test_gives, bind_gives, given_by}
+use Rattle.fresh_law.specs.Below.path_law.HeapStore.{GoesOn, HasPaths}
+use Rattle.fresh_law.proofs.Below.path_law.Alike.{coherent_has_paths}
+use Rattle.fresh_law.proofs.Below.path_law.Sole.{some_is}
+use Rattle.land_law.proofs.Below.end_law.Fresh.{writing}
+use Rattle.land_law.proofs.Below.write_law.Memory.{Leads, made_leads, made_longer}
+use Rattle.land_law.proofs.Below.write_law.Route.{Route, begins, At, a_slot, a_cell, Fine, Writing, all_hops, rerouted}
+use Rattle.land_law.proofs.Below.write_law.Routes.{road, sane_at, roomy_at}
+use Rattle.land_law.proofs.Below.write_law.Written.{IsFollowed, follows, short_place, may_pass, passed_lies}
+use Rattle.land_law.proofs.Below.write_law.Passed.{on}
 use Rattle.bare_law.proofs.Good.{GoodAt, GoodCell, sets_slot, sets_cell, Keeps, sets_keep, sets_any}
 
 -- WHICH PLACE IS WRITTEN

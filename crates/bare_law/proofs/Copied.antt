@@ -2,26 +2,26 @@
 use Rattle.std.proofs.Common.{◌≡◌, ℕ, ◌+◌, ◌*◌, ◌≤◌, ◌==◌, Bool, true, false, List, [], ◌∷◌, Some, refl, sym, ap, ◌∙◌, arith}
 use Rattle.std.proofs.lemmas.Bool.{eqb-true}
 use Rattle.std.specs.Prelude.{slice_get}
-use Rattle.fr_base.specs.declared.name.ObjNo.{ObjNo}
-use Rattle.heap_partition.specs.declared.value.Cell.{Cell}
-use Rattle.journal.specs.View.{EntryView}
-use Rattle.server_msgs.specs.declared.message.Message.{Message}
-use Rattle.server_msgs.specs.declared.message.Message.TheVariants as message
-use Rattle.server_model.specs.declared.event.Event.{Event}
-use Rattle.server_model.specs.Servers.{Server, Cluster, server_at}
-use Rattle.server_model.specs.Clusters.{apply}
-use Rattle.heap_law.specs.Names.{tot, one, other}
-use Rattle.heap_law.specs.Things.{Thing, copied, sent, things_of}
-use Rattle.heap_law.specs.Placing.{words}
-use Rattle.heap_law.specs.Sight.{sight, issued}
-use Rattle.heap_law.specs.Weights.{copies}
-use Rattle.heap_law.specs.Coherent.{IsSound}
-use Rattle.event_law.specs.Laws.{Gives, FewEvents}
-use Rattle.event_law.proofs.MutexResults.{has}
-use Rattle.event_law.proofs.Results.{weaker}
-use Rattle.local_law.proofs.Messages.{on_sent}
-use Rattle.value_law.proofs.Sums.{copy_of}
-use Rattle.copy_law.proofs.Comes.{copies_come}
+use Rattle.fresh_law.specs.Below.fr_base.declared.name.ObjNo.{ObjNo}
+use Rattle.fresh_law.specs.Below.heap_partition.declared.value.Cell.{Cell}
+use Rattle.fresh_law.specs.Below.journal.View.{EntryView}
+use Rattle.fresh_law.specs.Below.server_msgs.declared.message.Message.{Message}
+use Rattle.fresh_law.specs.Below.server_msgs.declared.message.Message.TheVariants as message
+use Rattle.fresh_law.specs.Below.server_model.declared.event.Event.{Event}
+use Rattle.fresh_law.specs.Below.server_model.Servers.{Server, Cluster, server_at}
+use Rattle.fresh_law.specs.Below.server_model.Clusters.{apply}
+use Rattle.fresh_law.specs.Below.heap_law.Names.{tot, one, other}
+use Rattle.fresh_law.specs.Below.heap_law.Things.{Thing, copied, sent, things_of}
+use Rattle.fresh_law.specs.Below.heap_law.Placing.{words}
+use Rattle.fresh_law.specs.Below.heap_law.Sight.{sight, issued}
+use Rattle.fresh_law.specs.Below.heap_law.Weights.{copies}
+use Rattle.fresh_law.specs.Below.heap_law.Coherent.{IsSound}
+use Rattle.fresh_law.specs.Below.event_law.Laws.{Gives, FewEvents}
+use Rattle.fresh_law.proofs.Below.event_law.MutexResults.{has}
+use Rattle.fresh_law.proofs.Below.event_law.Results.{weaker}
+use Rattle.way_law.proofs.Below.local_law.Messages.{on_sent}
+use Rattle.way_law.proofs.Below.value_law.Sums.{copy_of}
+use Rattle.fresh_law.proofs.Below.copy_law.Comes.{copies_come}
 use Rattle.fresh_law.proofs.Below.clean_law.Asked.{asking}
 use Rattle.fresh_law.proofs.Turned.{Unasked}
 use Rattle.bare_law.specs.Passed.{NewStayUncopied}
@@ -52,7 +52,7 @@ none_comes k e sound few w none unasked =
     weaker (λ (d : Cluster × EntryView). tot (copy_of (under w) nothing) (things_of d.0) ≡ 0) (λ (d : Cluster × EntryView). tot (copies w) (things_of d.0) ≡ 0) (apply k e)
     (copies_come k e (under w) nothing sound few (all_same w (things_of k) ∙ none) served (λ s here t y i what at code follows p. refl)) (λ d z. sym (all_same w (things_of d.0)) ∙ z)
   where
-    served : (number : ℕ) (s : Server) → server_at k.servers number ≡ Some s → (i v : ℕ) (o : ObjNo) (r t : ℕ) (c : Cell) → slice_get s.rest.inbox i ≡ Some (message.Fetch v o r t) → Rattle.server_model.specs.Work.look_object s.rest.partition v o ≡ Some c → under w v c ≡ 0
+    served : (number : ℕ) (s : Server) → server_at k.servers number ≡ Some s → (i v : ℕ) (o : ObjNo) (r t : ℕ) (c : Cell) → slice_get s.rest.inbox i ≡ Some (message.Fetch v o r t) → Rattle.fresh_law.specs.Below.server_model.Work.look_object s.rest.partition v o ≡ Some c → under w v c ≡ 0
     served number s here i v o r t c q l =
         let more = has k sound number s here i (message.Fetch v o r t) q (on_sent (asking (λ u. one (u == w)))) in
         omega (arith, more, unasked)

@@ -1,43 +1,43 @@
 -- A step that ends a mutable reference and asks for something on its way: of what it has passed of its holder's place no copy exists.
 use Rattle.std.proofs.Common.{◌≡◌, ℕ, ◌<◌, ◌≤◌, nat_le, length, Option, Some, None, refl, sym, ap, subst, ◌∙◌, arith}
 use Rattle.std.specs.Prelude.{slice_get}
-use Rattle.fr_base.specs.Lists.{last_of}
-use Rattle.fr_base.specs.declared.name.ObjNo.{ObjNo}
-use Rattle.fr_base.specs.declared.place.Lval.{Lval}
-use Rattle.fr_base.specs.declared.instruction.Instr.{Instr}
-use Rattle.global_addr.specs.Words.{server_of}
-use Rattle.heap_partition.specs.declared.value.Cell.{Cell}
-use Rattle.journal.specs.View.{EntryView}
-use Rattle.mut_borrow.specs.Refs.{finish_word}
-use Rattle.mut_borrow.specs.declared.mutable.MutRef.{MutRef}
-use Rattle.thread_state.specs.View.{ThreadState}
-use Rattle.thread_state.specs.declared.phase.Phase.TheVariants as phase
-use Rattle.thread_state.specs.declared.value.Value.TheVariants as value
-use Rattle.server_msgs.specs.declared.message.Message.TheVariants as message
-use Rattle.server_model.specs.Servers.{Rest, Server, Cluster}
-use Rattle.server_model.specs.Work.{Hand}
-use Rattle.server_model.specs.Places.{Spot, in_slot, value_at}
-use Rattle.server_model.specs.Prepare.{EndRef, Prepared, ready, requested, nothing, and_then, unlabelled, follow_ended, follow_holder, clean_value, access_of, prepare, write_stars}
-use Rattle.server_model.specs.Events.{Stepped, begin_work, wait_step}
-use Rattle.heap_law.specs.Names.{other}
-use Rattle.heap_law.specs.Things.{Location, at_slot}
-use Rattle.heap_law.specs.Follow.{Standing, Ground, value_in, slot_of, locate}
-use Rattle.heap_law.specs.Paths.{ends, path_of, written_place}
-use Rattle.heap_law.specs.Sight.{sight}
-use Rattle.heap_law.specs.Walking.{path, over_hops, over_place, over_passed, copied_box, hop_count, too_far}
-use Rattle.heap_law.proofs.Words.{none_at}
-use Rattle.path_law.specs.HeapStore.{GoesOn, HasPaths}
-use Rattle.path_law.proofs.Alike.{IsShown, a_slot as shown_slot, an_object, leads_in_heap}
-use Rattle.path_law.proofs.Shown.{stands_there}
-use Rattle.word_law.specs.Reworded.{HasPlaces}
-use Rattle.event_law.proofs.Each.{at_most}
-use Rattle.end_law.proofs.Ends.{EndsAt}
-use Rattle.result_law.proofs.Known.{Steps, standing, paths, goes}
-use Rattle.write_law.proofs.Memory.{Leads}
-use Rattle.write_law.proofs.Route.{Route}
-use Rattle.write_law.proofs.Holders.{C, at, route, slot_away}
-use Rattle.write_law.proofs.Ends.{value_of_thread, RefAt as StandsAt, in_its_slot, on_its_top}
-use Rattle.rewrite_law.proofs.Later.{Later, later_itself}
+use Rattle.fresh_law.specs.Below.fr_base.Lists.{last_of}
+use Rattle.fresh_law.specs.Below.fr_base.declared.name.ObjNo.{ObjNo}
+use Rattle.fresh_law.specs.Below.fr_base.declared.place.Lval.{Lval}
+use Rattle.fresh_law.specs.Below.fr_base.declared.instruction.Instr.{Instr}
+use Rattle.fresh_law.specs.Below.global_addr.Words.{server_of}
+use Rattle.fresh_law.specs.Below.heap_partition.declared.value.Cell.{Cell}
+use Rattle.fresh_law.specs.Below.journal.View.{EntryView}
+use Rattle.fresh_law.specs.Below.mut_borrow.Refs.{finish_word}
+use Rattle.fresh_law.specs.Below.mut_borrow.declared.mutable.MutRef.{MutRef}
+use Rattle.fresh_law.specs.Below.thread_state.View.{ThreadState}
+use Rattle.fresh_law.specs.Below.thread_state.declared.phase.Phase.TheVariants as phase
+use Rattle.fresh_law.specs.Below.thread_state.declared.value.Value.TheVariants as value
+use Rattle.fresh_law.specs.Below.server_msgs.declared.message.Message.TheVariants as message
+use Rattle.fresh_law.specs.Below.server_model.Servers.{Rest, Server, Cluster}
+use Rattle.fresh_law.specs.Below.server_model.Work.{Hand}
+use Rattle.fresh_law.specs.Below.server_model.Places.{Spot, in_slot, value_at}
+use Rattle.fresh_law.specs.Below.server_model.Prepare.{EndRef, Prepared, ready, requested, nothing, and_then, unlabelled, follow_ended, follow_holder, clean_value, access_of, prepare, write_stars}
+use Rattle.fresh_law.specs.Below.server_model.Events.{Stepped, begin_work, wait_step}
+use Rattle.fresh_law.specs.Below.heap_law.Names.{other}
+use Rattle.fresh_law.specs.Below.heap_law.Things.{Location, at_slot}
+use Rattle.fresh_law.specs.Below.heap_law.Follow.{Standing, Ground, value_in, slot_of, locate}
+use Rattle.fresh_law.specs.Below.heap_law.Paths.{ends, path_of, written_place}
+use Rattle.fresh_law.specs.Below.heap_law.Sight.{sight}
+use Rattle.fresh_law.specs.Below.heap_law.Walking.{path, over_hops, over_place, over_passed, copied_box, hop_count, too_far}
+use Rattle.fresh_law.proofs.Below.heap_law.Words.{none_at}
+use Rattle.fresh_law.specs.Below.path_law.HeapStore.{GoesOn, HasPaths}
+use Rattle.fresh_law.proofs.Below.path_law.Alike.{IsShown, a_slot as shown_slot, an_object, leads_in_heap}
+use Rattle.fresh_law.proofs.Below.path_law.Shown.{stands_there}
+use Rattle.way_law.specs.Below.word_law.Reworded.{HasPlaces}
+use Rattle.fresh_law.proofs.Below.event_law.Each.{at_most}
+use Rattle.land_law.proofs.Below.end_law.Ends.{EndsAt}
+use Rattle.fresh_law.proofs.Below.result_law.Known.{Steps, standing, paths, goes}
+use Rattle.land_law.proofs.Below.write_law.Memory.{Leads}
+use Rattle.land_law.proofs.Below.write_law.Route.{Route}
+use Rattle.land_law.proofs.Below.write_law.Holders.{C, at, route, slot_away}
+use Rattle.land_law.proofs.Below.write_law.Ends.{value_of_thread, RefAt as StandsAt, in_its_slot, on_its_top}
+use Rattle.land_law.proofs.Below.rewrite_law.Later.{Later, later_itself}
 use Rattle.way_law.proofs.Behind.{number_then, slot_then}
 use Rattle.way_law.proofs.Borrows.{CleansBy, clean_value_asks, split}
 use Rattle.way_law.proofs.Cell.{waits_there}

@@ -4,26 +4,26 @@ use Rattle.std.specs.Prelude.{slice_get, slice_set}
 use Rattle.std.specs.Bool.{⊤}
 use Rattle.std.proofs.lemmas.List.{get_or-set_same}
 use Rattle.std.proofs.lemmas.Option.{slice_get_within}
-use Rattle.fr_base.specs.declared.name.ObjNo.{ObjNo}
-use Rattle.global_addr.specs.Words.{address_of}
-use Rattle.heap_partition.specs.declared.value.BoxPtr.{BoxPtr}
-use Rattle.heap_partition.specs.declared.value.Cell.{Cell}
-use Rattle.heap_partition.specs.declared.value.Owned.{Owned}
-use Rattle.heap_partition.specs.declared.value.Owned.TheVariants as owned
-use Rattle.owner_box.specs.View.{PartitionState}
-use Rattle.owner_box.specs.Partition.{cell_of, stored, with_value}
-use Rattle.thread_state.specs.declared.value.Value.{Value}
-use Rattle.thread_state.specs.declared.value.Value.TheVariants as value
-use Rattle.server_model.specs.Work.{Hand, leads_here, look, last_of, with_slots, with_partition, working, then_some}
-use Rattle.server_model.specs.Places.{Spot, in_slot, on_top, in_cell, in_copy, nowhere, value_in, value_at, written, note_slot, note_write, put_at, with_word, set_pointer}
-use Rattle.heap_law.specs.Things.{Location, at_slot, at_temp, in_cell as in_object}
-use Rattle.fr_base.specs.Names.{same_object}
-use Rattle.event_law.specs.Laws.{Gives}
-use Rattle.event_law.proofs.Results.{test_gives, then_gives}
-use Rattle.still_law.proofs.Tests.{objects}
-use Rattle.event_law.proofs.Cells.{indexed}
-use Rattle.path_law.proofs.Sole.{some_is}
-use Rattle.write_law.proofs.Memory.{Leads, looks, looked, stored_elsewhere}
+use Rattle.fresh_law.specs.Below.fr_base.declared.name.ObjNo.{ObjNo}
+use Rattle.fresh_law.specs.Below.global_addr.Words.{address_of}
+use Rattle.fresh_law.specs.Below.heap_partition.declared.value.BoxPtr.{BoxPtr}
+use Rattle.fresh_law.specs.Below.heap_partition.declared.value.Cell.{Cell}
+use Rattle.fresh_law.specs.Below.heap_partition.declared.value.Owned.{Owned}
+use Rattle.fresh_law.specs.Below.heap_partition.declared.value.Owned.TheVariants as owned
+use Rattle.fresh_law.specs.Below.owner_box.View.{PartitionState}
+use Rattle.fresh_law.specs.Below.owner_box.Partition.{cell_of, stored, with_value}
+use Rattle.fresh_law.specs.Below.thread_state.declared.value.Value.{Value}
+use Rattle.fresh_law.specs.Below.thread_state.declared.value.Value.TheVariants as value
+use Rattle.fresh_law.specs.Below.server_model.Work.{Hand, leads_here, look, last_of, with_slots, with_partition, working, then_some}
+use Rattle.fresh_law.specs.Below.server_model.Places.{Spot, in_slot, on_top, in_cell, in_copy, nowhere, value_in, value_at, written, note_slot, note_write, put_at, with_word, set_pointer}
+use Rattle.fresh_law.specs.Below.heap_law.Things.{Location, at_slot, at_temp, in_cell as in_object}
+use Rattle.fresh_law.specs.Below.fr_base.Names.{same_object}
+use Rattle.fresh_law.specs.Below.event_law.Laws.{Gives}
+use Rattle.fresh_law.proofs.Below.event_law.Results.{test_gives, then_gives}
+use Rattle.fresh_law.proofs.Below.still_law.Tests.{objects}
+use Rattle.fresh_law.proofs.Below.event_law.Cells.{indexed}
+use Rattle.fresh_law.proofs.Below.path_law.Sole.{some_is}
+use Rattle.land_law.proofs.Below.write_law.Memory.{Leads, looks, looked, stored_elsewhere}
 
 -- SLOTS THAT ARE SET
 

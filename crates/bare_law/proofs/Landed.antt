@@ -2,61 +2,61 @@
 use Rattle.std.proofs.Common.{◌≡◌, ◌⊎◌, inl, inr, ℕ, ◌+◌, ◌<◌, ◌≤◌, ◌^◌, nat_lt, Bool, true, false, List, Option, Some, None, refl, sym, ap, subst, ◌∙◌, arith}
 use Rattle.std.specs.Prelude.{slice_get}
 use Rattle.std.proofs.lemmas.Bool.Decides.{nat_tests}
-use Rattle.fr_typing.proofs.PlaceLemmas.{eq_cases}
-use Rattle.fr_base.specs.declared.name.ObjNo.{ObjNo}
-use Rattle.fr_base.specs.declared.place.Lval.{Lval}
-use Rattle.heap_partition.specs.declared.value.Cell.{Cell}
-use Rattle.owner_box.specs.View.{PartitionState}
-use Rattle.owner_box.specs.Partition.{made, new_word, next_place}
-use Rattle.thread_state.specs.View.{ThreadState}
-use Rattle.thread_state.specs.declared.phase.Phase.TheVariants as phase
-use Rattle.server_msgs.specs.declared.message.Message.TheVariants as message
-use Rattle.journal.specs.View.{EntryView}
-use Rattle.server_model.specs.declared.event.Event.{Event}
-use Rattle.server_model.specs.Servers.{Server, Cluster}
-use Rattle.server_model.specs.Clusters.{apply}
-use Rattle.server_model.specs.Work.{Hand}
-use Rattle.server_model.specs.Events.{begin_work, received}
-use Rattle.server_model.specs.Objects.{deliver_moved}
-use Rattle.heap_law.specs.Names.{Among}
-use Rattle.heap_law.specs.OneHeap.{two_in}
-use Rattle.heap_law.specs.Things.{Location, Thing, at_slot, at_temp, in_cell, servers_things}
-use Rattle.heap_law.specs.Follow.{Standing, Ground, cell_of, value_in, slot_of, locate}
-use Rattle.heap_law.specs.Paths.{written_place}
-use Rattle.heap_law.specs.Sight.{sight}
-use Rattle.heap_law.specs.Coherent.{Holds, passed_not_copied}
-use Rattle.heap_law.specs.Walking.{path, too_far, over_hops, over_place, over_passed, copied_box}
-use Rattle.heap_law.proofs.Words.{none_at, none_all}
-use Rattle.type_law.specs.ClusterTypes.{IsCoherent}
-use Rattle.event_law.specs.Laws.{Gives, FewEvents}
-use Rattle.event_law.specs.Kinds.{moved}
-use Rattle.event_law.proofs.Bags.{thread_number}
-use Rattle.event_law.proofs.Events.{others_of}
-use Rattle.event_law.proofs.Results.{both_give, weaker, given_by}
-use Rattle.event_law.proofs.Sending.{applied_part}
-use Rattle.path_law.specs.HeapStore.{GoesOn, HasPaths}
-use Rattle.path_law.proofs.Alike.{IsShown, a_slot as shown_slot, an_object, leads_in_heap, coherent_has_paths}
-use Rattle.path_law.proofs.Shown.{stands_there}
-use Rattle.path_law.proofs.Sole.{some_is}
-use Rattle.read_law.proofs.FreshReads.{chain_apart}
-use Rattle.result_law.proofs.Awaits.{awaited_mine}
-use Rattle.result_law.proofs.Made.{OwnedBy}
-use Rattle.arrive_law.specs.Awaited.{Awaits}
-use Rattle.arrive_law.proofs.Awaited.{arrivals_awaited}
-use Rattle.word_law.specs.Reworded.{HasPlaces}
-use Rattle.word_law.specs.Unmoved.{Delivers}
-use Rattle.write_law.proofs.Memory.{Sane, made_leads}
-use Rattle.write_law.proofs.Passed.{on}
-use Rattle.write_law.proofs.Route.{Route}
-use Rattle.write_law.proofs.Routes.{sane_at, roomy_at}
-use Rattle.rewrite_law.proofs.Later.{later_itself, next_unissued, place_vacant}
-use Rattle.wait_law.specs.Places.{LeadsAsItDid}
-use Rattle.wait_law.proofs.Written.{Written}
-use Rattle.walk_law.proofs.Followed.{same_settings}
-use Rattle.walk_law.proofs.Sentences.{SameOn}
-use Rattle.walk_law.proofs.Still.{places_of}
+use Rattle.fresh_law.proofs.Below.fr_typing.PlaceLemmas.{eq_cases}
+use Rattle.fresh_law.specs.Below.fr_base.declared.name.ObjNo.{ObjNo}
+use Rattle.fresh_law.specs.Below.fr_base.declared.place.Lval.{Lval}
+use Rattle.fresh_law.specs.Below.heap_partition.declared.value.Cell.{Cell}
+use Rattle.fresh_law.specs.Below.owner_box.View.{PartitionState}
+use Rattle.fresh_law.specs.Below.owner_box.Partition.{made, new_word, next_place}
+use Rattle.fresh_law.specs.Below.thread_state.View.{ThreadState}
+use Rattle.fresh_law.specs.Below.thread_state.declared.phase.Phase.TheVariants as phase
+use Rattle.fresh_law.specs.Below.server_msgs.declared.message.Message.TheVariants as message
+use Rattle.fresh_law.specs.Below.journal.View.{EntryView}
+use Rattle.fresh_law.specs.Below.server_model.declared.event.Event.{Event}
+use Rattle.fresh_law.specs.Below.server_model.Servers.{Server, Cluster}
+use Rattle.fresh_law.specs.Below.server_model.Clusters.{apply}
+use Rattle.fresh_law.specs.Below.server_model.Work.{Hand}
+use Rattle.fresh_law.specs.Below.server_model.Events.{begin_work, received}
+use Rattle.fresh_law.specs.Below.server_model.Objects.{deliver_moved}
+use Rattle.fresh_law.specs.Below.heap_law.Names.{Among}
+use Rattle.fresh_law.specs.Below.heap_law.OneHeap.{two_in}
+use Rattle.fresh_law.specs.Below.heap_law.Things.{Location, Thing, at_slot, at_temp, in_cell, servers_things}
+use Rattle.fresh_law.specs.Below.heap_law.Follow.{Standing, Ground, cell_of, value_in, slot_of, locate}
+use Rattle.fresh_law.specs.Below.heap_law.Paths.{written_place}
+use Rattle.fresh_law.specs.Below.heap_law.Sight.{sight}
+use Rattle.fresh_law.specs.Below.heap_law.Coherent.{Holds, passed_not_copied}
+use Rattle.fresh_law.specs.Below.heap_law.Walking.{path, too_far, over_hops, over_place, over_passed, copied_box}
+use Rattle.fresh_law.proofs.Below.heap_law.Words.{none_at, none_all}
+use Rattle.fresh_law.specs.Below.type_law.ClusterTypes.{IsCoherent}
+use Rattle.fresh_law.specs.Below.event_law.Laws.{Gives, FewEvents}
+use Rattle.fresh_law.specs.Below.event_law.Kinds.{moved}
+use Rattle.fresh_law.proofs.Below.event_law.Bags.{thread_number}
+use Rattle.fresh_law.proofs.Below.event_law.Events.{others_of}
+use Rattle.fresh_law.proofs.Below.event_law.Results.{both_give, weaker, given_by}
+use Rattle.fresh_law.proofs.Below.event_law.Sending.{applied_part}
+use Rattle.fresh_law.specs.Below.path_law.HeapStore.{GoesOn, HasPaths}
+use Rattle.fresh_law.proofs.Below.path_law.Alike.{IsShown, a_slot as shown_slot, an_object, leads_in_heap, coherent_has_paths}
+use Rattle.fresh_law.proofs.Below.path_law.Shown.{stands_there}
+use Rattle.fresh_law.proofs.Below.path_law.Sole.{some_is}
+use Rattle.way_law.proofs.Below.read_law.FreshReads.{chain_apart}
+use Rattle.fresh_law.proofs.Below.result_law.Awaits.{awaited_mine}
+use Rattle.fresh_law.proofs.Below.result_law.Made.{OwnedBy}
+use Rattle.land_law.specs.Below.arrive_law.Awaited.{Awaits}
+use Rattle.land_law.proofs.Below.arrive_law.Awaited.{arrivals_awaited}
+use Rattle.way_law.specs.Below.word_law.Reworded.{HasPlaces}
+use Rattle.way_law.specs.Below.word_law.Unmoved.{Delivers}
+use Rattle.land_law.proofs.Below.write_law.Memory.{Sane, made_leads}
+use Rattle.land_law.proofs.Below.write_law.Passed.{on}
+use Rattle.land_law.proofs.Below.write_law.Route.{Route}
+use Rattle.land_law.proofs.Below.write_law.Routes.{sane_at, roomy_at}
+use Rattle.land_law.proofs.Below.rewrite_law.Later.{later_itself, next_unissued, place_vacant}
+use Rattle.taken_law.specs.Below.wait_law.Places.{LeadsAsItDid}
+use Rattle.taken_law.proofs.Below.wait_law.Written.{Written}
+use Rattle.taken_law.proofs.Below.walk_law.Followed.{same_settings}
+use Rattle.taken_law.proofs.Below.walk_law.Sentences.{SameOn}
+use Rattle.taken_law.proofs.Below.walk_law.Still.{places_of}
 use Rattle.way_law.proofs.Through.{stood}
-use Rattle.come_law.proofs.Sorts.{with_server}
+use Rattle.land_law.proofs.Below.come_law.Sorts.{with_server}
 use Rattle.bare_law.proofs.Then.{before_uncopied, on_written, uncopied_still}
 use Rattle.bare_law.proofs.Such.{such_uncopied}
 use Rattle.land_law.specs.Landed.{OthersWhereItComesKeep, EachUnsteppedEventKeeps}

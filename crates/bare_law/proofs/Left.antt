@@ -1,43 +1,43 @@
 -- What the delivery of an object that comes leaves, told by its hand: the sums of the cluster with the messages handed over, and so its own thread and the cells of its server.
 use Rattle.std.proofs.Common.{◌≡◌, ℕ, ◌+◌, ◌-◌, ◌≤◌, ◌==◌, ◌&&◌, Bool, true, false, List, ◌++◌, Option, Some, None, option_map, refl, sym, ap, subst, ◌∙◌, arith}
 use Rattle.std.specs.Prelude.{slice_get, length, take, drop}
-use Rattle.fr_typing.proofs.PlaceLemmas.{eq_cases}
-use Rattle.fr_base.specs.Names.{same_object}
-use Rattle.heap_partition.specs.Same.{same_owned}
-use Rattle.heap_partition.specs.declared.value.Cell.{Cell}
-use Rattle.thread_state.specs.View.{ThreadState}
-use Rattle.thread_state.specs.declared.value.Value.TheVariants as value
-use Rattle.journal.specs.View.{EntryView}
-use Rattle.server_msgs.specs.declared.message.Message.TheVariants as message
-use Rattle.server_model.specs.declared.event.Event.{Event}
-use Rattle.server_model.specs.declared.event.What.TheVariants.{Deliver}
-use Rattle.server_model.specs.Servers.{Server, Cluster, server_at}
-use Rattle.server_model.specs.Work.{Hand, Site, thread_in, set_thread, without_thread, then_some, put_back}
-use Rattle.server_model.specs.Clusters.{with_server, hand_over_newer, done_at, apply}
-use Rattle.server_model.specs.Events.{enabled, received, left_by, deliver_message, does}
-use Rattle.server_model.specs.Objects.{deliver_moved}
-use Rattle.heap_law.specs.Names.{tot, one, if_so, Among}
-use Rattle.heap_law.specs.Things.{Thing, thread_things, server_things, servers_things, things_of}
-use Rattle.heap_law.specs.Follow.{Standing, Ground, thread_at, cell_of, slot_of, value_of}
-use Rattle.heap_law.specs.Sight.{sight}
-use Rattle.heap_law.proofs.Sums.{tot-append}
-use Rattle.type_law.specs.ClusterTypes.{IsCoherent}
-use Rattle.word_law.specs.Reworded.{HasPlaces}
-use Rattle.word_law.specs.Unmoved.{Delivers}
-use Rattle.event_law.specs.Laws.{Gives, GoTo, FewEvents}
-use Rattle.event_law.proofs.Results.{then_gives, map_gives, over_gives, both_give, test_gives}
-use Rattle.event_law.proofs.Bags.{all_standing, rest_things, server_same, tot-set}
-use Rattle.event_law.proofs.Events.{others_of, tot-server}
-use Rattle.event_law.proofs.Applied.{go_with}
-use Rattle.event_law.proofs.Handing.{hand_over_newer_law}
-use Rattle.event_law.proofs.Sending.{each_event_sends}
-use Rattle.event_law.proofs.Values.{stores}
-use Rattle.still_law.proofs.Tests.{objects}
-use Rattle.still_law.proofs.Told.{told, same_told, tot_same, at_thread, thread_told, found}
-use Rattle.walk_law.proofs.Cells.{Seeing, cell_weight, rest_seen}
-use Rattle.walk_law.proofs.Still.{shows}
-use Rattle.walk_law.proofs.Tests.{owneds, same_value, values}
-use Rattle.write_law.proofs.Memory.{Leads, looks}
+use Rattle.fresh_law.proofs.Below.fr_typing.PlaceLemmas.{eq_cases}
+use Rattle.fresh_law.specs.Below.fr_base.Names.{same_object}
+use Rattle.fresh_law.specs.Below.heap_partition.Same.{same_owned}
+use Rattle.fresh_law.specs.Below.heap_partition.declared.value.Cell.{Cell}
+use Rattle.fresh_law.specs.Below.thread_state.View.{ThreadState}
+use Rattle.fresh_law.specs.Below.thread_state.declared.value.Value.TheVariants as value
+use Rattle.fresh_law.specs.Below.journal.View.{EntryView}
+use Rattle.fresh_law.specs.Below.server_msgs.declared.message.Message.TheVariants as message
+use Rattle.fresh_law.specs.Below.server_model.declared.event.Event.{Event}
+use Rattle.fresh_law.specs.Below.server_model.declared.event.What.TheVariants.{Deliver}
+use Rattle.fresh_law.specs.Below.server_model.Servers.{Server, Cluster, server_at}
+use Rattle.fresh_law.specs.Below.server_model.Work.{Hand, Site, thread_in, set_thread, without_thread, then_some, put_back}
+use Rattle.fresh_law.specs.Below.server_model.Clusters.{with_server, hand_over_newer, done_at, apply}
+use Rattle.fresh_law.specs.Below.server_model.Events.{enabled, received, left_by, deliver_message, does}
+use Rattle.fresh_law.specs.Below.server_model.Objects.{deliver_moved}
+use Rattle.fresh_law.specs.Below.heap_law.Names.{tot, one, if_so, Among}
+use Rattle.fresh_law.specs.Below.heap_law.Things.{Thing, thread_things, server_things, servers_things, things_of}
+use Rattle.fresh_law.specs.Below.heap_law.Follow.{Standing, Ground, thread_at, cell_of, slot_of, value_of}
+use Rattle.fresh_law.specs.Below.heap_law.Sight.{sight}
+use Rattle.fresh_law.proofs.Below.heap_law.Sums.{tot-append}
+use Rattle.fresh_law.specs.Below.type_law.ClusterTypes.{IsCoherent}
+use Rattle.way_law.specs.Below.word_law.Reworded.{HasPlaces}
+use Rattle.way_law.specs.Below.word_law.Unmoved.{Delivers}
+use Rattle.fresh_law.specs.Below.event_law.Laws.{Gives, GoTo, FewEvents}
+use Rattle.fresh_law.proofs.Below.event_law.Results.{then_gives, map_gives, over_gives, both_give, test_gives}
+use Rattle.fresh_law.proofs.Below.event_law.Bags.{all_standing, rest_things, server_same, tot-set}
+use Rattle.fresh_law.proofs.Below.event_law.Events.{others_of, tot-server}
+use Rattle.fresh_law.proofs.Below.event_law.Applied.{go_with}
+use Rattle.fresh_law.proofs.Below.event_law.Handing.{hand_over_newer_law}
+use Rattle.fresh_law.proofs.Below.event_law.Sending.{each_event_sends}
+use Rattle.fresh_law.proofs.Below.event_law.Values.{stores}
+use Rattle.fresh_law.proofs.Below.still_law.Tests.{objects}
+use Rattle.fresh_law.proofs.Below.still_law.Told.{told, same_told, tot_same, at_thread, thread_told, found}
+use Rattle.taken_law.proofs.Below.walk_law.Cells.{Seeing, cell_weight, rest_seen}
+use Rattle.taken_law.proofs.Below.walk_law.Still.{shows}
+use Rattle.taken_law.proofs.Below.walk_law.Tests.{owneds, same_value, values}
+use Rattle.land_law.proofs.Below.write_law.Memory.{Leads, looks}
 use Rattle.way_law.proofs.Own.{shown_there}
 use Rattle.way_law.proofs.There.{sees_cell, cells_seen}
 
@@ -121,7 +121,7 @@ module _ (k : Cluster) (e : Event) (old : ℕ) (cell : Cell) (t : ℕ) (d : Deli
   server_came : Gives Came (does k.code k.options d.server (Deliver d.place))
   server_came =
       subst (λ m. Gives Came (option_map (left_by d.server.events None None) (then_some m (λ x. deliver_message k.code x (received d.place d.server))))) (sym d.message)
-      (over_gives Then Came (Rattle.server_model.specs.Work.at_thread t (deliver_moved k.code old cell) (received d.place d.server)) (left_by d.server.events None None) (by (thread_in d.server.threads t) refl) (λ x a. a))
+      (over_gives Then Came (Rattle.fresh_law.specs.Below.server_model.Work.at_thread t (deliver_moved k.code old cell) (received d.place d.server)) (left_by d.server.events None None) (by (thread_in d.server.threads t) refl) (λ x a. a))
     where
       by : (o : Option ThreadState) → thread_in d.server.threads t ≡ o → Gives Then (then_some (option_map (λ y. record { work = (received d.place d.server).work; thread = y }) o) (λ h. option_map (put_back d.server.threads) (deliver_moved k.code old cell h)))
       by None q = tt

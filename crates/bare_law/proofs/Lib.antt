@@ -1,3 +1,4 @@
+pub mod Below
 pub mod Then
 pub mod Others
 pub mod Steady

@@ -1,46 +1,46 @@
 -- What each thread but the event's own one has passed has no copy, after the step of another thread, and after the deliveries of a `move` and of a `drop`.
 use Rattle.std.proofs.Common.{◌≡◌, ℕ, zero, suc, Bool, true, false, Some, refl, sym, ap, ◌∙◌, arith}
-use Rattle.fr_base.specs.declared.name.ObjNo.{ObjNo}
-use Rattle.fr_base.specs.declared.place.Lval.{Lval}
-use Rattle.thread_state.specs.View.{is_over}
-use Rattle.thread_state.specs.declared.phase.Phase.TheVariants as phase
-use Rattle.journal.specs.View.{EntryView}
-use Rattle.server_msgs.specs.declared.message.Message.TheVariants as message
-use Rattle.server_model.specs.declared.event.Event.{Event}
-use Rattle.server_model.specs.Servers.{Cluster}
-use Rattle.server_model.specs.Clusters.{apply}
-use Rattle.heap_law.specs.Names.{tot, Among}
-use Rattle.heap_law.specs.Things.{things_of}
-use Rattle.heap_law.specs.Follow.{Standing, threads_in, thread_at}
-use Rattle.heap_law.specs.Sight.{sight}
-use Rattle.heap_law.specs.Walking.{in_walk, early, too_far, over_passed, copied_box}
-use Rattle.heap_law.specs.Weights.{copies}
-use Rattle.heap_law.specs.Coherent.{Holds, passed_not_copied, passed_in_a_walk}
-use Rattle.heap_law.proofs.Words.{none_at, none_all}
-use Rattle.type_law.specs.ClusterTypes.{IsCoherent}
-use Rattle.path_law.specs.HeapStore.{GoesOn}
-use Rattle.end_law.proofs.Fresh.{Writing, through_it, of_holder, writing}
-use Rattle.word_law.specs.Reworded.{HasPlaces}
-use Rattle.event_law.specs.Laws.{Gives, FewEvents}
-use Rattle.event_law.proofs.Results.{both_give}
-use Rattle.event_law.proofs.Sending.{applied_part}
-use Rattle.wait_law.specs.Places.{Follows, writes, ends_at}
-use Rattle.wait_law.proofs.Written.{Written}
-use Rattle.walk_law.specs.Pointers.{SamePointers, OthersStepsKeep}
-use Rattle.walk_law.specs.Deliveries.{DeliveryKeeps}
-use Rattle.local_law.proofs.Sentences.{passed_kept}
-use Rattle.walk_law.proofs.New.{newly}
-use Rattle.walk_law.proofs.Others.{Known as StepKnown, known as step_known, step_lasts, others_step}
-use Rattle.walk_law.proofs.Still.{places_of, Lasts, stays as stays_still}
-use Rattle.walk_law.proofs.Deliveries.{None_own, None_changed, moves_last, drops_last}
-use Rattle.walk_law.proofs.Delivered.{moves_pointers, drops_pointers}
-use Rattle.walk_law.proofs.Followed.{same_settings}
+use Rattle.fresh_law.specs.Below.fr_base.declared.name.ObjNo.{ObjNo}
+use Rattle.fresh_law.specs.Below.fr_base.declared.place.Lval.{Lval}
+use Rattle.fresh_law.specs.Below.thread_state.View.{is_over}
+use Rattle.fresh_law.specs.Below.thread_state.declared.phase.Phase.TheVariants as phase
+use Rattle.fresh_law.specs.Below.journal.View.{EntryView}
+use Rattle.fresh_law.specs.Below.server_msgs.declared.message.Message.TheVariants as message
+use Rattle.fresh_law.specs.Below.server_model.declared.event.Event.{Event}
+use Rattle.fresh_law.specs.Below.server_model.Servers.{Cluster}
+use Rattle.fresh_law.specs.Below.server_model.Clusters.{apply}
+use Rattle.fresh_law.specs.Below.heap_law.Names.{tot, Among}
+use Rattle.fresh_law.specs.Below.heap_law.Things.{things_of}
+use Rattle.fresh_law.specs.Below.heap_law.Follow.{Standing, threads_in, thread_at}
+use Rattle.fresh_law.specs.Below.heap_law.Sight.{sight}
+use Rattle.fresh_law.specs.Below.heap_law.Walking.{in_walk, early, too_far, over_passed, copied_box}
+use Rattle.fresh_law.specs.Below.heap_law.Weights.{copies}
+use Rattle.fresh_law.specs.Below.heap_law.Coherent.{Holds, passed_not_copied, passed_in_a_walk}
+use Rattle.fresh_law.proofs.Below.heap_law.Words.{none_at, none_all}
+use Rattle.fresh_law.specs.Below.type_law.ClusterTypes.{IsCoherent}
+use Rattle.fresh_law.specs.Below.path_law.HeapStore.{GoesOn}
+use Rattle.land_law.proofs.Below.end_law.Fresh.{Writing, through_it, of_holder, writing}
+use Rattle.way_law.specs.Below.word_law.Reworded.{HasPlaces}
+use Rattle.fresh_law.specs.Below.event_law.Laws.{Gives, FewEvents}
+use Rattle.fresh_law.proofs.Below.event_law.Results.{both_give}
+use Rattle.fresh_law.proofs.Below.event_law.Sending.{applied_part}
+use Rattle.taken_law.specs.Below.wait_law.Places.{Follows, writes, ends_at}
+use Rattle.taken_law.proofs.Below.wait_law.Written.{Written}
+use Rattle.taken_law.specs.Below.walk_law.Pointers.{SamePointers, OthersStepsKeep}
+use Rattle.taken_law.specs.Below.walk_law.Deliveries.{DeliveryKeeps}
+use Rattle.way_law.proofs.Below.local_law.Sentences.{passed_kept}
+use Rattle.taken_law.proofs.Below.walk_law.New.{newly}
+use Rattle.taken_law.proofs.Below.walk_law.Others.{Known as StepKnown, known as step_known, step_lasts, others_step}
+use Rattle.taken_law.proofs.Below.walk_law.Still.{places_of, Lasts, stays as stays_still}
+use Rattle.taken_law.proofs.Below.walk_law.Deliveries.{None_own, None_changed, moves_last, drops_last}
+use Rattle.taken_law.proofs.Below.walk_law.Delivered.{moves_pointers, drops_pointers}
+use Rattle.taken_law.proofs.Below.walk_law.Followed.{same_settings}
 use Rattle.taken_law.proofs.Landed.{all_give}
 use Rattle.taken_law.proofs.After.{Stays}
 use Rattle.taken_law.proofs.Stands.{of_others}
 use Rattle.taken_law.proofs.Stood.{none_new}
 use Rattle.bare_law.proofs.Passed.{passed_uncopied}
-use Rattle.word_law.specs.Unmoved.{pointing}
+use Rattle.way_law.specs.Below.word_law.Unmoved.{pointing}
 use Rattle.bare_law.proofs.Then.{none_passed, unpassed, over_walks, OnePassed, NoneThen, before_uncopied, uncopied_still}
 
 -- a place that is written is followed
@@ -145,7 +145,7 @@ module _ (k : Cluster) (e : Event) (coherent : IsCoherent k) (few : FewEvents k)
     (pointers : (x : Standing) (w : Lval) → GoesOn k x → Follows k x w → Gives (λ (d : Cluster × EntryView). SamePointers k d.0 x.thread.number w) (apply k e)) where
   delivered : Gives (λ (d : Cluster × EntryView). Holds d.0 passed_not_copied) (apply k e)
   delivered =
-      Rattle.event_law.proofs.Results.weaker (λ (d : Cluster × EntryView). (y : Standing) → Among y (sight d.0).ground.threads → (None_own y.thread.number → ⊥) → over_passed (sight d.0) (copied_box (sight d.0)) y ≡ 0) (λ (d : Cluster × EntryView). Holds d.0 passed_not_copied) (apply k e)
+      Rattle.fresh_law.proofs.Below.event_law.Results.weaker (λ (d : Cluster × EntryView). (y : Standing) → Among y (sight d.0).ground.threads → (None_own y.thread.number → ⊥) → over_passed (sight d.0) (copied_box (sight d.0)) y ≡ 0) (λ (d : Cluster × EntryView). Holds d.0 passed_not_copied) (apply k e)
       (all_others k e coherent few None_own
       (both_give (λ (d : Cluster × EntryView). Lasts k d.0 None_own Changed) (λ (d : Cluster × EntryView). HasPlaces d.0) (λ (d : Cluster × EntryView). (x : Standing) → thread_at (sight k).ground.threads x.thread.number ≡ Some x → (None_own x.thread.number → ⊥) → Stays d.0 x) (apply k e) lasts
       (applied_part HasPlaces (λ z s. record { numbers_differ = s.numbers_differ; home_of_each = s.home_of_each; owner_of_each = s.owner_of_each }) k e coherent.sound few)

@@ -1,41 +1,41 @@
 -- After the step of a thread, done or not, no copy exists of what it has passed, and so of what any thread has.
 use Rattle.std.proofs.Common.{◌≡◌, ℕ, false, Some, None, refl, sym, ap, ◌∙◌}
 use Rattle.std.specs.Prelude.{slice_get}
-use Rattle.fr_typing.proofs.PlaceLemmas.{eq_cases}
-use Rattle.fr_base.specs.declared.instruction.Instr.{Instr}
-use Rattle.fr_base.specs.declared.place.Lval.{Lval}
-use Rattle.thread_state.specs.View.{ThreadState}
-use Rattle.thread_state.specs.declared.phase.Phase.{Phase}
-use Rattle.thread_state.specs.declared.phase.Phase.TheVariants as phase
-use Rattle.journal.specs.View.{EntryView}
-use Rattle.server_model.specs.declared.event.Event.{Event}
-use Rattle.server_model.specs.declared.event.What.TheVariants.{Step}
-use Rattle.server_model.specs.Servers.{Server, Cluster}
-use Rattle.server_model.specs.Clusters.{apply}
-use Rattle.server_model.specs.Work.{Hand}
-use Rattle.server_model.specs.Prepare.{requested, access_of, prepare}
-use Rattle.server_model.specs.Events.{Stepped, begin_work, wait_step}
-use Rattle.heap_law.specs.Names.{tot, Among}
-use Rattle.heap_law.specs.Things.{things_of}
-use Rattle.heap_law.specs.Follow.{Standing}
-use Rattle.heap_law.specs.Paths.{Path, reads, shares, lends, path_of, written_place}
-use Rattle.heap_law.specs.Sight.{sight, issued}
-use Rattle.heap_law.specs.Coherent.{Sentence, Holds, passed_in_a_walk, gifts_got, passed_not_copied}
-use Rattle.heap_law.specs.Walking.{path, in_walk, early, over_place, over_passed, copied_box}
-use Rattle.heap_law.specs.Weights.{copies}
-use Rattle.heap_law.proofs.Words.{none_at, none_all}
-use Rattle.type_law.specs.ClusterTypes.{IsCoherent}
-use Rattle.path_law.specs.HeapStore.{GoesOn}
-use Rattle.word_law.specs.Reworded.{HasPlaces}
-use Rattle.event_law.specs.Laws.{Gives, FewEvents}
-use Rattle.event_law.proofs.Results.{both_give, weaker}
-use Rattle.event_law.proofs.Sending.{applied_part}
-use Rattle.local_law.proofs.Sentences.{passed_kept}
-use Rattle.result_law.proofs.Known.{Steps}
-use Rattle.ask_law.proofs.GiftsGot.{gifts_got_kept}
-use Rattle.wait_law.specs.Places.{LeadsAsItDid}
-use Rattle.wait_law.proofs.Stay.{undone_leave}
-use Rattle.walk_law.proofs.Followed.{same_settings}
+use Rattle.fresh_law.proofs.Below.fr_typing.PlaceLemmas.{eq_cases}
+use Rattle.fresh_law.specs.Below.fr_base.declared.instruction.Instr.{Instr}
+use Rattle.fresh_law.specs.Below.fr_base.declared.place.Lval.{Lval}
+use Rattle.fresh_law.specs.Below.thread_state.View.{ThreadState}
+use Rattle.fresh_law.specs.Below.thread_state.declared.phase.Phase.{Phase}
+use Rattle.fresh_law.specs.Below.thread_state.declared.phase.Phase.TheVariants as phase
+use Rattle.fresh_law.specs.Below.journal.View.{EntryView}
+use Rattle.fresh_law.specs.Below.server_model.declared.event.Event.{Event}
+use Rattle.fresh_law.specs.Below.server_model.declared.event.What.TheVariants.{Step}
+use Rattle.fresh_law.specs.Below.server_model.Servers.{Server, Cluster}
+use Rattle.fresh_law.specs.Below.server_model.Clusters.{apply}
+use Rattle.fresh_law.specs.Below.server_model.Work.{Hand}
+use Rattle.fresh_law.specs.Below.server_model.Prepare.{requested, access_of, prepare}
+use Rattle.fresh_law.specs.Below.server_model.Events.{Stepped, begin_work, wait_step}
+use Rattle.fresh_law.specs.Below.heap_law.Names.{tot, Among}
+use Rattle.fresh_law.specs.Below.heap_law.Things.{things_of}
+use Rattle.fresh_law.specs.Below.heap_law.Follow.{Standing}
+use Rattle.fresh_law.specs.Below.heap_law.Paths.{Path, reads, shares, lends, path_of, written_place}
+use Rattle.fresh_law.specs.Below.heap_law.Sight.{sight, issued}
+use Rattle.fresh_law.specs.Below.heap_law.Coherent.{Sentence, Holds, passed_in_a_walk, gifts_got, passed_not_copied}
+use Rattle.fresh_law.specs.Below.heap_law.Walking.{path, in_walk, early, over_place, over_passed, copied_box}
+use Rattle.fresh_law.specs.Below.heap_law.Weights.{copies}
+use Rattle.fresh_law.proofs.Below.heap_law.Words.{none_at, none_all}
+use Rattle.fresh_law.specs.Below.type_law.ClusterTypes.{IsCoherent}
+use Rattle.fresh_law.specs.Below.path_law.HeapStore.{GoesOn}
+use Rattle.way_law.specs.Below.word_law.Reworded.{HasPlaces}
+use Rattle.fresh_law.specs.Below.event_law.Laws.{Gives, FewEvents}
+use Rattle.fresh_law.proofs.Below.event_law.Results.{both_give, weaker}
+use Rattle.fresh_law.proofs.Below.event_law.Sending.{applied_part}
+use Rattle.way_law.proofs.Below.local_law.Sentences.{passed_kept}
+use Rattle.fresh_law.proofs.Below.result_law.Known.{Steps}
+use Rattle.way_law.proofs.Below.ask_law.GiftsGot.{gifts_got_kept}
+use Rattle.taken_law.specs.Below.wait_law.Places.{LeadsAsItDid}
+use Rattle.taken_law.proofs.Below.wait_law.Stay.{undone_leave}
+use Rattle.taken_law.proofs.Below.walk_law.Followed.{same_settings}
 use Rattle.taken_law.proofs.Landed.{all_give}
 use Rattle.way_law.specs.Steps.{OwnStepsKeep, StepsKeep}
 use Rattle.way_law.proofs.Cell.{waits_there}

@@ -1,38 +1,38 @@
 -- Of a box that a thread's write has passed no copy is asked for: who waits for one reads a pointer to its object, and none reads what another thread has in its slots.
 use Rattle.std.proofs.Common.{◌≡◌, inl, ⊎_elim, ℕ, suc, ◌-◌, ◌≤◌, ◌<◌, ◌==◌, ◌&&◌, nat_le, not, Bool, true, false, Option, Some, None, refl, sym, ap, subst, ◌∙◌, arith}
 use Rattle.std.proofs.lemmas.Bool.Decides.{nat_tests}
-use Rattle.fr_base.specs.declared.place.Lval.{Lval}
-use Rattle.fr_base.specs.declared.instruction.Instr.{Instr}
-use Rattle.fr_store.specs.Keys.{slot_k}
-use Rattle.heap_partition.specs.declared.value.BoxPtr.{BoxPtr}
-use Rattle.heap_partition.specs.declared.value.Owned.TheVariants as owned
-use Rattle.thread_state.specs.View.{ThreadState}
-use Rattle.thread_state.specs.declared.phase.Phase.{Phase}
-use Rattle.thread_state.specs.declared.phase.Phase.TheVariants as phase
-use Rattle.thread_state.specs.declared.value.Value.{Value}
-use Rattle.thread_state.specs.declared.value.Value.TheVariants as value
-use Rattle.server_model.specs.Servers.{Cluster}
-use Rattle.heap_law.specs.Names.{tot, one, other}
-use Rattle.heap_law.specs.Things.{Location, in_cell, things_of}
-use Rattle.heap_law.specs.Follow.{Standing, Ground, value_in, value_behind, leads, locate}
-use Rattle.heap_law.specs.Paths.{written_place, path_of}
-use Rattle.heap_law.specs.Passing.{MayPass, over_box, over_reference, to_slot, to_lent_slot, NotCopied, LiesAt}
-use Rattle.heap_law.specs.Sight.{Pointer, sight, pointers_in, taken_pointers}
-use Rattle.heap_law.specs.Walking.{instr_of, path, in_walk, early, too_far, hop_count}
-use Rattle.heap_law.specs.Weights.{copies}
-use Rattle.heap_law.specs.Words.{HasWords, IsStale}
-use Rattle.heap_law.proofs.Words.{none_at}
-use Rattle.type_law.specs.ClusterTypes.{IsCoherent}
-use Rattle.path_law.specs.HeapStore.{HasPaths}
-use Rattle.path_law.proofs.Alike.{coherent_has_paths, leads_in_heap}
-use Rattle.path_law.proofs.Circles.{shorter}
-use Rattle.path_law.proofs.Origins.{among_first}
-use Rattle.read_law.specs.Reading.{Reads, copies as copies_it, shares, lends, dups, locks}
-use Rattle.end_law.proofs.Fresh.{writing}
-use Rattle.result_law.proofs.Made.{OwnedBy, own_path}
-use Rattle.word_law.proofs.Standing.{lying, told}
-use Rattle.write_law.proofs.Written.{IsFollowed, follows, may_pass}
-use Rattle.copy_law.proofs.Clean.{thing_cell}
+use Rattle.fresh_law.specs.Below.fr_base.declared.place.Lval.{Lval}
+use Rattle.fresh_law.specs.Below.fr_base.declared.instruction.Instr.{Instr}
+use Rattle.fresh_law.specs.Below.fr_store.Keys.{slot_k}
+use Rattle.fresh_law.specs.Below.heap_partition.declared.value.BoxPtr.{BoxPtr}
+use Rattle.fresh_law.specs.Below.heap_partition.declared.value.Owned.TheVariants as owned
+use Rattle.fresh_law.specs.Below.thread_state.View.{ThreadState}
+use Rattle.fresh_law.specs.Below.thread_state.declared.phase.Phase.{Phase}
+use Rattle.fresh_law.specs.Below.thread_state.declared.phase.Phase.TheVariants as phase
+use Rattle.fresh_law.specs.Below.thread_state.declared.value.Value.{Value}
+use Rattle.fresh_law.specs.Below.thread_state.declared.value.Value.TheVariants as value
+use Rattle.fresh_law.specs.Below.server_model.Servers.{Cluster}
+use Rattle.fresh_law.specs.Below.heap_law.Names.{tot, one, other}
+use Rattle.fresh_law.specs.Below.heap_law.Things.{Location, in_cell, things_of}
+use Rattle.fresh_law.specs.Below.heap_law.Follow.{Standing, Ground, value_in, value_behind, leads, locate}
+use Rattle.fresh_law.specs.Below.heap_law.Paths.{written_place, path_of}
+use Rattle.fresh_law.specs.Below.heap_law.Passing.{MayPass, over_box, over_reference, to_slot, to_lent_slot, NotCopied, LiesAt}
+use Rattle.fresh_law.specs.Below.heap_law.Sight.{Pointer, sight, pointers_in, taken_pointers}
+use Rattle.fresh_law.specs.Below.heap_law.Walking.{instr_of, path, in_walk, early, too_far, hop_count}
+use Rattle.fresh_law.specs.Below.heap_law.Weights.{copies}
+use Rattle.fresh_law.specs.Below.heap_law.Words.{HasWords, IsStale}
+use Rattle.fresh_law.proofs.Below.heap_law.Words.{none_at}
+use Rattle.fresh_law.specs.Below.type_law.ClusterTypes.{IsCoherent}
+use Rattle.fresh_law.specs.Below.path_law.HeapStore.{HasPaths}
+use Rattle.fresh_law.proofs.Below.path_law.Alike.{coherent_has_paths, leads_in_heap}
+use Rattle.fresh_law.proofs.Below.path_law.Circles.{shorter}
+use Rattle.fresh_law.proofs.Below.path_law.Origins.{among_first}
+use Rattle.way_law.specs.Below.read_law.Reading.{Reads, copies as copies_it, shares, lends, dups, locks}
+use Rattle.land_law.proofs.Below.end_law.Fresh.{writing}
+use Rattle.fresh_law.proofs.Below.result_law.Made.{OwnedBy, own_path}
+use Rattle.way_law.proofs.Below.word_law.Standing.{lying, told}
+use Rattle.land_law.proofs.Below.write_law.Written.{IsFollowed, follows, may_pass}
+use Rattle.fresh_law.proofs.Below.copy_law.Clean.{thing_cell}
 use Rattle.fresh_law.proofs.Askers.{ReadsUnder, unasked_by, reads_as_owner}
 use Rattle.fresh_law.proofs.Turned.{Unasked}
 use Rattle.bare_law.specs.Passed.{HasPassed, PassedStayUncopied}

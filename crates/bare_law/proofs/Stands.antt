@@ -1,20 +1,20 @@
 -- Where what a thread has passed are boxes with good words in its slots and cells, none of them has a copy.
 use Rattle.std.proofs.Common.{◌≡◌, ℕ, zero, suc, ◌<◌, ◌≤◌, List, Option, Some, None, refl, sym, ap, subst, ◌∙◌, arith}
 use Rattle.std.specs.Prelude.{slice_get}
-use Rattle.fr_base.specs.declared.name.ObjNo.{ObjNo}
-use Rattle.heap_partition.specs.declared.value.Cell.{Cell}
-use Rattle.heap_partition.specs.declared.value.Owned.TheVariants as owned
-use Rattle.owner_box.specs.View.{PartitionState}
-use Rattle.thread_state.specs.declared.value.Value.{Value}
-use Rattle.thread_state.specs.declared.value.Value.TheVariants as value
-use Rattle.server_model.specs.Servers.{Cluster}
-use Rattle.heap_law.specs.Names.{tot}
-use Rattle.heap_law.specs.Things.{Location, at_slot, in_cell, things_of}
-use Rattle.heap_law.specs.Follow.{Ground, cell_of, value_of, value_in, value_behind, locate}
-use Rattle.heap_law.specs.Sight.{sight}
-use Rattle.heap_law.specs.Walking.{over_hops, copied_box}
-use Rattle.heap_law.specs.Weights.{copies}
-use Rattle.write_law.proofs.Memory.{Leads}
+use Rattle.fresh_law.specs.Below.fr_base.declared.name.ObjNo.{ObjNo}
+use Rattle.fresh_law.specs.Below.heap_partition.declared.value.Cell.{Cell}
+use Rattle.fresh_law.specs.Below.heap_partition.declared.value.Owned.TheVariants as owned
+use Rattle.fresh_law.specs.Below.owner_box.View.{PartitionState}
+use Rattle.fresh_law.specs.Below.thread_state.declared.value.Value.{Value}
+use Rattle.fresh_law.specs.Below.thread_state.declared.value.Value.TheVariants as value
+use Rattle.fresh_law.specs.Below.server_model.Servers.{Cluster}
+use Rattle.fresh_law.specs.Below.heap_law.Names.{tot}
+use Rattle.fresh_law.specs.Below.heap_law.Things.{Location, at_slot, in_cell, things_of}
+use Rattle.fresh_law.specs.Below.heap_law.Follow.{Ground, cell_of, value_of, value_in, value_behind, locate}
+use Rattle.fresh_law.specs.Below.heap_law.Sight.{sight}
+use Rattle.fresh_law.specs.Below.heap_law.Walking.{over_hops, copied_box}
+use Rattle.fresh_law.specs.Below.heap_law.Weights.{copies}
+use Rattle.land_law.proofs.Below.write_law.Memory.{Leads}
 use Rattle.bare_law.proofs.Good.{GoodValue, GoodSlot, GoodAt}
 
 -- no copy is under the word

@@ -2,33 +2,33 @@
 use Rattle.std.proofs.Common.{◌≡◌, ℕ, zero, suc, ◌+◌, ◌<◌, ◌≤◌, ◌^◌, ◌==◌, nat_lt, Bool, true, false, if◌then◌else◌, length, Option, Some, None, refl, sym, ap, subst, ◌∙◌, arith}
 use Rattle.std.specs.Bool.{⊤}
 use Rattle.std.proofs.lemmas.Bool.Decides.{nat_tests}
-use Rattle.fr_base.specs.declared.name.ObjNo.{ObjNo}
-use Rattle.global_addr.specs.Words.{colour_of, server_of, next_word}
-use Rattle.heap_partition.specs.declared.value.BoxPtr.{BoxPtr}
-use Rattle.heap_partition.specs.declared.value.Cell.{Cell}
-use Rattle.heap_partition.specs.declared.value.Owned.TheVariants as owned
-use Rattle.owner_box.specs.View.{PartitionState}
-use Rattle.owner_box.specs.Partition.{freed, new_word}
-use Rattle.thread_state.specs.View.{ThreadState}
-use Rattle.thread_state.specs.declared.value.Value.{Value}
-use Rattle.thread_state.specs.declared.value.Value.TheVariants as value
-use Rattle.journal.specs.declared.act.Act.TheVariants as act
-use Rattle.place_walk.specs.declared.hop.Hop.{Hop as Jump}
-use Rattle.place_walk.specs.declared.hop.Hop.TheVariants as jump
-use Rattle.place_walk.specs.Hops.{write_hop}
-use Rattle.server_model.specs.Servers.{Rest}
-use Rattle.server_model.specs.Work.{Hand, note}
-use Rattle.server_model.specs.NewWords.{NewWord, issue_tint, issue_renewal, issue_colour}
-use Rattle.server_model.specs.Places.{Spot, in_slot, in_cell, value_in, value_at, load_at, pointer_of, put_word}
-use Rattle.server_model.specs.Prepare.{ready, ready_at, hopped, local, passing, box_ready, write_by, pass_by, write_value, write_star, write_stars}
-use Rattle.heap_law.specs.Things.{Location, at_slot, at_temp, in_cell as in_object}
-use Rattle.heap_law.specs.Follow.{value_of}
-use Rattle.path_law.proofs.Sole.{some_is}
-use Rattle.walk_law.proofs.Steps.{less_far}
-use Rattle.write_law.proofs.Memory.{Leads, looks, Sane, Issues, colour_issued}
-use Rattle.write_law.proofs.Route.{Route, Hop, LeadsBy, by_slot, by_reference, by_box, by_cell, Writing, At, a_slot, a_cell, Fine, begins, all_hops}
-use Rattle.rewrite_law.proofs.Later.{Later, later_stored, later_renewed}
-use Rattle.rewrite_law.proofs.Hops.{renewed_work}
+use Rattle.fresh_law.specs.Below.fr_base.declared.name.ObjNo.{ObjNo}
+use Rattle.fresh_law.specs.Below.global_addr.Words.{colour_of, server_of, next_word}
+use Rattle.fresh_law.specs.Below.heap_partition.declared.value.BoxPtr.{BoxPtr}
+use Rattle.fresh_law.specs.Below.heap_partition.declared.value.Cell.{Cell}
+use Rattle.fresh_law.specs.Below.heap_partition.declared.value.Owned.TheVariants as owned
+use Rattle.fresh_law.specs.Below.owner_box.View.{PartitionState}
+use Rattle.fresh_law.specs.Below.owner_box.Partition.{freed, new_word}
+use Rattle.fresh_law.specs.Below.thread_state.View.{ThreadState}
+use Rattle.fresh_law.specs.Below.thread_state.declared.value.Value.{Value}
+use Rattle.fresh_law.specs.Below.thread_state.declared.value.Value.TheVariants as value
+use Rattle.fresh_law.specs.Below.journal.declared.act.Act.TheVariants as act
+use Rattle.fresh_law.specs.Below.place_walk.declared.hop.Hop.{Hop as Jump}
+use Rattle.fresh_law.specs.Below.place_walk.declared.hop.Hop.TheVariants as jump
+use Rattle.fresh_law.specs.Below.place_walk.Hops.{write_hop}
+use Rattle.fresh_law.specs.Below.server_model.Servers.{Rest}
+use Rattle.fresh_law.specs.Below.server_model.Work.{Hand, note}
+use Rattle.fresh_law.specs.Below.server_model.NewWords.{NewWord, issue_tint, issue_renewal, issue_colour}
+use Rattle.fresh_law.specs.Below.server_model.Places.{Spot, in_slot, in_cell, value_in, value_at, load_at, pointer_of, put_word}
+use Rattle.fresh_law.specs.Below.server_model.Prepare.{ready, ready_at, hopped, local, passing, box_ready, write_by, pass_by, write_value, write_star, write_stars}
+use Rattle.fresh_law.specs.Below.heap_law.Things.{Location, at_slot, at_temp, in_cell as in_object}
+use Rattle.fresh_law.specs.Below.heap_law.Follow.{value_of}
+use Rattle.fresh_law.proofs.Below.path_law.Sole.{some_is}
+use Rattle.taken_law.proofs.Below.walk_law.Steps.{less_far}
+use Rattle.land_law.proofs.Below.write_law.Memory.{Leads, looks, Sane, Issues, colour_issued}
+use Rattle.land_law.proofs.Below.write_law.Route.{Route, Hop, LeadsBy, by_slot, by_reference, by_box, by_cell, Writing, At, a_slot, a_cell, Fine, begins, all_hops}
+use Rattle.land_law.proofs.Below.rewrite_law.Later.{Later, later_stored, later_renewed}
+use Rattle.land_law.proofs.Below.rewrite_law.Hops.{renewed_work}
 use Rattle.way_law.proofs.Stops.{all_written}
 use Rattle.way_law.proofs.Through.{stood}
 use Rattle.bare_law.proofs.Good.{GoodValue, GoodSlot, GoodCell, GoodAt, SetsSlot, sets_slot, SetsCell, sets_cell}

@@ -1,35 +1,35 @@
 -- The words that are good on the place that a thread writes: of a box that was passed before no copy is afterwards, nor under a word that wasn't issued.
 use Rattle.std.proofs.Common.{◌≡◌, ℕ, ◌+◌, ◌<◌, ◌^◌, false, length, Some, None, refl, ap, ◌∙◌, arith}
 use Rattle.std.proofs.lemmas.List.{length-set}
-use Rattle.fr_base.specs.declared.place.Lval.{Lval}
-use Rattle.fr_base.specs.declared.instruction.Instr.{Instr}
-use Rattle.global_addr.specs.Words.{colour_of, address_of, next_word}
-use Rattle.heap_partition.specs.declared.value.BoxPtr.{BoxPtr}
-use Rattle.heap_partition.specs.declared.value.Owned.TheVariants as owned
-use Rattle.owner_box.specs.View.{PartitionState}
-use Rattle.owner_box.specs.Partition.{freed, new_word, next_place}
-use Rattle.thread_state.specs.View.{ThreadState}
-use Rattle.thread_state.specs.declared.value.Value.TheVariants as value
-use Rattle.server_model.specs.Servers.{Server, Cluster}
-use Rattle.heap_law.specs.Names.{tot}
-use Rattle.heap_law.specs.Things.{Location, things_of}
-use Rattle.heap_law.specs.Follow.{Standing, value_in, value_behind, locate}
-use Rattle.heap_law.specs.Paths.{written_place}
-use Rattle.heap_law.specs.Sight.{sight, issued}
-use Rattle.heap_law.specs.Walking.{path}
-use Rattle.heap_law.specs.Weights.{copies}
-use Rattle.heap_law.specs.Words.{HasWords}
-use Rattle.path_law.specs.HeapStore.{GoesOn, HasPaths}
-use Rattle.read_law.specs.Reading.{LiesUnder}
-use Rattle.read_law.proofs.Homes.{fresh_word}
-use Rattle.read_law.proofs.Lookups.{one_state}
-use Rattle.word_law.proofs.NewWord.{is_new}
-use Rattle.end_law.proofs.Fresh.{writes_are_fresh}
-use Rattle.end_law.proofs.Lying.{written_lie_there}
-use Rattle.result_law.proofs.Known.{Steps, standing, paths, goes}
-use Rattle.write_law.proofs.Memory.{Sane}
-use Rattle.write_law.proofs.StepRoutes.{awake}
-use Rattle.rewrite_law.proofs.Later.{Later, renewal_unissued, next_vacant}
+use Rattle.fresh_law.specs.Below.fr_base.declared.place.Lval.{Lval}
+use Rattle.fresh_law.specs.Below.fr_base.declared.instruction.Instr.{Instr}
+use Rattle.fresh_law.specs.Below.global_addr.Words.{colour_of, address_of, next_word}
+use Rattle.fresh_law.specs.Below.heap_partition.declared.value.BoxPtr.{BoxPtr}
+use Rattle.fresh_law.specs.Below.heap_partition.declared.value.Owned.TheVariants as owned
+use Rattle.fresh_law.specs.Below.owner_box.View.{PartitionState}
+use Rattle.fresh_law.specs.Below.owner_box.Partition.{freed, new_word, next_place}
+use Rattle.fresh_law.specs.Below.thread_state.View.{ThreadState}
+use Rattle.fresh_law.specs.Below.thread_state.declared.value.Value.TheVariants as value
+use Rattle.fresh_law.specs.Below.server_model.Servers.{Server, Cluster}
+use Rattle.fresh_law.specs.Below.heap_law.Names.{tot}
+use Rattle.fresh_law.specs.Below.heap_law.Things.{Location, things_of}
+use Rattle.fresh_law.specs.Below.heap_law.Follow.{Standing, value_in, value_behind, locate}
+use Rattle.fresh_law.specs.Below.heap_law.Paths.{written_place}
+use Rattle.fresh_law.specs.Below.heap_law.Sight.{sight, issued}
+use Rattle.fresh_law.specs.Below.heap_law.Walking.{path}
+use Rattle.fresh_law.specs.Below.heap_law.Weights.{copies}
+use Rattle.fresh_law.specs.Below.heap_law.Words.{HasWords}
+use Rattle.fresh_law.specs.Below.path_law.HeapStore.{GoesOn, HasPaths}
+use Rattle.way_law.specs.Below.read_law.Reading.{LiesUnder}
+use Rattle.way_law.proofs.Below.read_law.Homes.{fresh_word}
+use Rattle.way_law.proofs.Below.read_law.Lookups.{one_state}
+use Rattle.way_law.proofs.Below.word_law.NewWord.{is_new}
+use Rattle.land_law.proofs.Below.end_law.Fresh.{writes_are_fresh}
+use Rattle.land_law.proofs.Below.end_law.Lying.{written_lie_there}
+use Rattle.fresh_law.proofs.Below.result_law.Known.{Steps, standing, paths, goes}
+use Rattle.land_law.proofs.Below.write_law.Memory.{Sane}
+use Rattle.land_law.proofs.Below.write_law.StepRoutes.{awake}
+use Rattle.land_law.proofs.Below.rewrite_law.Later.{Later, renewal_unissued, next_vacant}
 use Rattle.bare_law.specs.Passed.{HasPassed}
 use Rattle.bare_law.proofs.Then.{NoneThen}
 use Rattle.bare_law.proofs.Stands.{NoCopy}

@@ -2,50 +2,50 @@
 use Rattle.std.proofs.Common.{◌≡◌, ℕ, ◌+◌, ◌==◌, ◌&&◌, not, nat_le, Bool, true, false, List, ◌∷◌, ◌++◌, [], Option, Some, None, refl, ap, subst, ◌∙◌, arith}
 use Rattle.std.specs.Prelude.{slice_get}
 use Rattle.std.proofs.lemmas.Bool.Decides.{nat_tests}
-use Rattle.fr_base.specs.Lists.{is_in}
-use Rattle.fr_base.specs.declared.place.Lval.{Lval}
-use Rattle.fr_base.specs.declared.instruction.Instr.{Instr}
-use Rattle.fr_base.specs.declared.instruction.Instr.TheVariants as instr
-use Rattle.heap_partition.specs.declared.value.Cell.{Cell}
-use Rattle.heap_partition.specs.declared.value.Owned.{Owned}
-use Rattle.migration.specs.Packing.{packed}
-use Rattle.read_cache.specs.Cache.{can_fill, can_pin}
-use Rattle.thread_state.specs.View.{ThreadState, new_thread}
-use Rattle.thread_state.specs.declared.phase.Phase.{Phase}
-use Rattle.thread_state.specs.declared.phase.Phase.TheVariants as phase
-use Rattle.server_msgs.specs.declared.message.Message.TheVariants as message
-use Rattle.journal.specs.View.{EntryView}
-use Rattle.server_model.specs.declared.event.Event.{Event}
-use Rattle.server_model.specs.declared.event.What.TheVariants.{Deliver}
-use Rattle.server_model.specs.Servers.{Server, Cluster, server_at}
-use Rattle.server_model.specs.Work.{Hand, thread_in, used_once}
-use Rattle.server_model.specs.Objects.{waits_for_cell, filled}
-use Rattle.server_model.specs.Events.{Stepped, begin_work, received, step}
-use Rattle.server_model.specs.Clusters.{apply}
-use Rattle.heap_law.specs.Names.{tot, one, other}
-use Rattle.heap_law.specs.Things.{Location, things_of}
-use Rattle.heap_law.specs.Follow.{Standing, threads_in}
-use Rattle.thread_state.specs.declared.value.Value.{Value}
-use Rattle.heap_law.specs.Paths.{path_of, written_place}
-use Rattle.heap_law.specs.Sight.{Sight, sight}
-use Rattle.heap_law.specs.Walking.{path, in_walk, over_place, over_passed, copied_box, early, hop_count, too_far}
-use Rattle.heap_law.specs.Coherent.{IsSound, Holds, passed_not_copied}
-use Rattle.heap_law.proofs.Words.{none_at, none_all}
-use Rattle.type_law.specs.ClusterTypes.{IsCoherent}
-use Rattle.event_law.specs.Kinds.{Kind}
-use Rattle.event_law.specs.Laws.{Gives, FewEvents}
-use Rattle.event_law.proofs.Results.{over_gives, test_gives, both_give, given_by}
-use Rattle.local_law.proofs.Handed.{Stood, InParcel}
-use Rattle.stay_law.specs.Laws.{IsOfKind}
-use Rattle.wait_law.specs.Steady.{IsSteady}
-use Rattle.wait_law.proofs.Fates.{Fates, fated}
-use Rattle.walk_law.proofs.Steady.{Kept, kept, on_paths}
-use Rattle.walk_law.proofs.Followed.{same_settings}
+use Rattle.fresh_law.specs.Below.fr_base.Lists.{is_in}
+use Rattle.fresh_law.specs.Below.fr_base.declared.place.Lval.{Lval}
+use Rattle.fresh_law.specs.Below.fr_base.declared.instruction.Instr.{Instr}
+use Rattle.fresh_law.specs.Below.fr_base.declared.instruction.Instr.TheVariants as instr
+use Rattle.fresh_law.specs.Below.heap_partition.declared.value.Cell.{Cell}
+use Rattle.fresh_law.specs.Below.heap_partition.declared.value.Owned.{Owned}
+use Rattle.fresh_law.specs.Below.migration.Packing.{packed}
+use Rattle.fresh_law.specs.Below.read_cache.Cache.{can_fill, can_pin}
+use Rattle.fresh_law.specs.Below.thread_state.View.{ThreadState, new_thread}
+use Rattle.fresh_law.specs.Below.thread_state.declared.phase.Phase.{Phase}
+use Rattle.fresh_law.specs.Below.thread_state.declared.phase.Phase.TheVariants as phase
+use Rattle.fresh_law.specs.Below.server_msgs.declared.message.Message.TheVariants as message
+use Rattle.fresh_law.specs.Below.journal.View.{EntryView}
+use Rattle.fresh_law.specs.Below.server_model.declared.event.Event.{Event}
+use Rattle.fresh_law.specs.Below.server_model.declared.event.What.TheVariants.{Deliver}
+use Rattle.fresh_law.specs.Below.server_model.Servers.{Server, Cluster, server_at}
+use Rattle.fresh_law.specs.Below.server_model.Work.{Hand, thread_in, used_once}
+use Rattle.fresh_law.specs.Below.server_model.Objects.{waits_for_cell, filled}
+use Rattle.fresh_law.specs.Below.server_model.Events.{Stepped, begin_work, received, step}
+use Rattle.fresh_law.specs.Below.server_model.Clusters.{apply}
+use Rattle.fresh_law.specs.Below.heap_law.Names.{tot, one, other}
+use Rattle.fresh_law.specs.Below.heap_law.Things.{Location, things_of}
+use Rattle.fresh_law.specs.Below.heap_law.Follow.{Standing, threads_in}
+use Rattle.fresh_law.specs.Below.thread_state.declared.value.Value.{Value}
+use Rattle.fresh_law.specs.Below.heap_law.Paths.{path_of, written_place}
+use Rattle.fresh_law.specs.Below.heap_law.Sight.{Sight, sight}
+use Rattle.fresh_law.specs.Below.heap_law.Walking.{path, in_walk, over_place, over_passed, copied_box, early, hop_count, too_far}
+use Rattle.fresh_law.specs.Below.heap_law.Coherent.{IsSound, Holds, passed_not_copied}
+use Rattle.fresh_law.proofs.Below.heap_law.Words.{none_at, none_all}
+use Rattle.fresh_law.specs.Below.type_law.ClusterTypes.{IsCoherent}
+use Rattle.fresh_law.specs.Below.event_law.Kinds.{Kind}
+use Rattle.fresh_law.specs.Below.event_law.Laws.{Gives, FewEvents}
+use Rattle.fresh_law.proofs.Below.event_law.Results.{over_gives, test_gives, both_give, given_by}
+use Rattle.way_law.proofs.Below.local_law.Handed.{Stood, InParcel}
+use Rattle.land_law.specs.Below.stay_law.Laws.{IsOfKind}
+use Rattle.taken_law.specs.Below.wait_law.Steady.{IsSteady}
+use Rattle.taken_law.proofs.Below.wait_law.Fates.{Fates, fated}
+use Rattle.taken_law.proofs.Below.walk_law.Steady.{Kept, kept, on_paths}
+use Rattle.taken_law.proofs.Below.walk_law.Followed.{same_settings}
 use Rattle.taken_law.proofs.Landed.{all_give}
-use Rattle.come_law.specs.Deliveries.{BringsNoObject}
-use Rattle.come_law.proofs.Asked.{NoStep}
-use Rattle.come_law.proofs.Sorts.{with_server, at_server, unstepped, not_stepping, no_object, places_in}
-use Rattle.come_law.proofs.Turn.{any_gives, ready_is}
+use Rattle.land_law.specs.Below.come_law.Deliveries.{BringsNoObject}
+use Rattle.land_law.proofs.Below.come_law.Asked.{NoStep}
+use Rattle.land_law.proofs.Below.come_law.Sorts.{with_server, at_server, unstepped, not_stepping, no_object, places_in}
+use Rattle.land_law.proofs.Below.come_law.Turn.{any_gives, ready_is}
 use Rattle.bare_law.proofs.Passed.{passed_uncopied}
 use Rattle.bare_law.proofs.Then.{OnePassed, NoneThen, before_uncopied, on_written, uncopied_still}
 
@@ -120,7 +120,7 @@ fates k sound f e still s here quiet = record {
     early_there : (t : ℕ) (y : ThreadState) → thread_in s.threads t ≡ Some y → early (record { server = s.rest.number; packed = false; thread = y }) ≡ 0
     early_there t y there =
         none_at early (record { server = s.rest.number; packed = false; thread = y }) (threads_in (things_of k)) sound.walks.passed_in_a_walk
-        (Rattle.path_law.proofs.Contained.among_thread (sight k).ground.threads t (record { server = s.rest.number; packed = false; thread = y }) (Rattle.event_law.proofs.ThreadThere.thread_there k sound e.server s here t y there)).0
+        (Rattle.fresh_law.proofs.Below.path_law.Contained.among_thread (sight k).ground.threads t (record { server = s.rest.number; packed = false; thread = y }) (Rattle.fresh_law.proofs.Below.event_law.ThreadThere.thread_there k sound e.server s here t y there)).0
 
 -- AFTERWARDS
 
@@ -135,7 +135,7 @@ module _ (kind : Kind) (steady : IsSteady kind) (brings : BringsNoObject kind) (
   known =
       both_give (Kept k) (λ (d : Cluster × EntryView). (d.0.code ≡ k.code) × NoneThen k d.0) Known (apply k e) (kept kind steady k e q coherent.sound few)
       (both_give (λ (d : Cluster × EntryView). (d.0.code ≡ k.code) × (d.0.options ≡ k.options)) (λ (d : Cluster × EntryView). NoneThen k d.0) (λ (d : Cluster × EntryView). (d.0.code ≡ k.code) × NoneThen k d.0) (apply k e) (same_settings k e)
-      (all_give (λ (q : OnePassed k) (d : Cluster × EntryView). tot (Rattle.heap_law.specs.Weights.copies q.pointer.word) (things_of d.0) ≡ 0) (apply k e) (λ q. passed_uncopied k e coherent few q.thread q.pointer q.passed)) (λ d a b. (a.0, b))) (λ d a b. (a, b.0, b.1))
+      (all_give (λ (q : OnePassed k) (d : Cluster × EntryView). tot (Rattle.fresh_law.specs.Below.heap_law.Weights.copies q.pointer.word) (things_of d.0) ≡ 0) (apply k e) (λ q. passed_uncopied k e coherent few q.thread q.pointer q.passed)) (λ d a b. (a.0, b))) (λ d a b. (a, b.0, b.1))
 
   module _ (d : Cluster × EntryView) (a : Known d) where
     none_before : tot (weight k (copied_box (sight d.0))) (threads_in (things_of k)) ≡ 0

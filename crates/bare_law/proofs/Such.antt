@@ -1,13 +1,13 @@
 -- What threads have passed has no copy after each event that is no step and brings no object.
-use Rattle.server_model.specs.Servers.{Cluster}
-use Rattle.server_model.specs.Clusters.{apply}
-use Rattle.journal.specs.View.{EntryView}
-use Rattle.heap_law.specs.Coherent.{Holds, passed_not_copied}
-use Rattle.event_law.specs.Kinds.{Kind}
-use Rattle.event_law.specs.Laws.{Gives}
-use Rattle.stay_law.specs.Laws.{IsOfKind}
-use Rattle.come_law.specs.Deliveries.{BringsNoObject, EachSuchEventKeeps}
-use Rattle.come_law.proofs.Sorts.{Sort, steady, moves, drops, sort_of, at_server, with_server}
+use Rattle.fresh_law.specs.Below.server_model.Servers.{Cluster}
+use Rattle.fresh_law.specs.Below.server_model.Clusters.{apply}
+use Rattle.fresh_law.specs.Below.journal.View.{EntryView}
+use Rattle.fresh_law.specs.Below.heap_law.Coherent.{Holds, passed_not_copied}
+use Rattle.fresh_law.specs.Below.event_law.Kinds.{Kind}
+use Rattle.fresh_law.specs.Below.event_law.Laws.{Gives}
+use Rattle.land_law.specs.Below.stay_law.Laws.{IsOfKind}
+use Rattle.land_law.specs.Below.come_law.Deliveries.{BringsNoObject, EachSuchEventKeeps}
+use Rattle.land_law.proofs.Below.come_law.Sorts.{Sort, steady, moves, drops, sort_of, at_server, with_server}
 use Rattle.bare_law.proofs.Steady.{uncopied_steady}
 use Rattle.bare_law.proofs.Others.{moves_passed, drops_passed}
 

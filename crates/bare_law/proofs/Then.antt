@@ -2,27 +2,27 @@
 use Rattle.std.proofs.Common.{◌≡◌, ℕ, zero, suc, ◌≤◌, ◌==◌, ◌&&◌, nat_le, not, Bool, true, false, Option, Some, None, refl, sym, ap, subst, ◌∙◌, arith}
 use Rattle.std.specs.Prelude.{slice_get}
 use Rattle.std.proofs.lemmas.Bool.Decides.{nat_tests}
-use Rattle.fr_base.specs.declared.place.Lval.{Lval}
-use Rattle.heap_partition.specs.declared.value.BoxPtr.{BoxPtr}
-use Rattle.heap_partition.specs.declared.value.Owned.TheVariants as owned
-use Rattle.thread_state.specs.View.{is_over}
-use Rattle.thread_state.specs.declared.phase.Phase.{Phase}
-use Rattle.thread_state.specs.declared.phase.Phase.TheVariants as phase
-use Rattle.thread_state.specs.declared.value.Value.{Value}
-use Rattle.thread_state.specs.declared.value.Value.TheVariants as value
-use Rattle.server_model.specs.Servers.{Cluster}
-use Rattle.heap_law.specs.Names.{tot, one, other, Among}
-use Rattle.heap_law.specs.Things.{Location, things_of}
-use Rattle.heap_law.specs.Follow.{Standing, Ground, locate, hop_at}
-use Rattle.heap_law.specs.Paths.{Path, no_path, reads, shares, lends, writes, ends, path_of, written_place}
-use Rattle.heap_law.specs.Sight.{Sight, sight}
-use Rattle.heap_law.specs.Walking.{path, in_walk, early, too_far, hop_count, over_hops, over_place, over_passed, copied_box}
-use Rattle.heap_law.specs.Weights.{copies}
-use Rattle.heap_law.proofs.Words.{none_at}
-use Rattle.type_law.specs.ClusterTypes.{IsCoherent}
-use Rattle.path_law.specs.HeapStore.{GoesOn}
-use Rattle.word_law.specs.Unmoved.{pointing}
-use Rattle.walk_law.proofs.Sentences.{SameHops, SameOn}
+use Rattle.fresh_law.specs.Below.fr_base.declared.place.Lval.{Lval}
+use Rattle.fresh_law.specs.Below.heap_partition.declared.value.BoxPtr.{BoxPtr}
+use Rattle.fresh_law.specs.Below.heap_partition.declared.value.Owned.TheVariants as owned
+use Rattle.fresh_law.specs.Below.thread_state.View.{is_over}
+use Rattle.fresh_law.specs.Below.thread_state.declared.phase.Phase.{Phase}
+use Rattle.fresh_law.specs.Below.thread_state.declared.phase.Phase.TheVariants as phase
+use Rattle.fresh_law.specs.Below.thread_state.declared.value.Value.{Value}
+use Rattle.fresh_law.specs.Below.thread_state.declared.value.Value.TheVariants as value
+use Rattle.fresh_law.specs.Below.server_model.Servers.{Cluster}
+use Rattle.fresh_law.specs.Below.heap_law.Names.{tot, one, other, Among}
+use Rattle.fresh_law.specs.Below.heap_law.Things.{Location, things_of}
+use Rattle.fresh_law.specs.Below.heap_law.Follow.{Standing, Ground, locate, hop_at}
+use Rattle.fresh_law.specs.Below.heap_law.Paths.{Path, no_path, reads, shares, lends, writes, ends, path_of, written_place}
+use Rattle.fresh_law.specs.Below.heap_law.Sight.{Sight, sight}
+use Rattle.fresh_law.specs.Below.heap_law.Walking.{path, in_walk, early, too_far, hop_count, over_hops, over_place, over_passed, copied_box}
+use Rattle.fresh_law.specs.Below.heap_law.Weights.{copies}
+use Rattle.fresh_law.proofs.Below.heap_law.Words.{none_at}
+use Rattle.fresh_law.specs.Below.type_law.ClusterTypes.{IsCoherent}
+use Rattle.fresh_law.specs.Below.path_law.HeapStore.{GoesOn}
+use Rattle.way_law.specs.Below.word_law.Unmoved.{pointing}
+use Rattle.taken_law.proofs.Below.walk_law.Sentences.{SameHops, SameOn}
 use Rattle.bare_law.specs.Passed.{HasPassed}
 
 none_true : (b : Bool) → other b ≡ 0 → b ≡ true

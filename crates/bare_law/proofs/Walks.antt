@@ -1,21 +1,21 @@
 -- A sentence that each step keeps, and each event that is no step, is kept by each event.
 use Rattle.std.proofs.Common.{◌≡◌, ◌⊎◌, inl, inr, ℕ, Option, Some, None, option_map, refl, subst, ap, ◌∙◌}
 use Rattle.std.specs.Prelude.{slice_get}
-use Rattle.journal.specs.View.{EntryView}
-use Rattle.server_msgs.specs.declared.message.Message.{Message}
-use Rattle.server_msgs.specs.declared.message.Message.TheVariants as message
-use Rattle.server_model.specs.declared.event.Event.{Event}
-use Rattle.server_model.specs.declared.event.What.{What}
-use Rattle.server_model.specs.declared.event.What.TheVariants.{Step, Deliver, Evict, Migrate}
-use Rattle.server_model.specs.Servers.{Server, Cluster, server_at}
-use Rattle.server_model.specs.Work.{then_some}
-use Rattle.server_model.specs.Clusters.{apply}
-use Rattle.heap_law.specs.Coherent.{Sentence, Holds}
-use Rattle.event_law.specs.Kinds.{Kind, moving, moved, drop, message_kind, kind_at}
-use Rattle.event_law.specs.Laws.{Gives}
-use Rattle.word_law.specs.Unmoved.{Delivers}
-use Rattle.stay_law.specs.Laws.{IsOfKind}
-use Rattle.local_law.specs.Laws.{EachCoherentEventKeeps}
+use Rattle.fresh_law.specs.Below.journal.View.{EntryView}
+use Rattle.fresh_law.specs.Below.server_msgs.declared.message.Message.{Message}
+use Rattle.fresh_law.specs.Below.server_msgs.declared.message.Message.TheVariants as message
+use Rattle.fresh_law.specs.Below.server_model.declared.event.Event.{Event}
+use Rattle.fresh_law.specs.Below.server_model.declared.event.What.{What}
+use Rattle.fresh_law.specs.Below.server_model.declared.event.What.TheVariants.{Step, Deliver, Evict, Migrate}
+use Rattle.fresh_law.specs.Below.server_model.Servers.{Server, Cluster, server_at}
+use Rattle.fresh_law.specs.Below.server_model.Work.{then_some}
+use Rattle.fresh_law.specs.Below.server_model.Clusters.{apply}
+use Rattle.fresh_law.specs.Below.heap_law.Coherent.{Sentence, Holds}
+use Rattle.fresh_law.specs.Below.event_law.Kinds.{Kind, moving, moved, drop, message_kind, kind_at}
+use Rattle.fresh_law.specs.Below.event_law.Laws.{Gives}
+use Rattle.way_law.specs.Below.word_law.Unmoved.{Delivers}
+use Rattle.land_law.specs.Below.stay_law.Laws.{IsOfKind}
+use Rattle.way_law.specs.Below.local_law.Laws.{EachCoherentEventKeeps}
 use Rattle.land_law.specs.Landed.{IsNoStep, EachUnsteppedEventKeeps}
 use Rattle.way_law.specs.Steps.{StepsKeep}
 use Rattle.taken_law.proofs.Ways.{each_way}

@@ -1,34 +1,34 @@
 -- A step that writes through stars and asks for an object on its way: of what it has passed no copy exists.
 use Rattle.std.proofs.Common.{◌≡◌, ℕ, ◌<◌, true, Option, Some, refl, sym, ap, subst, ◌∙◌, arith}
 use Rattle.std.specs.Prelude.{slice_get}
-use Rattle.fr_base.specs.declared.name.ObjNo.{ObjNo}
-use Rattle.fr_base.specs.declared.place.Lval.{Lval}
-use Rattle.fr_base.specs.declared.instruction.Instr.{Instr}
-use Rattle.global_addr.specs.Words.{server_of}
-use Rattle.heap_partition.specs.declared.value.Cell.{Cell}
-use Rattle.journal.specs.View.{EntryView}
-use Rattle.server_msgs.specs.declared.message.Message.TheVariants as message
-use Rattle.thread_state.specs.View.{ThreadState}
-use Rattle.server_model.specs.Servers.{Server, Cluster}
-use Rattle.server_model.specs.Work.{Hand}
-use Rattle.server_model.specs.Prepare.{WriteTo, requested, assigned, read_or_taken, access_of, prepare}
-use Rattle.server_model.specs.Events.{Stepped, begin_work, wait_step}
-use Rattle.heap_law.specs.Things.{Location}
-use Rattle.heap_law.specs.Follow.{Standing, Ground, value_in, slot_of, locate}
-use Rattle.heap_law.specs.Paths.{writes, path_of, assigning, taking, written_place}
-use Rattle.heap_law.specs.Sight.{sight}
-use Rattle.heap_law.specs.Walking.{path, over_hops, over_place, over_passed, copied_box}
-use Rattle.path_law.specs.HeapStore.{GoesOn, HasPaths}
-use Rattle.path_law.proofs.Alike.{IsShown, a_slot as shown_slot, an_object, leads_in_heap}
-use Rattle.path_law.proofs.Shown.{stands_there}
-use Rattle.word_law.specs.Reworded.{HasPlaces}
-use Rattle.result_law.proofs.Known.{Steps, standing, paths, goes}
-use Rattle.wait_law.specs.Places.{LeadsAsItDid}
-use Rattle.write_law.proofs.Memory.{Leads}
-use Rattle.write_law.proofs.Route.{Route}
-use Rattle.rewrite_law.specs.Writing.{WritesThrough, assigns, moves}
-use Rattle.rewrite_law.proofs.Later.{later_itself}
-use Rattle.rewrite_law.proofs.Ways as ways
+use Rattle.fresh_law.specs.Below.fr_base.declared.name.ObjNo.{ObjNo}
+use Rattle.fresh_law.specs.Below.fr_base.declared.place.Lval.{Lval}
+use Rattle.fresh_law.specs.Below.fr_base.declared.instruction.Instr.{Instr}
+use Rattle.fresh_law.specs.Below.global_addr.Words.{server_of}
+use Rattle.fresh_law.specs.Below.heap_partition.declared.value.Cell.{Cell}
+use Rattle.fresh_law.specs.Below.journal.View.{EntryView}
+use Rattle.fresh_law.specs.Below.server_msgs.declared.message.Message.TheVariants as message
+use Rattle.fresh_law.specs.Below.thread_state.View.{ThreadState}
+use Rattle.fresh_law.specs.Below.server_model.Servers.{Server, Cluster}
+use Rattle.fresh_law.specs.Below.server_model.Work.{Hand}
+use Rattle.fresh_law.specs.Below.server_model.Prepare.{WriteTo, requested, assigned, read_or_taken, access_of, prepare}
+use Rattle.fresh_law.specs.Below.server_model.Events.{Stepped, begin_work, wait_step}
+use Rattle.fresh_law.specs.Below.heap_law.Things.{Location}
+use Rattle.fresh_law.specs.Below.heap_law.Follow.{Standing, Ground, value_in, slot_of, locate}
+use Rattle.fresh_law.specs.Below.heap_law.Paths.{writes, path_of, assigning, taking, written_place}
+use Rattle.fresh_law.specs.Below.heap_law.Sight.{sight}
+use Rattle.fresh_law.specs.Below.heap_law.Walking.{path, over_hops, over_place, over_passed, copied_box}
+use Rattle.fresh_law.specs.Below.path_law.HeapStore.{GoesOn, HasPaths}
+use Rattle.fresh_law.proofs.Below.path_law.Alike.{IsShown, a_slot as shown_slot, an_object, leads_in_heap}
+use Rattle.fresh_law.proofs.Below.path_law.Shown.{stands_there}
+use Rattle.way_law.specs.Below.word_law.Reworded.{HasPlaces}
+use Rattle.fresh_law.proofs.Below.result_law.Known.{Steps, standing, paths, goes}
+use Rattle.taken_law.specs.Below.wait_law.Places.{LeadsAsItDid}
+use Rattle.land_law.proofs.Below.write_law.Memory.{Leads}
+use Rattle.land_law.proofs.Below.write_law.Route.{Route}
+use Rattle.land_law.specs.Below.rewrite_law.Writing.{WritesThrough, assigns, moves}
+use Rattle.land_law.proofs.Below.rewrite_law.Later.{later_itself}
+use Rattle.land_law.proofs.Below.rewrite_law.Ways as ways
 use Rattle.way_law.proofs.Behind.{number_then, slot_then}
 use Rattle.way_law.proofs.Lies.{same_partition}
 use Rattle.way_law.proofs.Own.{Own, me}

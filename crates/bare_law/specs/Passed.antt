@@ -1,24 +1,24 @@
 -- WHAT IS PASSED HAS NO COPY (this project's rule): of a box that a thread's write has passed none is made.
 use Rattle.std.specs.Prelude.{◌≡◌, ℕ, ◌<◌, false, Some}
-use Rattle.journal.specs.View.{EntryView}
-use Rattle.server_model.specs.declared.event.Event.{Event}
-use Rattle.server_model.specs.Servers.{Cluster}
-use Rattle.server_model.specs.Clusters.{apply}
-use Rattle.heap_law.specs.Names.{tot}
-use Rattle.heap_law.specs.Things.{things_of}
-use Rattle.heap_law.specs.Sight.{sight, issued}
-use Rattle.heap_law.specs.Weights.{copies}
-use Rattle.heap_law.specs.Coherent.{IsSound}
-use Rattle.heap_law.specs.Follow.{Standing, hop_at}
-use Rattle.heap_law.specs.Paths.{written_place}
-use Rattle.heap_law.specs.Walking.{path}
-use Rattle.fr_base.specs.declared.place.Lval.{Lval}
-use Rattle.heap_partition.specs.declared.value.BoxPtr.{BoxPtr}
-use Rattle.heap_partition.specs.declared.value.Owned.TheVariants as owned
-use Rattle.thread_state.specs.declared.value.Value.TheVariants as value
-use Rattle.type_law.specs.ClusterTypes.{IsCoherent}
-use Rattle.path_law.specs.HeapStore.{GoesOn}
-use Rattle.event_law.specs.Laws.{Gives, FewEvents}
+use Rattle.fresh_law.specs.Below.journal.View.{EntryView}
+use Rattle.fresh_law.specs.Below.server_model.declared.event.Event.{Event}
+use Rattle.fresh_law.specs.Below.server_model.Servers.{Cluster}
+use Rattle.fresh_law.specs.Below.server_model.Clusters.{apply}
+use Rattle.fresh_law.specs.Below.heap_law.Names.{tot}
+use Rattle.fresh_law.specs.Below.heap_law.Things.{things_of}
+use Rattle.fresh_law.specs.Below.heap_law.Sight.{sight, issued}
+use Rattle.fresh_law.specs.Below.heap_law.Weights.{copies}
+use Rattle.fresh_law.specs.Below.heap_law.Coherent.{IsSound}
+use Rattle.fresh_law.specs.Below.heap_law.Follow.{Standing, hop_at}
+use Rattle.fresh_law.specs.Below.heap_law.Paths.{written_place}
+use Rattle.fresh_law.specs.Below.heap_law.Walking.{path}
+use Rattle.fresh_law.specs.Below.fr_base.declared.place.Lval.{Lval}
+use Rattle.fresh_law.specs.Below.heap_partition.declared.value.BoxPtr.{BoxPtr}
+use Rattle.fresh_law.specs.Below.heap_partition.declared.value.Owned.TheVariants as owned
+use Rattle.fresh_law.specs.Below.thread_state.declared.value.Value.TheVariants as value
+use Rattle.fresh_law.specs.Below.type_law.ClusterTypes.{IsCoherent}
+use Rattle.fresh_law.specs.Below.path_law.HeapStore.{GoesOn}
+use Rattle.fresh_law.specs.Below.event_law.Laws.{Gives, FewEvents}
 
 -- the thread's write has passed that box
 pub record HasPassed (k : Cluster) (x : Standing) (p : BoxPtr) : Type 0 where

@@ -1,13 +1,13 @@
 //! What each event keeps of boxes that writes have passed.
 
-ghost use Rattle.heap_law.specs.Coherent.{passed_not_copied};
-ghost use Rattle.heap_law.specs.Walking.{copied_box, over_passed};
+ghost use Rattle.fresh_law.specs.Below.heap_law.Coherent.{passed_not_copied};
+ghost use Rattle.fresh_law.specs.Below.heap_law.Walking.{copied_box, over_passed};
 ghost use Rattle.land_law.specs.Landed.{EachUnsteppedEventKeeps, OthersWhereItComesKeep};
-ghost use Rattle.local_law.specs.Laws.{EachCoherentEventKeeps};
-ghost use Rattle.walk_law.specs.Pointers.{OthersStepsKeep};
+ghost use Rattle.way_law.specs.Below.local_law.Laws.{EachCoherentEventKeeps};
+ghost use Rattle.taken_law.specs.Below.walk_law.Pointers.{OthersStepsKeep};
 ghost use Rattle.way_law.specs.Steps.{OwnStepsKeep, StepsKeep};
 ghost use Rattle.bare_law.specs.Passed.{NewStayUncopied, PassedStayUncopied};
-ghost use Rattle.come_law.specs.Deliveries.{EachSuchEventKeeps};
+ghost use Rattle.land_law.specs.Below.come_law.Deliveries.{EachSuchEventKeeps};
 
 /// Of a box that a thread's write has passed no copy exists after each event that is no step and brings no object.
 pub fn unstepped_passed()

@@ -1,38 +1,38 @@
 -- A thread that has taken an object for its mutable borrow asks for nothing on the way to its pointer, as what it passes is at hand.
 use Rattle.std.proofs.Common.{◌≡◌, ◌≤◌, ◌<◌, ℕ, suc, ◌-◌, true, Some, refl, sym, ap, subst, ◌∙◌, arith}
 use Rattle.std.specs.Prelude.{slice_get}
-use Rattle.fr_base.specs.declared.place.Lval.{Lval}
-use Rattle.fr_base.specs.declared.instruction.Instr.{Instr}
-use Rattle.fr_base.specs.declared.instruction.Instr.TheVariants as instr
-use Rattle.fr_code.specs.CodeTypes.{Entry, Table, InstrTypes, i_borrow_mut}
-use Rattle.migration.specs.Packing.{used_words}
-use Rattle.thread_state.specs.View.{ThreadState}
-use Rattle.thread_state.specs.declared.phase.Phase.TheVariants as phase
-use Rattle.thread_state.specs.declared.value.Value.{Value}
-use Rattle.server_model.specs.declared.event.What.TheVariants.{Step}
-use Rattle.server_model.specs.Servers.{Server, Cluster, server_at}
-use Rattle.server_model.specs.Work.{thread_in}
-use Rattle.server_model.specs.Places.{in_slot}
-use Rattle.server_model.specs.Prepare.{read_stars}
-use Rattle.server_model.specs.Events.{enabled, begin_work}
-use Rattle.heap_law.specs.Things.{Location, at_slot}
-use Rattle.heap_law.specs.Follow.{Standing, value_in, locate}
-use Rattle.heap_law.specs.Passing.{followed_place}
-use Rattle.heap_law.specs.Paths.{path_of}
-use Rattle.heap_law.specs.Sight.{sight}
-use Rattle.heap_law.specs.Walking.{loose_hop, has_followed}
-use Rattle.heap_law.proofs.Passing.{paths_law}
-use Rattle.type_law.specs.ClusterTypes.{IsCoherent}
-use Rattle.path_law.specs.HeapStore.{GoesOn, HasPaths}
-use Rattle.path_law.specs.Pointing.{MayWrite, lends}
-use Rattle.path_law.proofs.MayWrites.{may_write_there}
-use Rattle.path_law.proofs.Sole.{some_is}
-use Rattle.event_law.specs.Laws.{FewEvents}
-use Rattle.result_law.proofs.Known.{Steps, hand, standing, paths, goes, entry, typed, types}
-use Rattle.result_law.proofs.Followed.{Place}
-use Rattle.result_law.proofs.Starred.{a_slot}
-use Rattle.result_law.proofs.Readers.{IsFree, begins, to_entry}
-use Rattle.result_law.proofs.Mutables.{apart}
+use Rattle.turn_law.specs.Below.fr_base.declared.place.Lval.{Lval}
+use Rattle.turn_law.specs.Below.fr_base.declared.instruction.Instr.{Instr}
+use Rattle.turn_law.specs.Below.fr_base.declared.instruction.Instr.TheVariants as instr
+use Rattle.turn_law.specs.Below.fr_code.CodeTypes.{Entry, Table, InstrTypes, i_borrow_mut}
+use Rattle.turn_law.specs.Below.migration.Packing.{used_words}
+use Rattle.turn_law.specs.Below.thread_state.View.{ThreadState}
+use Rattle.turn_law.specs.Below.thread_state.declared.phase.Phase.TheVariants as phase
+use Rattle.turn_law.specs.Below.thread_state.declared.value.Value.{Value}
+use Rattle.turn_law.specs.Below.server_model.declared.event.What.TheVariants.{Step}
+use Rattle.turn_law.specs.Below.server_model.Servers.{Server, Cluster, server_at}
+use Rattle.turn_law.specs.Below.server_model.Work.{thread_in}
+use Rattle.turn_law.specs.Below.server_model.Places.{in_slot}
+use Rattle.turn_law.specs.Below.server_model.Prepare.{read_stars}
+use Rattle.turn_law.specs.Below.server_model.Events.{enabled, begin_work}
+use Rattle.turn_law.specs.Below.heap_law.Things.{Location, at_slot}
+use Rattle.turn_law.specs.Below.heap_law.Follow.{Standing, value_in, locate}
+use Rattle.turn_law.specs.Below.heap_law.Passing.{followed_place}
+use Rattle.turn_law.specs.Below.heap_law.Paths.{path_of}
+use Rattle.turn_law.specs.Below.heap_law.Sight.{sight}
+use Rattle.turn_law.specs.Below.heap_law.Walking.{loose_hop, has_followed}
+use Rattle.turn_law.proofs.Below.heap_law.Passing.{paths_law}
+use Rattle.made_law.specs.Below.type_law.ClusterTypes.{IsCoherent}
+use Rattle.made_law.specs.Below.path_law.HeapStore.{GoesOn, HasPaths}
+use Rattle.made_law.specs.Below.path_law.Pointing.{MayWrite, lends}
+use Rattle.made_law.proofs.Below.path_law.MayWrites.{may_write_there}
+use Rattle.made_law.proofs.Below.path_law.Sole.{some_is}
+use Rattle.turn_law.specs.Below.event_law.Laws.{FewEvents}
+use Rattle.ask_law.proofs.Below.result_law.Known.{Steps, hand, standing, paths, goes, entry, typed, types}
+use Rattle.ask_law.proofs.Below.result_law.Followed.{Place}
+use Rattle.ask_law.proofs.Below.result_law.Starred.{a_slot}
+use Rattle.ask_law.proofs.Below.result_law.Readers.{IsFree, begins, to_entry}
+use Rattle.ask_law.proofs.Below.result_law.Mutables.{apart}
 use Rattle.ask_law.proofs.Unasked.{Unasked, stars_near}
 
 -- a place that may be lent is short

@@ -1,3 +1,19 @@
 -- What this law stands on, passed on to the laws above it, which need not list that then.
 pub use Rattle.ask_law.proofs as ask_law
+pub use Rattle.made_law.proofs.Below.carry_law as carry_law
+pub use Rattle.made_law.proofs.Below.end_law as end_law
+pub use Rattle.turn_law.proofs.Below.event_law as event_law
+pub use Rattle.turn_law.proofs.Below.fr_store as fr_store
+pub use Rattle.turn_law.proofs.Below.heap_law as heap_law
+pub use Rattle.made_law.proofs.Below.local_law as local_law
 pub use Rattle.made_law.proofs as made_law
+pub use Rattle.move_law.proofs as move_law
+pub use Rattle.made_law.proofs.Below.path_law as path_law
+pub use Rattle.made_law.proofs.Below.prepare_law as prepare_law
+pub use Rattle.turn_law.proofs.Below.read_law as read_law
+pub use Rattle.ask_law.proofs.Below.result_law as result_law
+pub use Rattle.made_law.proofs.Below.stay_law as stay_law
+pub use Rattle.turn_law.proofs as turn_law
+pub use Rattle.made_law.proofs.Below.type_law as type_law
+pub use Rattle.made_law.proofs.Below.value_law as value_law
+pub use Rattle.move_law.proofs.Below.word_law as word_law

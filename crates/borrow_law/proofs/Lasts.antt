@@ -1,25 +1,25 @@
 -- The pointer from which a borrow is made: it isn't stale, and its object lies where its word leads.
 use Rattle.std.proofs.Common.{◌≡◌, ℕ, suc, Some, sym, ap, subst, ◌∙◌, arith}
-use Rattle.fr_base.specs.declared.place.Lval.{Lval}
-use Rattle.fr_base.specs.declared.instruction.Instr.{Instr}
-use Rattle.heap_partition.specs.declared.value.BoxPtr.{BoxPtr}
-use Rattle.thread_state.specs.declared.phase.Phase.TheVariants as phase
-use Rattle.thread_state.specs.declared.value.Value.{Value}
-use Rattle.server_model.specs.Servers.{Cluster}
-use Rattle.server_model.specs.Places.{pointer_of}
-use Rattle.heap_law.specs.Things.{Location, in_cell}
-use Rattle.heap_law.specs.Follow.{Standing, value_in, value_behind, leads, locate}
-use Rattle.heap_law.specs.Walking.{instr_of}
-use Rattle.heap_law.specs.Sight.{sight}
-use Rattle.heap_law.specs.Words.{IsStale}
-use Rattle.type_law.specs.ClusterTypes.{IsCoherent}
-use Rattle.path_law.specs.HeapStore.{GoesOn, HasPaths}
-use Rattle.path_law.proofs.Alike.{coherent_has_paths}
-use Rattle.path_law.proofs.FreshPaths.{HasTaken}
-use Rattle.read_law.specs.Reading.{Reads, LiesUnder}
-use Rattle.read_law.proofs.FreshReads.{reading_of, fresh_if}
-use Rattle.read_law.proofs.Flights.{answers_told}
-use Rattle.read_law.proofs.Homes.{pointer_leads, fresh_word}
+use Rattle.turn_law.specs.Below.fr_base.declared.place.Lval.{Lval}
+use Rattle.turn_law.specs.Below.fr_base.declared.instruction.Instr.{Instr}
+use Rattle.turn_law.specs.Below.heap_partition.declared.value.BoxPtr.{BoxPtr}
+use Rattle.turn_law.specs.Below.thread_state.declared.phase.Phase.TheVariants as phase
+use Rattle.turn_law.specs.Below.thread_state.declared.value.Value.{Value}
+use Rattle.turn_law.specs.Below.server_model.Servers.{Cluster}
+use Rattle.turn_law.specs.Below.server_model.Places.{pointer_of}
+use Rattle.turn_law.specs.Below.heap_law.Things.{Location, in_cell}
+use Rattle.turn_law.specs.Below.heap_law.Follow.{Standing, value_in, value_behind, leads, locate}
+use Rattle.turn_law.specs.Below.heap_law.Walking.{instr_of}
+use Rattle.turn_law.specs.Below.heap_law.Sight.{sight}
+use Rattle.turn_law.specs.Below.heap_law.Words.{IsStale}
+use Rattle.made_law.specs.Below.type_law.ClusterTypes.{IsCoherent}
+use Rattle.made_law.specs.Below.path_law.HeapStore.{GoesOn, HasPaths}
+use Rattle.made_law.proofs.Below.path_law.Alike.{coherent_has_paths}
+use Rattle.made_law.proofs.Below.path_law.FreshPaths.{HasTaken}
+use Rattle.turn_law.specs.Below.read_law.Reading.{Reads, LiesUnder}
+use Rattle.turn_law.proofs.Below.read_law.FreshReads.{reading_of, fresh_if}
+use Rattle.turn_law.proofs.Below.read_law.Flights.{answers_told}
+use Rattle.turn_law.proofs.Below.read_law.Homes.{pointer_leads, fresh_word}
 use Rattle.made_law.proofs.Below.end_law.Lying.{lies_read}
 
 module _ (k : Cluster) (coherent : IsCoherent k) (x : Standing) (g : GoesOn k x) (i : Instr) (w : Lval) (m : ℕ) (reads : Reads i w m) (deep : w.depth ≡ suc m) (at : instr_of (sight k) x ≡ Some i)

@@ -1,37 +1,37 @@
 -- Of two clusters words see the same, but that the second one has a mutable reference more, on top, made from a pointer that isn't stale, with its word and mark, or with the word
 -- of the object that was taken for it: the words stay.
 use Rattle.std.proofs.Common.{◌≡◌, ◌≢◌, ◌⊎◌, inl, inr, ⊎_elim, ℕ, zero, suc, not, ◌||◌, ◌==◌, Bool, true, false, [], ◌∷◌, Option, Some, None, refl, sym, ap, subst, ◌∙◌}
-use Rattle.fr_base.specs.declared.name.ObjNo.{ObjNo}
-use Rattle.fr_base.specs.declared.place.Lval.{Lval}
-use Rattle.heap_partition.specs.declared.value.Cell.{Cell}
-use Rattle.heap_partition.specs.declared.value.Owned.TheVariants as owned
-use Rattle.mut_borrow.specs.declared.mutable.MutRef.{MutRef}
-use Rattle.mut_borrow.specs.Refs.{changed}
-use Rattle.thread_state.specs.declared.value.Value.{Value}
-use Rattle.thread_state.specs.declared.value.Value.TheVariants as value
-use Rattle.server_model.specs.Servers.{Cluster}
-use Rattle.heap_law.specs.Names.{Among, other}
-use Rattle.heap_law.specs.Things.{Location, at_slot, at_temp, in_cell, lies, things_of}
-use Rattle.heap_law.specs.Follow.{Ground, value_in, value_behind, leads, locate, place_at}
-use Rattle.heap_law.specs.Stale.{is_among, same_location, Reference, references, holder_of, is_held_at, with_place, one_star_less, lent_places, changed_above, stale_above, taken_above}
-use Rattle.heap_law.specs.Sight.{Pointer, pointers_in, taken_object, taken_pointers, sight}
-use Rattle.heap_law.specs.Placing.{is_first, other_first, standing_in, standing_pointers}
-use Rattle.heap_law.specs.Coherent.{Holds, first_at_holder}
-use Rattle.heap_law.specs.Words.{all_pointers, IsStale, Fresh, HasWords, LeadsTo}
-use Rattle.heap_law.specs.Dirty.{IsAlone, DirtyAlone, PastWords}
-use Rattle.heap_law.proofs.Bags.{among_split}
-use Rattle.heap_law.proofs.Names.{same_number}
-use Rattle.heap_law.proofs.Words.{none_at, none_all}
-use Rattle.path_law.proofs.Contained.{location_itself, reference_there}
-use Rattle.path_law.proofs.FreshPaths.{held_at, same_is}
-use Rattle.path_law.proofs.Origins.{among_first, among_second}
-use Rattle.path_law.proofs.Sole.{some_is}
-use Rattle.word_law.specs.Reworded.{HasPlaces, LiesThere}
-use Rattle.word_law.specs.Unmoved.{seen_at, Taking, takings, WordsStay, LeavesWords}
-use Rattle.word_law.proofs.Standing.{pointer_at, Tells, tells, told_standing, stands_in, borrow_stands}
-use Rattle.word_law.proofs.Takings.{leads_pointing, reference_at, seen_pointer_at, first_at, lent_by, taken_by, lents_are, takens_are, lent_listed, lent_told, taken_listed, taken_told}
-use Rattle.word_law.proofs.Follows.{seen_holders_lead, seen_places_lead}
-use Rattle.word_law.proofs.Grounds.{OfBorrows, of_borrows, same_place}
+use Rattle.turn_law.specs.Below.fr_base.declared.name.ObjNo.{ObjNo}
+use Rattle.turn_law.specs.Below.fr_base.declared.place.Lval.{Lval}
+use Rattle.turn_law.specs.Below.heap_partition.declared.value.Cell.{Cell}
+use Rattle.turn_law.specs.Below.heap_partition.declared.value.Owned.TheVariants as owned
+use Rattle.turn_law.specs.Below.mut_borrow.declared.mutable.MutRef.{MutRef}
+use Rattle.turn_law.specs.Below.mut_borrow.Refs.{changed}
+use Rattle.turn_law.specs.Below.thread_state.declared.value.Value.{Value}
+use Rattle.turn_law.specs.Below.thread_state.declared.value.Value.TheVariants as value
+use Rattle.turn_law.specs.Below.server_model.Servers.{Cluster}
+use Rattle.turn_law.specs.Below.heap_law.Names.{Among, other}
+use Rattle.turn_law.specs.Below.heap_law.Things.{Location, at_slot, at_temp, in_cell, lies, things_of}
+use Rattle.turn_law.specs.Below.heap_law.Follow.{Ground, value_in, value_behind, leads, locate, place_at}
+use Rattle.turn_law.specs.Below.heap_law.Stale.{is_among, same_location, Reference, references, holder_of, is_held_at, with_place, one_star_less, lent_places, changed_above, stale_above, taken_above}
+use Rattle.turn_law.specs.Below.heap_law.Sight.{Pointer, pointers_in, taken_object, taken_pointers, sight}
+use Rattle.turn_law.specs.Below.heap_law.Placing.{is_first, other_first, standing_in, standing_pointers}
+use Rattle.turn_law.specs.Below.heap_law.Coherent.{Holds, first_at_holder}
+use Rattle.turn_law.specs.Below.heap_law.Words.{all_pointers, IsStale, Fresh, HasWords, LeadsTo}
+use Rattle.turn_law.specs.Below.heap_law.Dirty.{IsAlone, DirtyAlone, PastWords}
+use Rattle.turn_law.proofs.Below.heap_law.Bags.{among_split}
+use Rattle.turn_law.proofs.Below.heap_law.Names.{same_number}
+use Rattle.turn_law.proofs.Below.heap_law.Words.{none_at, none_all}
+use Rattle.made_law.proofs.Below.path_law.Contained.{location_itself, reference_there}
+use Rattle.made_law.proofs.Below.path_law.FreshPaths.{held_at, same_is}
+use Rattle.made_law.proofs.Below.path_law.Origins.{among_first, among_second}
+use Rattle.made_law.proofs.Below.path_law.Sole.{some_is}
+use Rattle.move_law.specs.Below.word_law.Reworded.{HasPlaces, LiesThere}
+use Rattle.move_law.specs.Below.word_law.Unmoved.{seen_at, Taking, takings, WordsStay, LeavesWords}
+use Rattle.move_law.proofs.Below.word_law.Standing.{pointer_at, Tells, tells, told_standing, stands_in, borrow_stands}
+use Rattle.move_law.proofs.Below.word_law.Takings.{leads_pointing, reference_at, seen_pointer_at, first_at, lent_by, taken_by, lents_are, takens_are, lent_listed, lent_told, taken_listed, taken_told}
+use Rattle.move_law.proofs.Below.word_law.Follows.{seen_holders_lead, seen_places_lead}
+use Rattle.move_law.proofs.Below.word_law.Grounds.{OfBorrows, of_borrows, same_place}
 use Rattle.made_law.proofs.Below.carry_law.Passing.{no_temp}
 
 -- made where the object lies: the pointer isn't stale, and its word and mark are the reference's

@@ -1,39 +1,39 @@
 -- What a mutable borrow makes its reference from; and where words hold with each reference that it makes, they hold after it.
 use Rattle.std.proofs.Common.{◌≡◌, ℕ, suc, List, [], ◌++◌, Option, Some, None, option_map, refl, sym, subst, ◌∙◌}
-use Rattle.fr_base.specs.declared.place.Lval.{Lval}
-use Rattle.fr_base.specs.declared.instruction.Instr.{Instr}
-use Rattle.fr_base.specs.declared.instruction.Instr.TheVariants as instr
-use Rattle.heap_partition.specs.declared.value.BoxPtr.{BoxPtr}
-use Rattle.heap_partition.specs.declared.value.Owned.TheVariants as owned
-use Rattle.mut_borrow.specs.declared.mutable.MutRef.{MutRef}
-use Rattle.thread_state.specs.View.{ThreadState}
-use Rattle.thread_state.specs.declared.phase.Phase.{Phase}
-use Rattle.thread_state.specs.declared.value.Value.{Value}
-use Rattle.thread_state.specs.declared.value.Value.TheVariants as value
-use Rattle.server_model.specs.Servers.{Server, Cluster, server_at}
-use Rattle.server_model.specs.Work.{Hand, push_temp, thread_in, without_thread, then_some}
-use Rattle.server_model.specs.Places.{Spot, value_at}
-use Rattle.server_model.specs.Prepare.{nothing}
-use Rattle.server_model.specs.Commit.{go_on, goes_on, mutable_from, borrow_mut, borrow_mut_from, commit}
-use Rattle.server_model.specs.Events.{Stepped, committed}
-use Rattle.heap_law.specs.Things.{Thing, servers_things}
-use Rattle.type_law.specs.ClusterTypes.{IsCoherent}
-use Rattle.word_law.specs.Reworded.{HasPlaces}
-use Rattle.word_law.proofs.Unmoved.{untouched_stays}
-use Rattle.event_law.specs.Laws.{Gives}
-use Rattle.event_law.proofs.Results.{both_give}
-use Rattle.event_law.proofs.RulesKeep.{sums_kept}
-use Rattle.event_law.proofs.Bags.{all_standing}
-use Rattle.event_law.proofs.Events.{others_of}
-use Rattle.event_law.proofs.AllSteps.{commits}
-use Rattle.event_law.proofs.Commits.{CommittedOk}
-use Rattle.event_law.proofs.Steps.{SteppedOk, committed_keeps}
-use Rattle.stay_law.proofs.Alike.{turned}
-use Rattle.stay_law.proofs.Seen.{seen_alike}
-use Rattle.stay_law.proofs.Sites.{HandAlike}
-use Rattle.stay_law.specs.Laws.{mutable}
-use Rattle.prepare_law.specs.Requests.{WordsRise}
-use Rattle.prepare_law.proofs.Hands.{Ok, put, places}
+use Rattle.turn_law.specs.Below.fr_base.declared.place.Lval.{Lval}
+use Rattle.turn_law.specs.Below.fr_base.declared.instruction.Instr.{Instr}
+use Rattle.turn_law.specs.Below.fr_base.declared.instruction.Instr.TheVariants as instr
+use Rattle.turn_law.specs.Below.heap_partition.declared.value.BoxPtr.{BoxPtr}
+use Rattle.turn_law.specs.Below.heap_partition.declared.value.Owned.TheVariants as owned
+use Rattle.turn_law.specs.Below.mut_borrow.declared.mutable.MutRef.{MutRef}
+use Rattle.turn_law.specs.Below.thread_state.View.{ThreadState}
+use Rattle.turn_law.specs.Below.thread_state.declared.phase.Phase.{Phase}
+use Rattle.turn_law.specs.Below.thread_state.declared.value.Value.{Value}
+use Rattle.turn_law.specs.Below.thread_state.declared.value.Value.TheVariants as value
+use Rattle.turn_law.specs.Below.server_model.Servers.{Server, Cluster, server_at}
+use Rattle.turn_law.specs.Below.server_model.Work.{Hand, push_temp, thread_in, without_thread, then_some}
+use Rattle.turn_law.specs.Below.server_model.Places.{Spot, value_at}
+use Rattle.turn_law.specs.Below.server_model.Prepare.{nothing}
+use Rattle.turn_law.specs.Below.server_model.Commit.{go_on, goes_on, mutable_from, borrow_mut, borrow_mut_from, commit}
+use Rattle.turn_law.specs.Below.server_model.Events.{Stepped, committed}
+use Rattle.turn_law.specs.Below.heap_law.Things.{Thing, servers_things}
+use Rattle.made_law.specs.Below.type_law.ClusterTypes.{IsCoherent}
+use Rattle.move_law.specs.Below.word_law.Reworded.{HasPlaces}
+use Rattle.move_law.proofs.Below.word_law.Unmoved.{untouched_stays}
+use Rattle.turn_law.specs.Below.event_law.Laws.{Gives}
+use Rattle.turn_law.proofs.Below.event_law.Results.{both_give}
+use Rattle.turn_law.proofs.Below.event_law.RulesKeep.{sums_kept}
+use Rattle.turn_law.proofs.Below.event_law.Bags.{all_standing}
+use Rattle.turn_law.proofs.Below.event_law.Events.{others_of}
+use Rattle.turn_law.proofs.Below.event_law.AllSteps.{commits}
+use Rattle.turn_law.proofs.Below.event_law.Commits.{CommittedOk}
+use Rattle.turn_law.proofs.Below.event_law.Steps.{SteppedOk, committed_keeps}
+use Rattle.made_law.proofs.Below.stay_law.Alike.{turned}
+use Rattle.made_law.proofs.Below.stay_law.Seen.{seen_alike}
+use Rattle.made_law.proofs.Below.stay_law.Sites.{HandAlike}
+use Rattle.made_law.specs.Below.stay_law.Laws.{mutable}
+use Rattle.made_law.specs.Below.prepare_law.Requests.{WordsRise}
+use Rattle.made_law.proofs.Below.prepare_law.Hands.{Ok, put, places}
 use Rattle.made_law.proofs.Below.carry_law.Locks.{holds_on}
 use Rattle.borrow_law.proofs.Pushed.{hands_alike}
 

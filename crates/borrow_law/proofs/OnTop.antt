@@ -1,28 +1,28 @@
 -- A mutable reference on top of the thread in hand: one more, and nothing else that words see.
 use Rattle.std.proofs.Common.{◌≡◌, ◌⊎◌, ⊎_elim, inl, inr, ℕ, ◌+◌, true, false, List, [], ◌∷◌, ◌++◌, Option, Some, None, refl, sym, ap, subst, ◌∙◌}
 use Rattle.std.specs.Prelude.{slice_get, length}
-use Rattle.fr_base.specs.declared.instruction.Instr.{Instr}
-use Rattle.mut_borrow.specs.declared.mutable.MutRef.{MutRef}
-use Rattle.thread_state.specs.View.{ThreadState}
-use Rattle.thread_state.specs.declared.value.Value.{Value}
-use Rattle.thread_state.specs.declared.value.Value.TheVariants as value
-use Rattle.server_model.specs.Servers.{Server, Cluster, server_at}
-use Rattle.server_model.specs.Work.{Hand, push_temp, thread_in}
-use Rattle.server_model.specs.Commit.{go_on}
-use Rattle.heap_law.specs.Names.{Among}
-use Rattle.heap_law.specs.Things.{Location, at_slot, at_temp, in_cell, borrows, gift_things, walk_things, slot_things, temp_things, things_at, thread_things, things_of}
-use Rattle.heap_law.specs.Follow.{Standing, threads_in, temp_of, value_in, locate}
-use Rattle.heap_law.specs.Sight.{Pointer, pointers_in, sight}
-use Rattle.heap_law.specs.Placing.{is_first, standing_in}
-use Rattle.type_law.specs.ClusterTypes.{IsCoherent}
-use Rattle.word_law.specs.Reworded.{HasPlaces}
-use Rattle.word_law.specs.Unmoved.{pointing, owning, seen_at, Taking, with_taking, taking_of, takings}
-use Rattle.word_law.proofs.Put.{Split, put_split}
-use Rattle.word_law.proofs.Standing.{pointer_at, stands_in}
-use Rattle.stay_law.proofs.Alike.{Alike, itself, chain, beside, joined, standing_turn}
-use Rattle.stay_law.proofs.Steps.{TakesNoneHere}
-use Rattle.prepare_law.proofs.Hands.{Ok, put, places, stands}
-use Rattle.path_law.proofs.Contained.{among_thread}
+use Rattle.turn_law.specs.Below.fr_base.declared.instruction.Instr.{Instr}
+use Rattle.turn_law.specs.Below.mut_borrow.declared.mutable.MutRef.{MutRef}
+use Rattle.turn_law.specs.Below.thread_state.View.{ThreadState}
+use Rattle.turn_law.specs.Below.thread_state.declared.value.Value.{Value}
+use Rattle.turn_law.specs.Below.thread_state.declared.value.Value.TheVariants as value
+use Rattle.turn_law.specs.Below.server_model.Servers.{Server, Cluster, server_at}
+use Rattle.turn_law.specs.Below.server_model.Work.{Hand, push_temp, thread_in}
+use Rattle.turn_law.specs.Below.server_model.Commit.{go_on}
+use Rattle.turn_law.specs.Below.heap_law.Names.{Among}
+use Rattle.turn_law.specs.Below.heap_law.Things.{Location, at_slot, at_temp, in_cell, borrows, gift_things, walk_things, slot_things, temp_things, things_at, thread_things, things_of}
+use Rattle.turn_law.specs.Below.heap_law.Follow.{Standing, threads_in, temp_of, value_in, locate}
+use Rattle.turn_law.specs.Below.heap_law.Sight.{Pointer, pointers_in, sight}
+use Rattle.turn_law.specs.Below.heap_law.Placing.{is_first, standing_in}
+use Rattle.made_law.specs.Below.type_law.ClusterTypes.{IsCoherent}
+use Rattle.move_law.specs.Below.word_law.Reworded.{HasPlaces}
+use Rattle.move_law.specs.Below.word_law.Unmoved.{pointing, owning, seen_at, Taking, with_taking, taking_of, takings}
+use Rattle.move_law.proofs.Below.word_law.Put.{Split, put_split}
+use Rattle.move_law.proofs.Below.word_law.Standing.{pointer_at, stands_in}
+use Rattle.made_law.proofs.Below.stay_law.Alike.{Alike, itself, chain, beside, joined, standing_turn}
+use Rattle.made_law.proofs.Below.stay_law.Steps.{TakesNoneHere}
+use Rattle.made_law.proofs.Below.prepare_law.Hands.{Ok, put, places, stands}
+use Rattle.made_law.proofs.Below.path_law.Contained.{among_thread}
 use Rattle.made_law.proofs.Below.carry_law.Far.{taking_listed}
 use Rattle.made_law.proofs.Below.carry_law.Places.{end_is, end_none, end_other, end_things}
 use Rattle.made_law.proofs.Below.carry_law.Replaced.{standing_split, standing_first, tail_of, takings_skip, threads_a, threads_b, at_a, at_b, in_slots, in_temps, in_cells, takings_same, lies_back, pointer_back, standing_back, of_thread}

@@ -1,30 +1,30 @@
 -- Of two clusters words see the same, but that the second one has a shared reference more.
 use Rattle.std.proofs.Common.{◌≡◌, ◌⊎◌, inl, inr, ⊎_elim, ℕ, Bool, true, ◌∷◌, Some, None, refl, sym, ap, subst, ◌∙◌}
 use Rattle.std.specs.Prelude.{⊤}
-use Rattle.fr_base.specs.declared.name.ObjNo.{ObjNo}
-use Rattle.heap_partition.specs.declared.value.Cell.{Cell}
-use Rattle.mut_borrow.specs.declared.mutable.MutRef.{MutRef}
-use Rattle.mut_borrow.specs.declared.shared.SharedRef.{SharedRef}
-use Rattle.thread_state.specs.View.{ThreadState}
-use Rattle.thread_state.specs.declared.value.Value.{Value}
-use Rattle.thread_state.specs.declared.value.Value.TheVariants as value
-use Rattle.server_model.specs.Servers.{Cluster}
-use Rattle.heap_law.specs.Names.{Among}
-use Rattle.heap_law.specs.Things.{Location, at_slot, at_temp, in_cell, Thing, shares, lies, flies, stands, things_of}
-use Rattle.heap_law.specs.Follow.{value_in}
-use Rattle.heap_law.specs.Stale.{is_held_at}
-use Rattle.heap_law.specs.Sight.{Pointer, pointers_in, sight}
-use Rattle.heap_law.specs.Placing.{standing_in, standing_pointers}
-use Rattle.heap_law.specs.Words.{IsStale}
-use Rattle.heap_law.specs.Dirty.{DirtyAlone}
-use Rattle.path_law.proofs.FreshPaths.{held_at}
-use Rattle.path_law.proofs.Sole.{some_is}
-use Rattle.word_law.specs.Reworded.{HasPlaces}
-use Rattle.word_law.specs.Unmoved.{takings}
-use Rattle.word_law.specs.OneMore.{IsClean, Beside, OneMore}
-use Rattle.word_law.proofs.Standing.{CellOf, lying, flying, borrow_stands}
-use Rattle.word_law.proofs.Grounds.{of_borrows}
-use Rattle.stay_law.proofs.Alike.{StandsIn, Alike, standing_turn}
+use Rattle.turn_law.specs.Below.fr_base.declared.name.ObjNo.{ObjNo}
+use Rattle.turn_law.specs.Below.heap_partition.declared.value.Cell.{Cell}
+use Rattle.turn_law.specs.Below.mut_borrow.declared.mutable.MutRef.{MutRef}
+use Rattle.turn_law.specs.Below.mut_borrow.declared.shared.SharedRef.{SharedRef}
+use Rattle.turn_law.specs.Below.thread_state.View.{ThreadState}
+use Rattle.turn_law.specs.Below.thread_state.declared.value.Value.{Value}
+use Rattle.turn_law.specs.Below.thread_state.declared.value.Value.TheVariants as value
+use Rattle.turn_law.specs.Below.server_model.Servers.{Cluster}
+use Rattle.turn_law.specs.Below.heap_law.Names.{Among}
+use Rattle.turn_law.specs.Below.heap_law.Things.{Location, at_slot, at_temp, in_cell, Thing, shares, lies, flies, stands, things_of}
+use Rattle.turn_law.specs.Below.heap_law.Follow.{value_in}
+use Rattle.turn_law.specs.Below.heap_law.Stale.{is_held_at}
+use Rattle.turn_law.specs.Below.heap_law.Sight.{Pointer, pointers_in, sight}
+use Rattle.turn_law.specs.Below.heap_law.Placing.{standing_in, standing_pointers}
+use Rattle.turn_law.specs.Below.heap_law.Words.{IsStale}
+use Rattle.turn_law.specs.Below.heap_law.Dirty.{DirtyAlone}
+use Rattle.made_law.proofs.Below.path_law.FreshPaths.{held_at}
+use Rattle.made_law.proofs.Below.path_law.Sole.{some_is}
+use Rattle.move_law.specs.Below.word_law.Reworded.{HasPlaces}
+use Rattle.move_law.specs.Below.word_law.Unmoved.{takings}
+use Rattle.move_law.specs.Below.word_law.OneMore.{IsClean, Beside, OneMore}
+use Rattle.move_law.proofs.Below.word_law.Standing.{CellOf, lying, flying, borrow_stands}
+use Rattle.move_law.proofs.Below.word_law.Grounds.{of_borrows}
+use Rattle.made_law.proofs.Below.stay_law.Alike.{StandsIn, Alike, standing_turn}
 use Rattle.made_law.proofs.Below.carry_law.Far.{loose_within, CellIn, lies_in, flies_in}
 use Rattle.made_law.proofs.Sames.{taken_on, CellAway, stands_alike}
 

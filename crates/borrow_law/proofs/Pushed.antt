@@ -1,36 +1,36 @@
 -- What a pointer allows of which a shared reference is made, and the hand on which that is pushed.
 use Rattle.std.proofs.Common.{◌≡◌, inl, ℕ, ◌+◌, true, false, List, [], ◌∷◌, ◌++◌, Some, None, refl, sym, subst, ◌∙◌}
-use Rattle.fr_base.specs.declared.instruction.Instr.{Instr}
-use Rattle.heap_partition.specs.declared.value.Owned.TheVariants as owned
-use Rattle.mut_borrow.specs.declared.mutable.MutRef.{MutRef}
-use Rattle.mut_borrow.specs.declared.shared.SharedRef.{SharedRef}
-use Rattle.thread_state.specs.View.{ThreadState}
-use Rattle.thread_state.specs.declared.value.Value.{Value}
-use Rattle.thread_state.specs.declared.value.Value.TheVariants as value
-use Rattle.server_model.specs.Servers.{Server, Cluster, server_at}
-use Rattle.server_model.specs.Work.{Hand, push_temp, thread_in, set_thread, without_thread, put_back}
-use Rattle.server_model.specs.Commit.{shared_from}
-use Rattle.heap_law.specs.Names.{Among}
-use Rattle.heap_law.specs.Things as things
-use Rattle.heap_law.specs.Things.{Location, at_temp, Thing, shares, stands, things_at, gift_things, walk_things, temp_things, thread_things, things_of}
-use Rattle.heap_law.specs.Follow.{value_in}
-use Rattle.heap_law.specs.Sight.{Pointer, pointers_in, taken_pointers, sight}
-use Rattle.heap_law.specs.Placing.{standing_in}
-use Rattle.heap_law.specs.Words.{all_pointers, IsStale}
-use Rattle.path_law.proofs.Origins.{among_first}
-use Rattle.word_law.specs.Reworded.{HasPlaces}
-use Rattle.word_law.specs.OneMore.{IsClean, Beside}
-use Rattle.word_law.proofs.Standing.{pointer_at, standing_among, stands_in, told_standing}
-use Rattle.event_law.proofs.Bags.{all_standing, body_things}
-use Rattle.read_law.proofs.Homes.{shared_among}
-use Rattle.stay_law.proofs.Alike.{Alike, itself, turned, chain, beside, exchanged, joined}
-use Rattle.stay_law.proofs.Lists.{thread_set, taken_alike}
-use Rattle.stay_law.proofs.Threads.{slots_of, temps_of, stands_alike, value_alike}
-use Rattle.stay_law.proofs.Sites.{HandAlike, ends_alike, replaced}
-use Rattle.stay_law.proofs.Steps.{last_points}
-use Rattle.prepare_law.specs.Requests.{WordsRise}
-use Rattle.prepare_law.proofs.Copying.{end_things}
-use Rattle.prepare_law.proofs.Hands.{Ok, put}
+use Rattle.turn_law.specs.Below.fr_base.declared.instruction.Instr.{Instr}
+use Rattle.turn_law.specs.Below.heap_partition.declared.value.Owned.TheVariants as owned
+use Rattle.turn_law.specs.Below.mut_borrow.declared.mutable.MutRef.{MutRef}
+use Rattle.turn_law.specs.Below.mut_borrow.declared.shared.SharedRef.{SharedRef}
+use Rattle.turn_law.specs.Below.thread_state.View.{ThreadState}
+use Rattle.turn_law.specs.Below.thread_state.declared.value.Value.{Value}
+use Rattle.turn_law.specs.Below.thread_state.declared.value.Value.TheVariants as value
+use Rattle.turn_law.specs.Below.server_model.Servers.{Server, Cluster, server_at}
+use Rattle.turn_law.specs.Below.server_model.Work.{Hand, push_temp, thread_in, set_thread, without_thread, put_back}
+use Rattle.turn_law.specs.Below.server_model.Commit.{shared_from}
+use Rattle.turn_law.specs.Below.heap_law.Names.{Among}
+use Rattle.turn_law.specs.Below.heap_law.Things as things
+use Rattle.turn_law.specs.Below.heap_law.Things.{Location, at_temp, Thing, shares, stands, things_at, gift_things, walk_things, temp_things, thread_things, things_of}
+use Rattle.turn_law.specs.Below.heap_law.Follow.{value_in}
+use Rattle.turn_law.specs.Below.heap_law.Sight.{Pointer, pointers_in, taken_pointers, sight}
+use Rattle.turn_law.specs.Below.heap_law.Placing.{standing_in}
+use Rattle.turn_law.specs.Below.heap_law.Words.{all_pointers, IsStale}
+use Rattle.made_law.proofs.Below.path_law.Origins.{among_first}
+use Rattle.move_law.specs.Below.word_law.Reworded.{HasPlaces}
+use Rattle.move_law.specs.Below.word_law.OneMore.{IsClean, Beside}
+use Rattle.move_law.proofs.Below.word_law.Standing.{pointer_at, standing_among, stands_in, told_standing}
+use Rattle.turn_law.proofs.Below.event_law.Bags.{all_standing, body_things}
+use Rattle.turn_law.proofs.Below.read_law.Homes.{shared_among}
+use Rattle.made_law.proofs.Below.stay_law.Alike.{Alike, itself, turned, chain, beside, exchanged, joined}
+use Rattle.made_law.proofs.Below.stay_law.Lists.{thread_set, taken_alike}
+use Rattle.made_law.proofs.Below.stay_law.Threads.{slots_of, temps_of, stands_alike, value_alike}
+use Rattle.made_law.proofs.Below.stay_law.Sites.{HandAlike, ends_alike, replaced}
+use Rattle.made_law.proofs.Below.stay_law.Steps.{last_points}
+use Rattle.made_law.specs.Below.prepare_law.Requests.{WordsRise}
+use Rattle.made_law.proofs.Below.prepare_law.Copying.{end_things}
+use Rattle.made_law.proofs.Below.prepare_law.Hands.{Ok, put}
 use Rattle.borrow_law.proofs.OneShare.{shared_pointer, clean_shared, clean_placed}
 
 -- WHAT MAY BE PUSHED
@@ -134,7 +134,7 @@ shared_on_top code n r h = record {
 
 -- PUT BACK
 
-module _ (k : Cluster) (coherent : Rattle.type_law.specs.ClusterTypes.IsCoherent k) (s : Server) (here : server_at k.servers s.rest.number ≡ Some s) (t : ℕ) (y : ThreadState) (at : thread_in s.threads t ≡ Some y) where
+module _ (k : Cluster) (coherent : Rattle.made_law.specs.Below.type_law.ClusterTypes.IsCoherent k) (s : Server) (here : server_at k.servers s.rest.number ≡ Some s) (t : ℕ) (y : ThreadState) (at : thread_in s.threads t ≡ Some y) where
   abbrev n : ℕ
   n = s.rest.number
 

@@ -3,58 +3,58 @@ use Rattle.std.proofs.Common.{◌≡◌, ◌≢◌, inr, ℕ, zero, suc, ◌+◌
 use Rattle.std.specs.Prelude.{slice_get, slice_set, slice_index_or, length}
 use Rattle.std.proofs.lemmas.Bool.{eq-eqb}
 use Rattle.std.proofs.lemmas.Bool.Decides.{nat_tests}
-use Rattle.global_addr.specs.Words.{word_of, colour_of, server_of, address_of}
-use Rattle.heap_partition.specs.declared.value.Cell.{Cell}
-use Rattle.colour_retire.specs.Colours.{picked}
-use Rattle.owner_box.specs.View.{PartitionState}
-use Rattle.owner_box.specs.Partition.{cell_of as cell_under, next_place, freed, made, renewed, made_again, new_word}
-use Rattle.mut_borrow.specs.declared.mutable.MutRef.{MutRef}
-use Rattle.journal.specs.declared.act.Act.TheVariants as act
-use Rattle.thread_state.specs.View.{ThreadState}
-use Rattle.thread_state.specs.declared.value.Value.TheVariants as value
-use Rattle.server_model.specs.Servers.{Rest, Server, Cluster, server_at}
-use Rattle.server_model.specs.Work.{Hand, look, leads_here, note, with_partition, thread_in, set_thread, without_thread}
-use Rattle.server_model.specs.NewWords.{NewWord, can_grow, is_last, issue_renewal}
-use Rattle.server_model.specs.Places.{in_slot, took, put_word}
-use Rattle.server_model.specs.Prepare.{box_of}
-use Rattle.heap_law.specs.Names.{Among, one}
-use Rattle.heap_law.specs.Things.{Location, at_slot, lies, partition_things, servers_things, things_of}
-use Rattle.heap_law.specs.Follow.{value_in}
-use Rattle.heap_law.specs.Stale.{holder_of}
-use Rattle.heap_law.specs.Sight.{issued, sight}
-use Rattle.heap_law.specs.Weights.{cells, states}
-use Rattle.heap_law.specs.Words.{IsStale, LeadsTo}
-use Rattle.heap_law.specs.Coherent.{Holds, are_issued, IsSound}
-use Rattle.heap_law.proofs.Names.{same_number, and_left, and_right}
-use Rattle.heap_law.proofs.Words.{itself}
-use Rattle.type_law.specs.ClusterTypes.{IsCoherent}
-use Rattle.path_law.proofs.InState.{only_one}
-use Rattle.path_law.proofs.Contained.{reference_there}
-use Rattle.event_law.specs.Laws.{FewEvents}
-use Rattle.event_law.proofs.Results.{given_by}
-use Rattle.event_law.proofs.RulesKeep.{sums_kept}
-use Rattle.event_law.proofs.Bags.{all_standing}
-use Rattle.event_law.proofs.Events.{others_of}
-use Rattle.event_law.proofs.Objects.{length_set}
-use Rattle.event_law.proofs.NewWords.{hand_renews}
-use Rattle.read_law.specs.Reading.{LiesUnder}
-use Rattle.read_law.proofs.Lookups.{one_state}
-use Rattle.word_law.specs.Reworded.{HasPlaces, Reworded}
-use Rattle.word_law.specs.PutBack.{LeadsHome}
-use Rattle.word_law.specs.WordsAfter.{Rewrites}
-use Rattle.word_law.proofs.Only.{are_only}
-use Rattle.word_law.proofs.Past.{first_issued, past_goes_on}
-use Rattle.word_law.proofs.Words.{words_go_on, changed_rewords}
-use Rattle.word_law.proofs.Beside.{holders_go_on, dirty_goes_on}
-use Rattle.word_law.proofs.Tints.{SlotPut, word_put, slot_stands}
-use Rattle.word_law.proofs.Slots.{set_same}
-use Rattle.word_law.proofs.Grounds.{of_borrows}
+use Rattle.turn_law.specs.Below.global_addr.Words.{word_of, colour_of, server_of, address_of}
+use Rattle.turn_law.specs.Below.heap_partition.declared.value.Cell.{Cell}
+use Rattle.turn_law.specs.Below.colour_retire.Colours.{picked}
+use Rattle.turn_law.specs.Below.owner_box.View.{PartitionState}
+use Rattle.turn_law.specs.Below.owner_box.Partition.{cell_of as cell_under, next_place, freed, made, renewed, made_again, new_word}
+use Rattle.turn_law.specs.Below.mut_borrow.declared.mutable.MutRef.{MutRef}
+use Rattle.turn_law.specs.Below.journal.declared.act.Act.TheVariants as act
+use Rattle.turn_law.specs.Below.thread_state.View.{ThreadState}
+use Rattle.turn_law.specs.Below.thread_state.declared.value.Value.TheVariants as value
+use Rattle.turn_law.specs.Below.server_model.Servers.{Rest, Server, Cluster, server_at}
+use Rattle.turn_law.specs.Below.server_model.Work.{Hand, look, leads_here, note, with_partition, thread_in, set_thread, without_thread}
+use Rattle.turn_law.specs.Below.server_model.NewWords.{NewWord, can_grow, is_last, issue_renewal}
+use Rattle.turn_law.specs.Below.server_model.Places.{in_slot, took, put_word}
+use Rattle.turn_law.specs.Below.server_model.Prepare.{box_of}
+use Rattle.turn_law.specs.Below.heap_law.Names.{Among, one}
+use Rattle.turn_law.specs.Below.heap_law.Things.{Location, at_slot, lies, partition_things, servers_things, things_of}
+use Rattle.turn_law.specs.Below.heap_law.Follow.{value_in}
+use Rattle.turn_law.specs.Below.heap_law.Stale.{holder_of}
+use Rattle.turn_law.specs.Below.heap_law.Sight.{issued, sight}
+use Rattle.turn_law.specs.Below.heap_law.Weights.{cells, states}
+use Rattle.turn_law.specs.Below.heap_law.Words.{IsStale, LeadsTo}
+use Rattle.turn_law.specs.Below.heap_law.Coherent.{Holds, are_issued, IsSound}
+use Rattle.turn_law.proofs.Below.heap_law.Names.{same_number, and_left, and_right}
+use Rattle.turn_law.proofs.Below.heap_law.Words.{itself}
+use Rattle.made_law.specs.Below.type_law.ClusterTypes.{IsCoherent}
+use Rattle.made_law.proofs.Below.path_law.InState.{only_one}
+use Rattle.made_law.proofs.Below.path_law.Contained.{reference_there}
+use Rattle.turn_law.specs.Below.event_law.Laws.{FewEvents}
+use Rattle.turn_law.proofs.Below.event_law.Results.{given_by}
+use Rattle.turn_law.proofs.Below.event_law.RulesKeep.{sums_kept}
+use Rattle.turn_law.proofs.Below.event_law.Bags.{all_standing}
+use Rattle.turn_law.proofs.Below.event_law.Events.{others_of}
+use Rattle.turn_law.proofs.Below.event_law.Objects.{length_set}
+use Rattle.turn_law.proofs.Below.event_law.NewWords.{hand_renews}
+use Rattle.turn_law.specs.Below.read_law.Reading.{LiesUnder}
+use Rattle.turn_law.proofs.Below.read_law.Lookups.{one_state}
+use Rattle.move_law.specs.Below.word_law.Reworded.{HasPlaces, Reworded}
+use Rattle.move_law.specs.Below.word_law.PutBack.{LeadsHome}
+use Rattle.move_law.specs.Below.word_law.WordsAfter.{Rewrites}
+use Rattle.move_law.proofs.Below.word_law.Only.{are_only}
+use Rattle.move_law.proofs.Below.word_law.Past.{first_issued, past_goes_on}
+use Rattle.move_law.proofs.Below.word_law.Words.{words_go_on, changed_rewords}
+use Rattle.move_law.proofs.Below.word_law.Beside.{holders_go_on, dirty_goes_on}
+use Rattle.move_law.proofs.Below.word_law.Tints.{SlotPut, word_put, slot_stands}
+use Rattle.move_law.proofs.Below.word_law.Slots.{set_same}
+use Rattle.move_law.proofs.Below.word_law.Grounds.{of_borrows}
 use Rattle.move_law.specs.Relaid.{NextIsVacant, Renewal}
 use Rattle.move_law.proofs.Relaid.{at_lies, put_here, renewals_reword}
-use Rattle.prepare_law.specs.Requests.{WordsRise}
-use Rattle.prepare_law.proofs.Rising.{rise_changed}
-use Rattle.prepare_law.proofs.Along.{no_first, dirty_changed}
-use Rattle.prepare_law.proofs.Hands.{Ok, put, places, stands, Walks}
+use Rattle.made_law.specs.Below.prepare_law.Requests.{WordsRise}
+use Rattle.made_law.proofs.Below.prepare_law.Rising.{rise_changed}
+use Rattle.made_law.proofs.Below.prepare_law.Along.{no_first, dirty_changed}
+use Rattle.made_law.proofs.Below.prepare_law.Hands.{Ok, put, places, stands, Walks}
 use Rattle.made_law.proofs.Listed.{of_server, of_placed, of_partition}
 use Rattle.made_law.proofs.Servers.{vacant_there, NextWord, next_word_is}
 

@@ -1,65 +1,65 @@
 -- A shared borrow, done or not, keeps the words: its pointer is cleaned first, and the new reference has its word.
 use Rattle.std.proofs.Common.{◌≡◌, ⊎_elim, ℕ, zero, suc, ◌+◌, ◌==◌, Bool, true, false, if◌then◌else◌, List, [], ◌++◌, Option, Some, None, option_map, refl, sym, ap, subst, ◌∙◌}
 use Rattle.std.specs.Prelude.{⊤, slice_get, nat_lt}
-use Rattle.fr_base.specs.declared.place.Lval.{Lval}
-use Rattle.fr_base.specs.declared.instruction.Instr.{Instr}
-use Rattle.fr_base.specs.declared.instruction.Instr.TheVariants as instr
-use Rattle.global_addr.specs.Words.{colour_of, server_of, next_word}
-use Rattle.heap_partition.specs.declared.value.Cell.{Cell}
-use Rattle.heap_partition.specs.declared.value.Owned.{Owned}
-use Rattle.heap_partition.specs.declared.value.Owned.TheVariants as owned
-use Rattle.mut_borrow.specs.Refs.{cleaned_answer}
-use Rattle.mut_borrow.specs.declared.mutable.MutRef.{MutRef}
-use Rattle.mut_borrow.specs.declared.mutable.Cleaned.TheVariants as cleaned
-use Rattle.mut_borrow.specs.declared.shared.SharedRef.{SharedRef}
-use Rattle.journal.specs.View.{EntryView}
-use Rattle.thread_state.specs.View.{ThreadState}
-use Rattle.thread_state.specs.declared.phase.Phase.TheVariants as phase
-use Rattle.thread_state.specs.declared.value.Value.{Value}
-use Rattle.thread_state.specs.declared.value.Value.TheVariants as value
-use Rattle.server_model.specs.declared.event.What.TheVariants.{Step}
-use Rattle.server_model.specs.Servers.{Server, Cluster, server_at}
-use Rattle.server_model.specs.Work.{Hand, push_temp, thread_in, without_thread, then_some}
-use Rattle.server_model.specs.Clusters.{apply}
-use Rattle.server_model.specs.NewWords.{NewWord, issue_tint, issue_renewal}
-use Rattle.server_model.specs.Places.{Spot, in_slot, in_cell, in_copy, cell_at, value_at, value_in as cell_value, pointer_of, load_at, took, put_word}
-use Rattle.server_model.specs.Prepare.{Prepared, ready, requested, nothing, and_then, ready_at, ask_object, box_of, cleaned_by, clean_value, read_stars, read_pointer}
-use Rattle.server_model.specs.Commit.{goes_on, shared_from, borrow, borrow_from, commit}
-use Rattle.server_model.specs.Events.{enabled, begin_work, Stepped, committed, prepared, step, step_in, stepped, does}
-use Rattle.heap_law.specs.Things.{Location, at_slot, Thing, servers_things}
-use Rattle.heap_law.specs.Follow.{Ground, value_in, locate}
-use Rattle.heap_law.specs.Sight.{sight}
-use Rattle.heap_law.specs.Words.{IsStale}
-use Rattle.type_law.specs.ClusterTypes.{IsCoherent}
-use Rattle.path_law.proofs.Sole.{some_is}
-use Rattle.word_law.specs.Reworded.{HasPlaces}
-use Rattle.word_law.specs.Unmoved.{LeavesWords}
-use Rattle.word_law.specs.OneMore.{IsClean, Beside}
-use Rattle.word_law.proofs.OneMore.{one_more_stays}
-use Rattle.word_law.proofs.Slots.{set_same}
-use Rattle.word_law.proofs.Tints.{slot_put, word_put}
-use Rattle.word_law.proofs.Unmoved.{untouched_stays}
-use Rattle.event_law.specs.Laws.{Gives, FewEvents}
-use Rattle.event_law.proofs.Results.{given_by, weaker, over_gives, both_give}
-use Rattle.event_law.proofs.RulesKeep.{sums_kept}
-use Rattle.event_law.proofs.Bags.{all_standing}
-use Rattle.event_law.proofs.Events.{others_of}
-use Rattle.event_law.proofs.NewWords.{hand_renews, puts_word}
-use Rattle.event_law.proofs.AllSteps.{commits}
-use Rattle.event_law.proofs.Steps.{SteppedOk, committed_keeps}
-use Rattle.read_law.specs.Reading.{Reads, LiesUnder, shares as shares_it}
-use Rattle.stay_law.proofs.Alike.{turned, chain}
-use Rattle.stay_law.proofs.Seen.{seen_alike}
-use Rattle.stay_law.proofs.Sites.{HandAlike}
-use Rattle.stay_law.proofs.Steps.{TakesNoneHere, shared_slot_unseen, hand_itself, pushes, goes_over}
-use Rattle.stay_law.proofs.StayKinds.{borrows_leave}
-use Rattle.stay_law.specs.Laws.{shared}
-use Rattle.prepare_law.specs.Requests.{WordsRise}
-use Rattle.prepare_law.proofs.Rising.{rise_itself}
-use Rattle.prepare_law.proofs.Untaken.{not_taken}
-use Rattle.prepare_law.proofs.Hands.{Ok, State, Walks, put, places, cleans_at}
-use Rattle.prepare_law.proofs.Stars.{Spotted, a_slot, a_cell, a_copy, asks_object, walks_loaded}
-use Rattle.prepare_law.proofs.Asking.{found_number}
+use Rattle.turn_law.specs.Below.fr_base.declared.place.Lval.{Lval}
+use Rattle.turn_law.specs.Below.fr_base.declared.instruction.Instr.{Instr}
+use Rattle.turn_law.specs.Below.fr_base.declared.instruction.Instr.TheVariants as instr
+use Rattle.turn_law.specs.Below.global_addr.Words.{colour_of, server_of, next_word}
+use Rattle.turn_law.specs.Below.heap_partition.declared.value.Cell.{Cell}
+use Rattle.turn_law.specs.Below.heap_partition.declared.value.Owned.{Owned}
+use Rattle.turn_law.specs.Below.heap_partition.declared.value.Owned.TheVariants as owned
+use Rattle.turn_law.specs.Below.mut_borrow.Refs.{cleaned_answer}
+use Rattle.turn_law.specs.Below.mut_borrow.declared.mutable.MutRef.{MutRef}
+use Rattle.turn_law.specs.Below.mut_borrow.declared.mutable.Cleaned.TheVariants as cleaned
+use Rattle.turn_law.specs.Below.mut_borrow.declared.shared.SharedRef.{SharedRef}
+use Rattle.turn_law.specs.Below.journal.View.{EntryView}
+use Rattle.turn_law.specs.Below.thread_state.View.{ThreadState}
+use Rattle.turn_law.specs.Below.thread_state.declared.phase.Phase.TheVariants as phase
+use Rattle.turn_law.specs.Below.thread_state.declared.value.Value.{Value}
+use Rattle.turn_law.specs.Below.thread_state.declared.value.Value.TheVariants as value
+use Rattle.turn_law.specs.Below.server_model.declared.event.What.TheVariants.{Step}
+use Rattle.turn_law.specs.Below.server_model.Servers.{Server, Cluster, server_at}
+use Rattle.turn_law.specs.Below.server_model.Work.{Hand, push_temp, thread_in, without_thread, then_some}
+use Rattle.turn_law.specs.Below.server_model.Clusters.{apply}
+use Rattle.turn_law.specs.Below.server_model.NewWords.{NewWord, issue_tint, issue_renewal}
+use Rattle.turn_law.specs.Below.server_model.Places.{Spot, in_slot, in_cell, in_copy, cell_at, value_at, value_in as cell_value, pointer_of, load_at, took, put_word}
+use Rattle.turn_law.specs.Below.server_model.Prepare.{Prepared, ready, requested, nothing, and_then, ready_at, ask_object, box_of, cleaned_by, clean_value, read_stars, read_pointer}
+use Rattle.turn_law.specs.Below.server_model.Commit.{goes_on, shared_from, borrow, borrow_from, commit}
+use Rattle.turn_law.specs.Below.server_model.Events.{enabled, begin_work, Stepped, committed, prepared, step, step_in, stepped, does}
+use Rattle.turn_law.specs.Below.heap_law.Things.{Location, at_slot, Thing, servers_things}
+use Rattle.turn_law.specs.Below.heap_law.Follow.{Ground, value_in, locate}
+use Rattle.turn_law.specs.Below.heap_law.Sight.{sight}
+use Rattle.turn_law.specs.Below.heap_law.Words.{IsStale}
+use Rattle.made_law.specs.Below.type_law.ClusterTypes.{IsCoherent}
+use Rattle.made_law.proofs.Below.path_law.Sole.{some_is}
+use Rattle.move_law.specs.Below.word_law.Reworded.{HasPlaces}
+use Rattle.move_law.specs.Below.word_law.Unmoved.{LeavesWords}
+use Rattle.move_law.specs.Below.word_law.OneMore.{IsClean, Beside}
+use Rattle.move_law.proofs.Below.word_law.OneMore.{one_more_stays}
+use Rattle.move_law.proofs.Below.word_law.Slots.{set_same}
+use Rattle.move_law.proofs.Below.word_law.Tints.{slot_put, word_put}
+use Rattle.move_law.proofs.Below.word_law.Unmoved.{untouched_stays}
+use Rattle.turn_law.specs.Below.event_law.Laws.{Gives, FewEvents}
+use Rattle.turn_law.proofs.Below.event_law.Results.{given_by, weaker, over_gives, both_give}
+use Rattle.turn_law.proofs.Below.event_law.RulesKeep.{sums_kept}
+use Rattle.turn_law.proofs.Below.event_law.Bags.{all_standing}
+use Rattle.turn_law.proofs.Below.event_law.Events.{others_of}
+use Rattle.turn_law.proofs.Below.event_law.NewWords.{hand_renews, puts_word}
+use Rattle.turn_law.proofs.Below.event_law.AllSteps.{commits}
+use Rattle.turn_law.proofs.Below.event_law.Steps.{SteppedOk, committed_keeps}
+use Rattle.turn_law.specs.Below.read_law.Reading.{Reads, LiesUnder, shares as shares_it}
+use Rattle.made_law.proofs.Below.stay_law.Alike.{turned, chain}
+use Rattle.made_law.proofs.Below.stay_law.Seen.{seen_alike}
+use Rattle.made_law.proofs.Below.stay_law.Sites.{HandAlike}
+use Rattle.made_law.proofs.Below.stay_law.Steps.{TakesNoneHere, shared_slot_unseen, hand_itself, pushes, goes_over}
+use Rattle.made_law.proofs.Below.stay_law.StayKinds.{borrows_leave}
+use Rattle.made_law.specs.Below.stay_law.Laws.{shared}
+use Rattle.made_law.specs.Below.prepare_law.Requests.{WordsRise}
+use Rattle.made_law.proofs.Below.prepare_law.Rising.{rise_itself}
+use Rattle.made_law.proofs.Below.prepare_law.Untaken.{not_taken}
+use Rattle.made_law.proofs.Below.prepare_law.Hands.{Ok, State, Walks, put, places, cleans_at}
+use Rattle.made_law.proofs.Below.prepare_law.Stars.{Spotted, a_slot, a_cell, a_copy, asks_object, walks_loaded}
+use Rattle.made_law.proofs.Below.prepare_law.Asking.{found_number}
 use Rattle.made_law.proofs.Below.carry_law.Locks.{holds_on, Kept, kept_where}
 use Rattle.borrow_law.specs.Borrows.{SharedBorrowsKeep}
 use Rattle.borrow_law.proofs.OneShare.{shared_pointer, share_more}

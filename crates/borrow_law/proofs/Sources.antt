@@ -1,45 +1,45 @@
 -- A thread that borrows from a pointer, shared or mutable: what it reads on the way, and that the pointer stands where its place leads; where it hasn't taken the object, it isn't stale.
 use Rattle.std.proofs.Common.{◌≡◌, ◌⊎◌, inl, inr, ℕ, suc, ◌+◌, true, false, Option, Some, None, option_map, refl, sym, ap, subst, ◌∙◌, arith}
 use Rattle.std.specs.Prelude.{slice_get}
-use Rattle.fr_base.specs.declared.place.Lval.{Lval}
-use Rattle.fr_base.specs.declared.instruction.Instr.{Instr}
-use Rattle.heap_partition.specs.declared.value.BoxPtr.{BoxPtr}
-use Rattle.heap_partition.specs.declared.value.Cell.{Cell}
-use Rattle.heap_partition.specs.declared.value.Owned.{Owned}
-use Rattle.heap_partition.specs.declared.value.Owned.TheVariants as owned
-use Rattle.migration.specs.Packing.{unpinned}
-use Rattle.thread_state.specs.View.{ThreadState}
-use Rattle.thread_state.specs.declared.phase.Phase.TheVariants as phase
-use Rattle.thread_state.specs.declared.value.Value.{Value}
-use Rattle.thread_state.specs.declared.value.Value.TheVariants as value
-use Rattle.server_model.specs.declared.event.Event.{Event}
-use Rattle.server_model.specs.declared.event.What.TheVariants.{Step}
-use Rattle.server_model.specs.Servers.{Server, Cluster, server_at}
-use Rattle.server_model.specs.Work.{Hand, thread_in}
-use Rattle.server_model.specs.Places.{Spot, in_slot, in_cell, in_copy, cell_at, value_at, value_in as cell_value, pointer_of}
-use Rattle.server_model.specs.Prepare.{Prepared, read_stars}
-use Rattle.server_model.specs.Events.{can_step, has_phase, enabled, begin_work}
-use Rattle.heap_law.specs.Things.{Location, at_slot}
-use Rattle.heap_law.specs.Follow.{Ground, Standing, value_in, locate}
-use Rattle.heap_law.specs.Sight.{sight}
-use Rattle.heap_law.specs.Words.{IsStale}
-use Rattle.type_law.specs.ClusterTypes.{IsCoherent}
-use Rattle.path_law.specs.HeapStore.{GoesOn}
-use Rattle.path_law.proofs.Alike.{coherent_has_paths}
-use Rattle.path_law.proofs.Contained.{among_thread}
-use Rattle.path_law.proofs.FreshPaths.{HasTaken}
-use Rattle.path_law.proofs.Sole.{some_is}
-use Rattle.word_law.specs.Reworded.{HasPlaces}
-use Rattle.word_law.proofs.Tints.{slot_stands}
-use Rattle.event_law.proofs.Bags.{thread_number}
-use Rattle.event_law.proofs.ThreadThere.{thread_there}
-use Rattle.read_law.specs.Reading.{Reads, LiesUnder}
-use Rattle.stay_law.proofs.Steps.{TakesNoneHere, untaken_here}
+use Rattle.turn_law.specs.Below.fr_base.declared.place.Lval.{Lval}
+use Rattle.turn_law.specs.Below.fr_base.declared.instruction.Instr.{Instr}
+use Rattle.turn_law.specs.Below.heap_partition.declared.value.BoxPtr.{BoxPtr}
+use Rattle.turn_law.specs.Below.heap_partition.declared.value.Cell.{Cell}
+use Rattle.turn_law.specs.Below.heap_partition.declared.value.Owned.{Owned}
+use Rattle.turn_law.specs.Below.heap_partition.declared.value.Owned.TheVariants as owned
+use Rattle.turn_law.specs.Below.migration.Packing.{unpinned}
+use Rattle.turn_law.specs.Below.thread_state.View.{ThreadState}
+use Rattle.turn_law.specs.Below.thread_state.declared.phase.Phase.TheVariants as phase
+use Rattle.turn_law.specs.Below.thread_state.declared.value.Value.{Value}
+use Rattle.turn_law.specs.Below.thread_state.declared.value.Value.TheVariants as value
+use Rattle.turn_law.specs.Below.server_model.declared.event.Event.{Event}
+use Rattle.turn_law.specs.Below.server_model.declared.event.What.TheVariants.{Step}
+use Rattle.turn_law.specs.Below.server_model.Servers.{Server, Cluster, server_at}
+use Rattle.turn_law.specs.Below.server_model.Work.{Hand, thread_in}
+use Rattle.turn_law.specs.Below.server_model.Places.{Spot, in_slot, in_cell, in_copy, cell_at, value_at, value_in as cell_value, pointer_of}
+use Rattle.turn_law.specs.Below.server_model.Prepare.{Prepared, read_stars}
+use Rattle.turn_law.specs.Below.server_model.Events.{can_step, has_phase, enabled, begin_work}
+use Rattle.turn_law.specs.Below.heap_law.Things.{Location, at_slot}
+use Rattle.turn_law.specs.Below.heap_law.Follow.{Ground, Standing, value_in, locate}
+use Rattle.turn_law.specs.Below.heap_law.Sight.{sight}
+use Rattle.turn_law.specs.Below.heap_law.Words.{IsStale}
+use Rattle.made_law.specs.Below.type_law.ClusterTypes.{IsCoherent}
+use Rattle.made_law.specs.Below.path_law.HeapStore.{GoesOn}
+use Rattle.made_law.proofs.Below.path_law.Alike.{coherent_has_paths}
+use Rattle.made_law.proofs.Below.path_law.Contained.{among_thread}
+use Rattle.made_law.proofs.Below.path_law.FreshPaths.{HasTaken}
+use Rattle.made_law.proofs.Below.path_law.Sole.{some_is}
+use Rattle.move_law.specs.Below.word_law.Reworded.{HasPlaces}
+use Rattle.move_law.proofs.Below.word_law.Tints.{slot_stands}
+use Rattle.turn_law.proofs.Below.event_law.Bags.{thread_number}
+use Rattle.turn_law.proofs.Below.event_law.ThreadThere.{thread_there}
+use Rattle.turn_law.specs.Below.read_law.Reading.{Reads, LiesUnder}
+use Rattle.made_law.proofs.Below.stay_law.Steps.{TakesNoneHere, untaken_here}
 use Rattle.turn_law.proofs.Events.{AtStep}
 use Rattle.turn_law.proofs.ReadWalk.{Finds, At, Comes, reads as walk, seen_value}
 use Rattle.turn_law.proofs.StarLines.{finds}
-use Rattle.prepare_law.proofs.Hands.{Ok, Walks, put, places, stands, first_hand, calm_goes, calm_waits}
-use Rattle.prepare_law.proofs.Stars.{ReadsOk, Spotted, a_slot, a_cell, a_copy, stars_ok}
+use Rattle.made_law.proofs.Below.prepare_law.Hands.{Ok, Walks, put, places, stands, first_hand, calm_goes, calm_waits}
+use Rattle.made_law.proofs.Below.prepare_law.Stars.{ReadsOk, Spotted, a_slot, a_cell, a_copy, stars_ok}
 use Rattle.borrow_law.proofs.Lasts.{fresh_last, under_last}
 
 -- what owns has no pins

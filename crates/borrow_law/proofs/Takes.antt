@@ -2,62 +2,62 @@
 use Rattle.std.proofs.Common.{◌≡◌, ◌≢◌, ◌⊎◌, inl, inr, ⊎_elim, ℕ, zero, suc, ◌==◌, Bool, true, false, if◌then◌else◌, List, [], ◌∷◌, ◌++◌, Option, Some, None, option_map, refl, sym, ap, ap₂, subst, ◌∙◌}
 use Rattle.std.specs.Prelude.{⊤, slice_get, length}
 use Rattle.std.proofs.lemmas.Bool.{eq-eqb}
-use Rattle.fr_base.specs.declared.place.Lval.{Lval}
-use Rattle.fr_base.specs.declared.step.Fresh.TheVariants as fresh
-use Rattle.fr_base.specs.declared.instruction.Instr.{Instr}
-use Rattle.fr_base.specs.declared.instruction.Instr.TheVariants as instr
-use Rattle.heap_partition.specs.declared.value.BoxPtr.{BoxPtr}
-use Rattle.heap_partition.specs.declared.value.Owned.{Owned}
-use Rattle.heap_partition.specs.declared.value.Owned.TheVariants as owned
-use Rattle.mut_borrow.specs.declared.mutable.MutRef.{MutRef}
-use Rattle.place_walk.specs.declared.hop.Hop.{Hop}
-use Rattle.place_walk.specs.declared.hop.Hop.TheVariants as hop
-use Rattle.place_walk.specs.Hops.{write_hop}
-use Rattle.journal.specs.View.{EntryView}
-use Rattle.thread_state.specs.View.{ThreadState}
-use Rattle.thread_state.specs.declared.phase.Phase.{Phase}
-use Rattle.thread_state.specs.declared.phase.Phase.TheVariants as phase
-use Rattle.thread_state.specs.declared.value.Value.{Value}
-use Rattle.thread_state.specs.declared.value.Value.TheVariants as value
-use Rattle.server_model.specs.declared.event.Event.{Event}
-use Rattle.server_model.specs.declared.event.What.TheVariants.{Step}
-use Rattle.server_model.specs.Servers.{Server, Cluster, server_at}
-use Rattle.server_model.specs.Work.{Hand, push_temp, thread_in, without_thread, then_some}
-use Rattle.server_model.specs.Clusters.{apply}
-use Rattle.server_model.specs.Places.{Spot, in_slot, took, value_at, load_at, pointer_of}
-use Rattle.server_model.specs.Prepare.{Prepared, ready, requested, nothing, ReadTo, LendTo, and_then, ask_object, request_by, read_stars, is_taken, lend_by, lend_value, lend_pointer}
-use Rattle.server_model.specs.Commit.{go_on, goes_on, lent_word, mutable_from, commit, settle}
-use Rattle.server_model.specs.Events.{enabled, begin_work, Stepped, done_step, committed, prepared, step, step_in, stepped, does}
-use Rattle.heap_law.specs.Names.{Among, one, other}
-use Rattle.heap_law.specs.Things.{Location, at_slot, in_cell, Thing, stands, servers_things, things_of}
-use Rattle.heap_law.specs.Follow.{Ground, Standing, value_behind, leads, locate, place_at}
-use Rattle.heap_law.specs.Placing.{is_first, phase_word, words}
-use Rattle.heap_law.specs.Requests.{has_word, last_hop, taken_again, old_word, lies_here, taken_there, taken_phase, lent_place}
-use Rattle.heap_law.specs.Sight.{taken_object, issued, sight}
-use Rattle.heap_law.specs.Stale.{one_star_less}
-use Rattle.heap_law.proofs.Words.{none_at}
-use Rattle.type_law.specs.ClusterTypes.{IsCoherent}
-use Rattle.path_law.proofs.Sole.{some_is}
-use Rattle.word_law.specs.Reworded.{HasPlaces}
-use Rattle.word_law.specs.Unmoved.{Taking, taking_by, taking_of}
-use Rattle.word_law.proofs.Follows.{seen_places_lead}
-use Rattle.word_law.proofs.Standing.{pointer_at}
-use Rattle.event_law.specs.Laws.{Gives, FewEvents}
-use Rattle.event_law.proofs.Results.{over_gives}
-use Rattle.event_law.proofs.Bags.{all_standing}
-use Rattle.event_law.proofs.Events.{others_of}
-use Rattle.event_law.proofs.GiftsTaken.{none_here}
-use Rattle.read_law.specs.Reading.{Reads, lends}
-use Rattle.still_law.proofs.Prepares.{Fine as Shown}
-use Rattle.still_law.proofs.Readied.{Readied}
-use Rattle.stay_law.proofs.Sites.{HandAlike}
-use Rattle.stay_law.proofs.Steps.{settles}
+use Rattle.turn_law.specs.Below.fr_base.declared.place.Lval.{Lval}
+use Rattle.turn_law.specs.Below.fr_base.declared.step.Fresh.TheVariants as fresh
+use Rattle.turn_law.specs.Below.fr_base.declared.instruction.Instr.{Instr}
+use Rattle.turn_law.specs.Below.fr_base.declared.instruction.Instr.TheVariants as instr
+use Rattle.turn_law.specs.Below.heap_partition.declared.value.BoxPtr.{BoxPtr}
+use Rattle.turn_law.specs.Below.heap_partition.declared.value.Owned.{Owned}
+use Rattle.turn_law.specs.Below.heap_partition.declared.value.Owned.TheVariants as owned
+use Rattle.turn_law.specs.Below.mut_borrow.declared.mutable.MutRef.{MutRef}
+use Rattle.turn_law.specs.Below.place_walk.declared.hop.Hop.{Hop}
+use Rattle.turn_law.specs.Below.place_walk.declared.hop.Hop.TheVariants as hop
+use Rattle.turn_law.specs.Below.place_walk.Hops.{write_hop}
+use Rattle.turn_law.specs.Below.journal.View.{EntryView}
+use Rattle.turn_law.specs.Below.thread_state.View.{ThreadState}
+use Rattle.turn_law.specs.Below.thread_state.declared.phase.Phase.{Phase}
+use Rattle.turn_law.specs.Below.thread_state.declared.phase.Phase.TheVariants as phase
+use Rattle.turn_law.specs.Below.thread_state.declared.value.Value.{Value}
+use Rattle.turn_law.specs.Below.thread_state.declared.value.Value.TheVariants as value
+use Rattle.turn_law.specs.Below.server_model.declared.event.Event.{Event}
+use Rattle.turn_law.specs.Below.server_model.declared.event.What.TheVariants.{Step}
+use Rattle.turn_law.specs.Below.server_model.Servers.{Server, Cluster, server_at}
+use Rattle.turn_law.specs.Below.server_model.Work.{Hand, push_temp, thread_in, without_thread, then_some}
+use Rattle.turn_law.specs.Below.server_model.Clusters.{apply}
+use Rattle.turn_law.specs.Below.server_model.Places.{Spot, in_slot, took, value_at, load_at, pointer_of}
+use Rattle.turn_law.specs.Below.server_model.Prepare.{Prepared, ready, requested, nothing, ReadTo, LendTo, and_then, ask_object, request_by, read_stars, is_taken, lend_by, lend_value, lend_pointer}
+use Rattle.turn_law.specs.Below.server_model.Commit.{go_on, goes_on, lent_word, mutable_from, commit, settle}
+use Rattle.turn_law.specs.Below.server_model.Events.{enabled, begin_work, Stepped, done_step, committed, prepared, step, step_in, stepped, does}
+use Rattle.turn_law.specs.Below.heap_law.Names.{Among, one, other}
+use Rattle.turn_law.specs.Below.heap_law.Things.{Location, at_slot, in_cell, Thing, stands, servers_things, things_of}
+use Rattle.turn_law.specs.Below.heap_law.Follow.{Ground, Standing, value_behind, leads, locate, place_at}
+use Rattle.turn_law.specs.Below.heap_law.Placing.{is_first, phase_word, words}
+use Rattle.turn_law.specs.Below.heap_law.Requests.{has_word, last_hop, taken_again, old_word, lies_here, taken_there, taken_phase, lent_place}
+use Rattle.turn_law.specs.Below.heap_law.Sight.{taken_object, issued, sight}
+use Rattle.turn_law.specs.Below.heap_law.Stale.{one_star_less}
+use Rattle.turn_law.proofs.Below.heap_law.Words.{none_at}
+use Rattle.made_law.specs.Below.type_law.ClusterTypes.{IsCoherent}
+use Rattle.made_law.proofs.Below.path_law.Sole.{some_is}
+use Rattle.move_law.specs.Below.word_law.Reworded.{HasPlaces}
+use Rattle.move_law.specs.Below.word_law.Unmoved.{Taking, taking_by, taking_of}
+use Rattle.move_law.proofs.Below.word_law.Follows.{seen_places_lead}
+use Rattle.move_law.proofs.Below.word_law.Standing.{pointer_at}
+use Rattle.turn_law.specs.Below.event_law.Laws.{Gives, FewEvents}
+use Rattle.turn_law.proofs.Below.event_law.Results.{over_gives}
+use Rattle.turn_law.proofs.Below.event_law.Bags.{all_standing}
+use Rattle.turn_law.proofs.Below.event_law.Events.{others_of}
+use Rattle.turn_law.proofs.Below.event_law.GiftsTaken.{none_here}
+use Rattle.turn_law.specs.Below.read_law.Reading.{Reads, lends}
+use Rattle.turn_law.proofs.Below.still_law.Prepares.{Fine as Shown}
+use Rattle.turn_law.proofs.Below.still_law.Readied.{Readied}
+use Rattle.made_law.proofs.Below.stay_law.Sites.{HandAlike}
+use Rattle.made_law.proofs.Below.stay_law.Steps.{settles}
 use Rattle.turn_law.proofs.ReadWalk.{value_loaded}
 use Rattle.turn_law.proofs.StarLines.{shows}
-use Rattle.prepare_law.specs.Requests.{WordsRise}
-use Rattle.prepare_law.proofs.Hands.{Ok, Walks, put, places}
-use Rattle.prepare_law.proofs.Stars.{Spotted, walks_loaded}
-use Rattle.prepare_law.proofs.Asking.{found_number}
+use Rattle.made_law.specs.Below.prepare_law.Requests.{WordsRise}
+use Rattle.made_law.proofs.Below.prepare_law.Hands.{Ok, Walks, put, places}
+use Rattle.made_law.proofs.Below.prepare_law.Stars.{Spotted, walks_loaded}
+use Rattle.made_law.proofs.Below.prepare_law.Asking.{found_number}
 use Rattle.made_law.proofs.Below.carry_law.Far.{thread_thing}
 use Rattle.made_law.proofs.Below.carry_law.Locks.{holds_on, Kept, kept_where}
 use Rattle.ask_law.proofs.Unasked.{Unasked}

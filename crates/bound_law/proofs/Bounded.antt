@@ -1,36 +1,36 @@
 -- No count of a coherent cluster is above sixteen times the number of its events, whatever event is done.
 use Rattle.std.proofs.Common.{◌≡◌, ◌≤◌, ℕ, ◌+◌, ◌*◌, Bool, true, false, if◌then◌else◌, List, [], ◌∷◌, ◌++◌, length, Option, Some, None, refl, sym, subst, arith}
-use Rattle.fr_base.specs.declared.name.MutexNo.{MutexNo}
-use Rattle.heap_partition.specs.declared.value.Cell.{Cell}
-use Rattle.heap_partition.specs.declared.value.Owned.{Owned}
-use Rattle.mut_borrow.specs.declared.shared.SharedRef.{SharedRef}
-use Rattle.mutex_home.specs.Mutexes.{Mutex}
-use Rattle.join_home.specs.Tasks.{TaskState, kept}
-use Rattle.thread_state.specs.View.{ThreadState}
-use Rattle.thread_state.specs.declared.value.Value.{Value}
-use Rattle.thread_state.specs.declared.value.Value.TheVariants as value
-use Rattle.server_msgs.specs.declared.message.Message.{Message}
-use Rattle.server_msgs.specs.declared.message.Message.TheVariants.{Moved, Granted, Unlock, Joined, Finished, Start, Migrate}
-use Rattle.journal.specs.View.{EntryView}
-use Rattle.server_model.specs.declared.event.Event.{Event}
-use Rattle.server_model.specs.Servers.{Sent, Server, Cluster, server_at}
-use Rattle.server_model.specs.Events.{enabled, begin_work, does}
-use Rattle.server_model.specs.Clusters.{with_server, done_at, act_at}
-use Rattle.heap_law.specs.Names.{tot}
-use Rattle.heap_law.specs.Things.{Thing, counts, copied, at_home, uses, retired, Location, Spot, things_at, pin_things, value_things, slot_things, temp_things, gift_things, walk_things, thread_things, standing_things, message_things, waiting_things, leaving_things, is_free, cell_things, free_things, copy_things, content_things, queue_things, mutex_things, result_things, task_things, server_things, servers_things, things_of}
-use Rattle.heap_law.specs.Naming.{event_count, above, large_counts}
-use Rattle.heap_law.specs.Coherent.{IsSound, counts_bounded}
-use Rattle.heap_law.proofs.Sums.{tot-append, server_parts}
-use Rattle.event_law.specs.Laws.{Gives, FewEvents}
-use Rattle.event_law.proofs.Results.{then_gives, over_gives, both_give, test_gives}
-use Rattle.event_law.proofs.Boxes.{tot_le}
-use Rattle.event_law.proofs.Each.{at_most}
-use Rattle.event_law.proofs.Events.{tot-server}
-use Rattle.event_law.proofs.Applied.{handed_on}
-use Rattle.event_law.proofs.Sending.{each_event_sends}
-use Rattle.type_law.specs.ClusterTypes.{IsCoherent}
-use Rattle.local_law.specs.Laws.{EachCoherentEventKeeps}
-use Rattle.local_law.proofs.Handed.{all_none, none_all}
+use Rattle.value_law.specs.Below.fr_base.declared.name.MutexNo.{MutexNo}
+use Rattle.value_law.specs.Below.heap_partition.declared.value.Cell.{Cell}
+use Rattle.value_law.specs.Below.heap_partition.declared.value.Owned.{Owned}
+use Rattle.value_law.specs.Below.mut_borrow.declared.shared.SharedRef.{SharedRef}
+use Rattle.value_law.specs.Below.mutex_home.Mutexes.{Mutex}
+use Rattle.value_law.specs.Below.join_home.Tasks.{TaskState, kept}
+use Rattle.value_law.specs.Below.thread_state.View.{ThreadState}
+use Rattle.value_law.specs.Below.thread_state.declared.value.Value.{Value}
+use Rattle.value_law.specs.Below.thread_state.declared.value.Value.TheVariants as value
+use Rattle.value_law.specs.Below.server_msgs.declared.message.Message.{Message}
+use Rattle.value_law.specs.Below.server_msgs.declared.message.Message.TheVariants.{Moved, Granted, Unlock, Joined, Finished, Start, Migrate}
+use Rattle.value_law.specs.Below.journal.View.{EntryView}
+use Rattle.value_law.specs.Below.server_model.declared.event.Event.{Event}
+use Rattle.value_law.specs.Below.server_model.Servers.{Sent, Server, Cluster, server_at}
+use Rattle.value_law.specs.Below.server_model.Events.{enabled, begin_work, does}
+use Rattle.value_law.specs.Below.server_model.Clusters.{with_server, done_at, act_at}
+use Rattle.value_law.specs.Below.heap_law.Names.{tot}
+use Rattle.value_law.specs.Below.heap_law.Things.{Thing, counts, copied, at_home, uses, retired, Location, Spot, things_at, pin_things, value_things, slot_things, temp_things, gift_things, walk_things, thread_things, standing_things, message_things, waiting_things, leaving_things, is_free, cell_things, free_things, copy_things, content_things, queue_things, mutex_things, result_things, task_things, server_things, servers_things, things_of}
+use Rattle.value_law.specs.Below.heap_law.Naming.{event_count, above, large_counts}
+use Rattle.value_law.specs.Below.heap_law.Coherent.{IsSound, counts_bounded}
+use Rattle.value_law.proofs.Below.heap_law.Sums.{tot-append, server_parts}
+use Rattle.value_law.specs.Below.event_law.Laws.{Gives, FewEvents}
+use Rattle.value_law.proofs.Below.event_law.Results.{then_gives, over_gives, both_give, test_gives}
+use Rattle.value_law.proofs.Below.event_law.Boxes.{tot_le}
+use Rattle.value_law.proofs.Below.event_law.Each.{at_most}
+use Rattle.value_law.proofs.Below.event_law.Events.{tot-server}
+use Rattle.value_law.proofs.Below.event_law.Applied.{handed_on}
+use Rattle.value_law.proofs.Below.event_law.Sending.{each_event_sends}
+use Rattle.value_law.specs.Below.type_law.ClusterTypes.{IsCoherent}
+use Rattle.value_law.specs.Below.local_law.Laws.{EachCoherentEventKeeps}
+use Rattle.value_law.proofs.Below.local_law.Handed.{all_none, none_all}
 use Rattle.value_law.proofs.Counts.{counts_at, counts_alone}
 use Rattle.value_law.proofs.Named.{below_limit, above_less, more_events, events_plain}
 use Rattle.bound_law.proofs.Few.{FewUsers, FewShares, Few}

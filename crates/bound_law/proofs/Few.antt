@@ -2,26 +2,26 @@
 use Rattle.std.proofs.Common.{◌≡◌, ◌≤◌, ℕ, suc, ◌+◌, ◌-◌, ◌^◌, ◌==◌, ◌&&◌, Bool, true, false, nat_lt, if◌then◌else◌, List, [], ◌∷◌, ◌++◌, length, Option, Some, None, subst, arith, length-append}
 use Rattle.std.specs.Prelude.{slice_set}
 use Rattle.std.specs.List.{AllByRecursion}
-use Rattle.fr_base.specs.declared.name.MutexNo.{MutexNo}
-use Rattle.global_addr.specs.Words.{colour_of, address_of}
-use Rattle.heap_partition.specs.declared.value.Cell.{Cell}
-use Rattle.heap_partition.specs.declared.value.Owned.{Owned}
-use Rattle.owner_box.specs.View.{PartitionState}
-use Rattle.owner_box.specs.Partition.{cell_of, with_value, stored, next_place, put_cell, made, freed, made_again, renewed}
-use Rattle.read_cache.specs.Cache.{Copy, copy_of, users_in, users, with_users, fill, pin, can_unpin, unpin, without_copy, can_evict, evict}
-use Rattle.migration.specs.Packing.{unpin_all}
-use Rattle.mutex_home.specs.Mutexes.{Mutex, Mutexes, mutex_in, put_mutex, end_mutex, make, asked_of, asked_in, ask, back_to, back_out, back_in, give_back, more_in, more, last_less, less_of, less_in, less}
-use Rattle.mutex_home.specs.declared.answers.Asked.{Asked}
-use Rattle.mutex_home.specs.declared.answers.Back.{Back}
-use Rattle.mutex_home.specs.declared.answers.Back.TheVariants.{Kept, Ended}
-use Rattle.server_msgs.specs.declared.message.Message.{Message}
-use Rattle.server_model.specs.Servers.{Rest}
-use Rattle.server_model.specs.Work.{sent_from}
-use Rattle.event_law.specs.Laws.{Gives}
-use Rattle.event_law.proofs.Results.{test_gives}
-use Rattle.event_law.proofs.Known.{all_append}
-use Rattle.event_law.proofs.Objects.{length_set}
-use Rattle.local_law.proofs.MutexLists.{found, put_all, ends_all, given}
+use Rattle.value_law.specs.Below.fr_base.declared.name.MutexNo.{MutexNo}
+use Rattle.value_law.specs.Below.global_addr.Words.{colour_of, address_of}
+use Rattle.value_law.specs.Below.heap_partition.declared.value.Cell.{Cell}
+use Rattle.value_law.specs.Below.heap_partition.declared.value.Owned.{Owned}
+use Rattle.value_law.specs.Below.owner_box.View.{PartitionState}
+use Rattle.value_law.specs.Below.owner_box.Partition.{cell_of, with_value, stored, next_place, put_cell, made, freed, made_again, renewed}
+use Rattle.value_law.specs.Below.read_cache.Cache.{Copy, copy_of, users_in, users, with_users, fill, pin, can_unpin, unpin, without_copy, can_evict, evict}
+use Rattle.value_law.specs.Below.migration.Packing.{unpin_all}
+use Rattle.value_law.specs.Below.mutex_home.Mutexes.{Mutex, Mutexes, mutex_in, put_mutex, end_mutex, make, asked_of, asked_in, ask, back_to, back_out, back_in, give_back, more_in, more, last_less, less_of, less_in, less}
+use Rattle.value_law.specs.Below.mutex_home.declared.answers.Asked.{Asked}
+use Rattle.value_law.specs.Below.mutex_home.declared.answers.Back.{Back}
+use Rattle.value_law.specs.Below.mutex_home.declared.answers.Back.TheVariants.{Kept, Ended}
+use Rattle.value_law.specs.Below.server_msgs.declared.message.Message.{Message}
+use Rattle.value_law.specs.Below.server_model.Servers.{Rest}
+use Rattle.value_law.specs.Below.server_model.Work.{sent_from}
+use Rattle.value_law.specs.Below.event_law.Laws.{Gives}
+use Rattle.value_law.proofs.Below.event_law.Results.{test_gives}
+use Rattle.value_law.proofs.Below.event_law.Known.{all_append}
+use Rattle.value_law.proofs.Below.event_law.Objects.{length_set}
+use Rattle.value_law.proofs.Below.local_law.MutexLists.{found, put_all, ends_all, given}
 use Rattle.value_law.proofs.Fit.{all_map}
 
 -- a copy has at most so many users, a mutex at most so many shares

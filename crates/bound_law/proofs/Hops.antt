@@ -2,26 +2,26 @@
 use Rattle.std.proofs.Common.{◌≡◌, ℕ, ◌==◌, ◌&&◌, not, nat_le, Bool, true, false, List, Some, refl, subst, arith}
 use Rattle.std.specs.Prelude.{slice_get}
 use Rattle.std.proofs.lemmas.Bool.Decides.{nat_tests}
-use Rattle.fr_base.specs.declared.instruction.Instr.{Instr}
-use Rattle.migration.specs.Packing.{packed}
-use Rattle.thread_state.specs.View.{ThreadState, new_thread}
-use Rattle.thread_state.specs.declared.phase.Phase.{Phase}
-use Rattle.thread_state.specs.declared.phase.Phase.TheVariants as phase
-use Rattle.server_model.specs.Servers.{Server, Cluster, server_at}
-use Rattle.server_model.specs.Work.{Hand, thread_in}
-use Rattle.server_model.specs.Objects.{deliver_fetched, deliver_moved}
-use Rattle.server_model.specs.Events.{Stepped, is_ready, step}
-use Rattle.heap_law.specs.Names.{one, other}
-use Rattle.heap_law.specs.Follow.{Standing}
-use Rattle.heap_law.specs.Sight.{sight}
-use Rattle.heap_law.specs.Paths.{path_of}
-use Rattle.heap_law.specs.Walking.{in_walk, early, in_turn, not_asked, out_of_turn}
-use Rattle.heap_law.specs.Coherent.{IsSound, passed_within}
-use Rattle.heap_law.proofs.Turn.{turn_law}
-use Rattle.event_law.proofs.Results.{weaker}
-use Rattle.event_law.proofs.Each.{at_most}
-use Rattle.local_law.specs.Laws.{EachEventKeeps}
-use Rattle.local_law.proofs.Handed.{Stood, standing, known}
+use Rattle.value_law.specs.Below.fr_base.declared.instruction.Instr.{Instr}
+use Rattle.value_law.specs.Below.migration.Packing.{packed}
+use Rattle.value_law.specs.Below.thread_state.View.{ThreadState, new_thread}
+use Rattle.value_law.specs.Below.thread_state.declared.phase.Phase.{Phase}
+use Rattle.value_law.specs.Below.thread_state.declared.phase.Phase.TheVariants as phase
+use Rattle.value_law.specs.Below.server_model.Servers.{Server, Cluster, server_at}
+use Rattle.value_law.specs.Below.server_model.Work.{Hand, thread_in}
+use Rattle.value_law.specs.Below.server_model.Objects.{deliver_fetched, deliver_moved}
+use Rattle.value_law.specs.Below.server_model.Events.{Stepped, is_ready, step}
+use Rattle.value_law.specs.Below.heap_law.Names.{one, other}
+use Rattle.value_law.specs.Below.heap_law.Follow.{Standing}
+use Rattle.value_law.specs.Below.heap_law.Sight.{sight}
+use Rattle.value_law.specs.Below.heap_law.Paths.{path_of}
+use Rattle.value_law.specs.Below.heap_law.Walking.{in_walk, early, in_turn, not_asked, out_of_turn}
+use Rattle.value_law.specs.Below.heap_law.Coherent.{IsSound, passed_within}
+use Rattle.value_law.proofs.Below.heap_law.Turn.{turn_law}
+use Rattle.value_law.proofs.Below.event_law.Results.{weaker}
+use Rattle.value_law.proofs.Below.event_law.Each.{at_most}
+use Rattle.value_law.specs.Below.local_law.Laws.{EachEventKeeps}
+use Rattle.value_law.proofs.Below.local_law.Handed.{Stood, standing, known}
 use Rattle.value_law.proofs.Named.{below_limit}
 use Rattle.bound_law.proofs.Passed.{hops_of, Within, none_within, step_within, moved_within, fetched_within}
 use Rattle.bound_law.proofs.Turns.{ThreadsTurn, threads_turn}

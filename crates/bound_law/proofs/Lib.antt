@@ -1,3 +1,4 @@
+pub mod Below
 mod Stars
 mod Few
 mod Raised

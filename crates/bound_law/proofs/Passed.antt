@@ -3,38 +3,38 @@ use Rattle.std.proofs.Common.{◌≡◌, ◌≤◌, ℕ, zero, suc, ◌+◌, ◌
 use Rattle.std.specs.Prelude.{slice_get, option_map}
 use Rattle.std.specs.Bool.{⊤}
 use Rattle.std.proofs.lemmas.Bool.Decides.{nat_tests}
-use Rattle.fr_base.specs.Lists.{is_in, last_of}
-use Rattle.fr_base.specs.declared.place.Lval.{Lval}
-use Rattle.fr_base.specs.declared.step.Fresh.{Fresh}
-use Rattle.fr_base.specs.declared.instruction.Instr.{Instr}
-use Rattle.fr_base.specs.declared.instruction.Instr.TheVariants as instr
-use Rattle.heap_partition.specs.declared.value.Cell.{Cell}
-use Rattle.heap_partition.specs.declared.value.Owned.{Owned}
-use Rattle.read_cache.specs.Cache.{Copy, can_pin, can_fill}
-use Rattle.migration.specs.Packing.{unpin_all}
-use Rattle.thread_state.specs.View.{ThreadState}
-use Rattle.thread_state.specs.declared.phase.Phase.{Phase}
-use Rattle.thread_state.specs.declared.phase.Phase.TheVariants as phase
-use Rattle.thread_state.specs.declared.value.Value.{Value}
-use Rattle.thread_state.specs.declared.value.Value.TheVariants as value
-use Rattle.server_model.specs.Servers.{Rest}
-use Rattle.server_model.specs.Work.{Hand, note, then_some, used_once, with_cache, with_phase, working, task_of, pop}
-use Rattle.server_model.specs.NewWords.{NewWord, issue_placed}
-use Rattle.server_model.specs.Places.{Spot, in_slot, on_top, value_at, set_pointer}
-use Rattle.server_model.specs.Commit.{Committed, done, waits, refused, done_where, goes_on, waiting, ask_join, join, ask_dup, dup, ask_lock, lock, mutex_at, commit, settle}
-use Rattle.server_model.specs.Prepare.{Prepared, ready, requested, nothing, ending, assigned, read_or_taken, access_of, prepare, passing, write_stars}
-use Rattle.server_model.specs.Objects.{waits_for_cell, filled, deliver_fetched, chased, waits_under, arrived_at, arrived_slot, passed_spot, arrived_write, arrived_lend, arrived_end, arrived, instr_access, deliver_moved}
-use Rattle.server_model.specs.Events.{Stepped, done_step, committed, prepared, step}
-use Rattle.journal.specs.declared.act.Act.TheVariants as act
-use Rattle.heap_law.specs.Names.{other}
-use Rattle.heap_law.specs.Follow.{Standing}
-use Rattle.heap_law.specs.Sight.{Sight}
-use Rattle.heap_law.specs.Paths.{Path, no_path, reads, shares, lends, writes, ends, taking, assigning, path_of, written_place}
-use Rattle.heap_law.specs.Paths as paths
-use Rattle.heap_law.specs.Walking.{hop_count, next_hop, in_turn, not_asked}
-use Rattle.event_law.specs.Laws.{Gives}
-use Rattle.event_law.proofs.Results.{then_gives, over_gives, test_gives}
-use Rattle.local_law.proofs.Small.{Writes}
+use Rattle.value_law.specs.Below.fr_base.Lists.{is_in, last_of}
+use Rattle.value_law.specs.Below.fr_base.declared.place.Lval.{Lval}
+use Rattle.value_law.specs.Below.fr_base.declared.step.Fresh.{Fresh}
+use Rattle.value_law.specs.Below.fr_base.declared.instruction.Instr.{Instr}
+use Rattle.value_law.specs.Below.fr_base.declared.instruction.Instr.TheVariants as instr
+use Rattle.value_law.specs.Below.heap_partition.declared.value.Cell.{Cell}
+use Rattle.value_law.specs.Below.heap_partition.declared.value.Owned.{Owned}
+use Rattle.value_law.specs.Below.read_cache.Cache.{Copy, can_pin, can_fill}
+use Rattle.value_law.specs.Below.migration.Packing.{unpin_all}
+use Rattle.value_law.specs.Below.thread_state.View.{ThreadState}
+use Rattle.value_law.specs.Below.thread_state.declared.phase.Phase.{Phase}
+use Rattle.value_law.specs.Below.thread_state.declared.phase.Phase.TheVariants as phase
+use Rattle.value_law.specs.Below.thread_state.declared.value.Value.{Value}
+use Rattle.value_law.specs.Below.thread_state.declared.value.Value.TheVariants as value
+use Rattle.value_law.specs.Below.server_model.Servers.{Rest}
+use Rattle.value_law.specs.Below.server_model.Work.{Hand, note, then_some, used_once, with_cache, with_phase, working, task_of, pop}
+use Rattle.value_law.specs.Below.server_model.NewWords.{NewWord, issue_placed}
+use Rattle.value_law.specs.Below.server_model.Places.{Spot, in_slot, on_top, value_at, set_pointer}
+use Rattle.value_law.specs.Below.server_model.Commit.{Committed, done, waits, refused, done_where, goes_on, waiting, ask_join, join, ask_dup, dup, ask_lock, lock, mutex_at, commit, settle}
+use Rattle.value_law.specs.Below.server_model.Prepare.{Prepared, ready, requested, nothing, ending, assigned, read_or_taken, access_of, prepare, passing, write_stars}
+use Rattle.value_law.specs.Below.server_model.Objects.{waits_for_cell, filled, deliver_fetched, chased, waits_under, arrived_at, arrived_slot, passed_spot, arrived_write, arrived_lend, arrived_end, arrived, instr_access, deliver_moved}
+use Rattle.value_law.specs.Below.server_model.Events.{Stepped, done_step, committed, prepared, step}
+use Rattle.value_law.specs.Below.journal.declared.act.Act.TheVariants as act
+use Rattle.value_law.specs.Below.heap_law.Names.{other}
+use Rattle.value_law.specs.Below.heap_law.Follow.{Standing}
+use Rattle.value_law.specs.Below.heap_law.Sight.{Sight}
+use Rattle.value_law.specs.Below.heap_law.Paths.{Path, no_path, reads, shares, lends, writes, ends, taking, assigning, path_of, written_place}
+use Rattle.value_law.specs.Below.heap_law.Paths as paths
+use Rattle.value_law.specs.Below.heap_law.Walking.{hop_count, next_hop, in_turn, not_asked}
+use Rattle.value_law.specs.Below.event_law.Laws.{Gives}
+use Rattle.value_law.proofs.Below.event_law.Results.{then_gives, over_gives, test_gives}
+use Rattle.value_law.proofs.Below.local_law.Small.{Writes}
 use Rattle.bound_law.proofs.Stars.{depth_there, depths, same_there, same_last, Steps, stars, after, Shape, Made, sets, prepare_made}
 
 -- HOPS OF A WRITE
@@ -293,14 +293,14 @@ module _ (code : List Instr) (i : Instr) (y : ThreadState) (at : slice_get code 
     left_by : (w : ℕ) (p : Lval) → not_asked q x w (next_hop q x p) ≡ 0 → y.passed + 1 ≤ p.depth
     left_by w p z = by (nat_lt x.thread.passed p.depth) refl z
       where
-        by : (b : Bool) → nat_lt x.thread.passed p.depth ≡ b → not_asked q x w (if b then Rattle.heap_law.specs.Walking.first_of (paths.to_write (Rattle.heap_law.specs.Follow.hop_at q.ground x.thread.number p x.thread.passed)) else None) ≡ 0 → y.passed + 1 ≤ p.depth
+        by : (b : Bool) → nat_lt x.thread.passed p.depth ≡ b → not_asked q x w (if b then Rattle.value_law.specs.Below.heap_law.Walking.first_of (paths.to_write (Rattle.value_law.specs.Below.heap_law.Follow.hop_at q.ground x.thread.number p x.thread.passed)) else None) ≡ 0 → y.passed + 1 ≤ p.depth
         by true e z = let low : x.thread.passed + 1 ≤ p.depth = grind (arith, nat_tests, e) in subst (λ (t : ThreadState). t.passed + 1 ≤ p.depth) same low
         by false e z = absurd (cc z)
 
     comes_end : (s : Spot) (o : Option Value) (w old new : ℕ) (h : Hand) → w ≡ old → h.thread.passed ≡ y.passed → hop_count (written_place (paths.ending o)) ≡ hops_of (Some i) y → Turns w (paths.ending o) → StillHand h → Gives StillHand (arrived_end s o old new h)
-    comes_end s (Some (value.Mut r)) w old new h e m d z g = by (r.word == old) (subst (λ n. not_asked q x w (if r.word == n then Rattle.heap_law.specs.Walking.first_of (paths.to_write (Some (value.Mut r))) else next_hop q x r.holder) ≡ 0) e z)
+    comes_end s (Some (value.Mut r)) w old new h e m d z g = by (r.word == old) (subst (λ n. not_asked q x w (if r.word == n then Rattle.value_law.specs.Below.heap_law.Walking.first_of (paths.to_write (Some (value.Mut r))) else next_hop q x r.holder) ≡ 0) e z)
       where
-        by : (b : Bool) → not_asked q x w (if b then Rattle.heap_law.specs.Walking.first_of (paths.to_write (Some (value.Mut r))) else next_hop q x r.holder) ≡ 0 → Gives StillHand (if b then arrived_at s new h else arrived_write r.holder new h)
+        by : (b : Bool) → not_asked q x w (if b then Rattle.value_law.specs.Below.heap_law.Walking.first_of (paths.to_write (Some (value.Mut r))) else next_hop q x r.holder) ≡ 0 → Gives StillHand (if b then arrived_at s new h else arrived_write r.holder new h)
         by true z2 = comes_at s new h g
         by false z2 = comes_write r.holder new h (omega (arith, left_by w r.holder z2, m, d)) g
     comes_end s _ w old new h e m d z g = tt

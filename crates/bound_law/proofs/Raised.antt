@@ -2,58 +2,58 @@
 use Rattle.std.proofs.Common.{◌≡◌, ◌≤◌, ℕ, zero, suc, ◌+◌, ◌-◌, ◌==◌, Bool, true, false, if◌then◌else◌, List, [], Option, Some, None, refl, arith}
 use Rattle.std.specs.Prelude.{slice_get, option_map}
 use Rattle.std.specs.Bool.{⊤}
-use Rattle.fr_base.specs.Lists.{is_in}
-use Rattle.fr_base.specs.declared.name.MutexNo.{MutexNo}
-use Rattle.fr_base.specs.declared.name.ObjNo.{ObjNo}
-use Rattle.fr_base.specs.declared.place.Lval.{Lval}
-use Rattle.fr_base.specs.declared.instruction.Instr.{Instr}
-use Rattle.fr_base.specs.declared.release.Released.{Released}
-use Rattle.fr_base.specs.declared.release.Released.TheVariants as released
-use Rattle.fr_base.specs.declared.settings.Options.{Options}
-use Rattle.fr_base.specs.declared.step.Fresh.{Fresh}
-use Rattle.heap_partition.specs.declared.value.Cell.{Cell}
-use Rattle.heap_partition.specs.declared.value.Owned.{Owned}
-use Rattle.heap_partition.specs.declared.value.Owned.TheVariants as owned
-use Rattle.owner_box.specs.Partition.{freed}
-use Rattle.read_cache.specs.Cache.{Copy, can_pin, can_fill, can_evict}
-use Rattle.migration.specs.Packing.{unpin_all, used_words, packed}
-use Rattle.mutex_home.specs.Mutexes.{Mutex, Mutexes, can_make, ask, give_back, more, less}
-use Rattle.mutex_home.specs.declared.answers.Asked.{Asked}
-use Rattle.mutex_home.specs.declared.answers.Asked.TheVariants as asked
-use Rattle.mutex_home.specs.declared.answers.Back.{Back}
-use Rattle.mutex_home.specs.declared.answers.Back.TheVariants as back
-use Rattle.join_home.specs.Tasks.{Task, can_begin, can_begin_pair, ended, let_go_of}
-use Rattle.join_home.specs.Tasks as tasks
-use Rattle.join_home.specs.declared.answers.EndedAs.{EndedAs}
-use Rattle.join_home.specs.declared.answers.EndedAs.TheVariants as over
-use Rattle.thread_state.specs.View.{ThreadState}
-use Rattle.thread_state.specs.declared.phase.Phase.TheVariants as phase
-use Rattle.thread_state.specs.declared.value.Value.{Value}
-use Rattle.thread_state.specs.declared.value.Value.TheVariants as value
-use Rattle.server_msgs.specs.declared.message.Message.{Message}
-use Rattle.server_msgs.specs.declared.message.Message.TheVariants as message
-use Rattle.journal.specs.declared.act.Act.TheVariants as act
-use Rattle.journal.specs.View.{EntryView}
-use Rattle.server_model.specs.declared.event.What.{What}
-use Rattle.server_model.specs.declared.event.What.TheVariants.{Step, Deliver, Evict, Migrate}
-use Rattle.server_model.specs.Servers.{Rest, Server}
-use Rattle.server_model.specs.Work.{Work, Hand, Site, sent_from, with_phase, with_mutexes, with_tasks, with_partition, with_cache, then_some, put_back, thread_in, without_thread, at_thread, beside_threads, look_object, used_once, note}
-use Rattle.server_model.specs.NewWords.{NewWord, can_grow, issue_placed}
-use Rattle.server_model.specs.Places.{Spot, in_slot, value_at, with_word, set_pointer}
-use Rattle.server_model.specs.Start.{next_thread, start_thread, capture}
-use Rattle.server_model.specs.Drop.{give_up}
-use Rattle.server_model.specs.Moving.{migrate, depart}
-use Rattle.server_model.specs.Commit.{Committed, done, waits, refused, go_on, next_object, push_box, begun, pair_begun, spawn_with, end_with, label_dropped, commit, settle}
-use Rattle.server_model.specs.Prepare.{Access, ReadTo, ReadPointer, WriteTo, LendTo, EndRef, Prepared, ready, requested, nothing, access_of, prepare, passing, write_stars}
-use Rattle.server_model.specs.Objects.{deliver_fetch, waits_for_cell, filled, deliver_fetched, deliver_move, chased, waits_under, arrived_at, arrived_slot, passed_spot, arrived_write, arrived_lend, arrived_end, arrived, instr_access, deliver_moved, deliver_drop}
-use Rattle.server_model.specs.Sharing.{given, answer_lock, deliver_lock, waits_for_lock, deliver_granted, answer_back, deliver_unlock, deliver_dup, waits_for_dup, deliver_dupped, give_up_left}
-use Rattle.server_model.specs.Joining.{answer_join, deliver_join, waits_for_join, deliver_joined, got_par, pair_over, end_answer, deliver_finished}
-use Rattle.server_model.specs.Events.{Stepped, done_step, committed, prepared, begin_work, begin_at, left_by, received, release, deliver_message, evict_copy, step, step_in, stepped, does, deliver}
-use Rattle.event_law.specs.Laws.{Gives}
-use Rattle.event_law.proofs.Results.{then_gives, map_gives, over_gives, bind_gives, test_gives, stand_gives}
-use Rattle.local_law.proofs.Small.{Of, Places}
-use Rattle.local_law.proofs.Plainly.{Settles, moves_by, Acts, Ends, EndsStep, commits}
-use Rattle.local_law.proofs.Goes.{Any, AnyWord, puts_by}
+use Rattle.value_law.specs.Below.fr_base.Lists.{is_in}
+use Rattle.value_law.specs.Below.fr_base.declared.name.MutexNo.{MutexNo}
+use Rattle.value_law.specs.Below.fr_base.declared.name.ObjNo.{ObjNo}
+use Rattle.value_law.specs.Below.fr_base.declared.place.Lval.{Lval}
+use Rattle.value_law.specs.Below.fr_base.declared.instruction.Instr.{Instr}
+use Rattle.value_law.specs.Below.fr_base.declared.release.Released.{Released}
+use Rattle.value_law.specs.Below.fr_base.declared.release.Released.TheVariants as released
+use Rattle.value_law.specs.Below.fr_base.declared.settings.Options.{Options}
+use Rattle.value_law.specs.Below.fr_base.declared.step.Fresh.{Fresh}
+use Rattle.value_law.specs.Below.heap_partition.declared.value.Cell.{Cell}
+use Rattle.value_law.specs.Below.heap_partition.declared.value.Owned.{Owned}
+use Rattle.value_law.specs.Below.heap_partition.declared.value.Owned.TheVariants as owned
+use Rattle.value_law.specs.Below.owner_box.Partition.{freed}
+use Rattle.value_law.specs.Below.read_cache.Cache.{Copy, can_pin, can_fill, can_evict}
+use Rattle.value_law.specs.Below.migration.Packing.{unpin_all, used_words, packed}
+use Rattle.value_law.specs.Below.mutex_home.Mutexes.{Mutex, Mutexes, can_make, ask, give_back, more, less}
+use Rattle.value_law.specs.Below.mutex_home.declared.answers.Asked.{Asked}
+use Rattle.value_law.specs.Below.mutex_home.declared.answers.Asked.TheVariants as asked
+use Rattle.value_law.specs.Below.mutex_home.declared.answers.Back.{Back}
+use Rattle.value_law.specs.Below.mutex_home.declared.answers.Back.TheVariants as back
+use Rattle.value_law.specs.Below.join_home.Tasks.{Task, can_begin, can_begin_pair, ended, let_go_of}
+use Rattle.value_law.specs.Below.join_home.Tasks as tasks
+use Rattle.value_law.specs.Below.join_home.declared.answers.EndedAs.{EndedAs}
+use Rattle.value_law.specs.Below.join_home.declared.answers.EndedAs.TheVariants as over
+use Rattle.value_law.specs.Below.thread_state.View.{ThreadState}
+use Rattle.value_law.specs.Below.thread_state.declared.phase.Phase.TheVariants as phase
+use Rattle.value_law.specs.Below.thread_state.declared.value.Value.{Value}
+use Rattle.value_law.specs.Below.thread_state.declared.value.Value.TheVariants as value
+use Rattle.value_law.specs.Below.server_msgs.declared.message.Message.{Message}
+use Rattle.value_law.specs.Below.server_msgs.declared.message.Message.TheVariants as message
+use Rattle.value_law.specs.Below.journal.declared.act.Act.TheVariants as act
+use Rattle.value_law.specs.Below.journal.View.{EntryView}
+use Rattle.value_law.specs.Below.server_model.declared.event.What.{What}
+use Rattle.value_law.specs.Below.server_model.declared.event.What.TheVariants.{Step, Deliver, Evict, Migrate}
+use Rattle.value_law.specs.Below.server_model.Servers.{Rest, Server}
+use Rattle.value_law.specs.Below.server_model.Work.{Work, Hand, Site, sent_from, with_phase, with_mutexes, with_tasks, with_partition, with_cache, then_some, put_back, thread_in, without_thread, at_thread, beside_threads, look_object, used_once, note}
+use Rattle.value_law.specs.Below.server_model.NewWords.{NewWord, can_grow, issue_placed}
+use Rattle.value_law.specs.Below.server_model.Places.{Spot, in_slot, value_at, with_word, set_pointer}
+use Rattle.value_law.specs.Below.server_model.Start.{next_thread, start_thread, capture}
+use Rattle.value_law.specs.Below.server_model.Drop.{give_up}
+use Rattle.value_law.specs.Below.server_model.Moving.{migrate, depart}
+use Rattle.value_law.specs.Below.server_model.Commit.{Committed, done, waits, refused, go_on, next_object, push_box, begun, pair_begun, spawn_with, end_with, label_dropped, commit, settle}
+use Rattle.value_law.specs.Below.server_model.Prepare.{Access, ReadTo, ReadPointer, WriteTo, LendTo, EndRef, Prepared, ready, requested, nothing, access_of, prepare, passing, write_stars}
+use Rattle.value_law.specs.Below.server_model.Objects.{deliver_fetch, waits_for_cell, filled, deliver_fetched, deliver_move, chased, waits_under, arrived_at, arrived_slot, passed_spot, arrived_write, arrived_lend, arrived_end, arrived, instr_access, deliver_moved, deliver_drop}
+use Rattle.value_law.specs.Below.server_model.Sharing.{given, answer_lock, deliver_lock, waits_for_lock, deliver_granted, answer_back, deliver_unlock, deliver_dup, waits_for_dup, deliver_dupped, give_up_left}
+use Rattle.value_law.specs.Below.server_model.Joining.{answer_join, deliver_join, waits_for_join, deliver_joined, got_par, pair_over, end_answer, deliver_finished}
+use Rattle.value_law.specs.Below.server_model.Events.{Stepped, done_step, committed, prepared, begin_work, begin_at, left_by, received, release, deliver_message, evict_copy, step, step_in, stepped, does, deliver}
+use Rattle.value_law.specs.Below.event_law.Laws.{Gives}
+use Rattle.value_law.proofs.Below.event_law.Results.{then_gives, map_gives, over_gives, bind_gives, test_gives, stand_gives}
+use Rattle.value_law.proofs.Below.local_law.Small.{Of, Places}
+use Rattle.value_law.proofs.Below.local_law.Plainly.{Settles, moves_by, Acts, Ends, EndsStep, commits}
+use Rattle.value_law.proofs.Below.local_law.Goes.{Any, AnyWord, puts_by}
 use Rattle.bound_law.proofs.Stars.{Steps, stars, after, after_is, Made, prepare_made}
 use Rattle.bound_law.proofs.Few.{Counted, Few, fewer, sends, stores, makes, frees, renews, pins, unpins, unpins_all, fills, evicts, mutex, asked, gave, shared, less_shared}
 use Rattle.bound_law.proofs.Few as few
@@ -65,7 +65,7 @@ module _ (a u m : ℕ) where
   F r t = Few a u m r
 
   -- a value that is put raises no count
-  puts : (s : Spot) (v : Value) (h : Hand) → Of F h → Gives (Of F) (Rattle.server_model.specs.Places.put_at s v h)
+  puts : (s : Spot) (v : Value) (h : Hand) → Of F h → Gives (Of F) (Rattle.value_law.specs.Below.server_model.Places.put_at s v h)
   puts s v h g = puts_by F (λ vs r t x. x) (λ vs r t x. x) (λ h2 w x g2. stores a u m h2.work.rest.partition w x g2) s v h g
 
   -- nor does a pointer that gets a word

@@ -2,30 +2,30 @@
 use Rattle.std.proofs.Common.{◌≡◌, ◌≤◌, ℕ, zero, suc, ◌-◌, true, false, List, ◌++◌, Option, Some, None, refl, sym, subst, ◌∙◌, arith}
 use Rattle.std.specs.Prelude.{length, slice_get}
 use Rattle.std.specs.List.{AllByRecursion}
-use Rattle.fr_base.specs.Lists.{last_of}
-use Rattle.fr_base.specs.declared.instruction.Instr.{Instr}
-use Rattle.fr_base.specs.declared.instruction.Instr.TheVariants as instr
-use Rattle.thread_state.specs.View.{ThreadState}
-use Rattle.thread_state.specs.declared.value.Value.{Value}
-use Rattle.thread_state.specs.declared.value.Value.TheVariants as value
-use Rattle.server_model.specs.Servers.{Server, Cluster, server_at}
-use Rattle.server_model.specs.Work.{Work, Hand, thread_in}
-use Rattle.server_model.specs.Places.{Spot, in_slot, on_top, value_at}
-use Rattle.server_model.specs.Prepare.{ending, assigned, read_or_taken, access_of}
-use Rattle.fr_code.specs.CodeTypes.{Entry, Table, InstrTypes, i_assign, i_copy, i_move, i_borrow, i_borrow_mut, i_dup, i_lock}
-use Rattle.fr_code.specs.CodeTable.{Successors, Leads, to_next, ends as ends_thread, IsTable}
-use Rattle.heap_law.specs.Names.{tot}
-use Rattle.heap_law.specs.Things.{things_of, things_at, slot_things, temp_things, gift_things, walk_things, thread_things}
-use Rattle.heap_law.specs.Naming.{long_holder}
-use Rattle.heap_law.specs.Coherent.{IsSound}
-use Rattle.heap_law.proofs.Sums.{tot-append, server_parts}
-use Rattle.event_law.proofs.Each.{at_most}
-use Rattle.event_law.proofs.Bags.{tot-without}
-use Rattle.event_law.proofs.Events.{tot-server}
-use Rattle.event_law.proofs.Known.{all_at}
-use Rattle.type_law.specs.Names.{names_of}
-use Rattle.type_law.specs.ClusterTypes.{IsCoherent, Types, entry_wrong, gives_other}
-use Rattle.local_law.proofs.Handed.{known, all_none}
+use Rattle.value_law.specs.Below.fr_base.Lists.{last_of}
+use Rattle.value_law.specs.Below.fr_base.declared.instruction.Instr.{Instr}
+use Rattle.value_law.specs.Below.fr_base.declared.instruction.Instr.TheVariants as instr
+use Rattle.value_law.specs.Below.thread_state.View.{ThreadState}
+use Rattle.value_law.specs.Below.thread_state.declared.value.Value.{Value}
+use Rattle.value_law.specs.Below.thread_state.declared.value.Value.TheVariants as value
+use Rattle.value_law.specs.Below.server_model.Servers.{Server, Cluster, server_at}
+use Rattle.value_law.specs.Below.server_model.Work.{Work, Hand, thread_in}
+use Rattle.value_law.specs.Below.server_model.Places.{Spot, in_slot, on_top, value_at}
+use Rattle.value_law.specs.Below.server_model.Prepare.{ending, assigned, read_or_taken, access_of}
+use Rattle.value_law.specs.Below.fr_code.CodeTypes.{Entry, Table, InstrTypes, i_assign, i_copy, i_move, i_borrow, i_borrow_mut, i_dup, i_lock}
+use Rattle.value_law.specs.Below.fr_code.CodeTable.{Successors, Leads, to_next, ends as ends_thread, IsTable}
+use Rattle.value_law.specs.Below.heap_law.Names.{tot}
+use Rattle.value_law.specs.Below.heap_law.Things.{things_of, things_at, slot_things, temp_things, gift_things, walk_things, thread_things}
+use Rattle.value_law.specs.Below.heap_law.Naming.{long_holder}
+use Rattle.value_law.specs.Below.heap_law.Coherent.{IsSound}
+use Rattle.value_law.proofs.Below.heap_law.Sums.{tot-append, server_parts}
+use Rattle.value_law.proofs.Below.event_law.Each.{at_most}
+use Rattle.value_law.proofs.Below.event_law.Bags.{tot-without}
+use Rattle.value_law.proofs.Below.event_law.Events.{tot-server}
+use Rattle.value_law.proofs.Below.event_law.Known.{all_at}
+use Rattle.value_law.specs.Below.type_law.Names.{names_of}
+use Rattle.value_law.specs.Below.type_law.ClusterTypes.{IsCoherent, Types, entry_wrong, gives_other}
+use Rattle.value_law.proofs.Below.local_law.Handed.{known, all_none}
 use Rattle.bound_law.proofs.Stars.{holder_depth, depth_there, stars}
 
 -- the holder of a value, where it has one, has few stars

@@ -2,37 +2,37 @@
 use Rattle.std.proofs.Common.{◌≡◌, ◌≤◌, ◌<◌, ℕ, zero, suc, ◌+◌, ◌-◌, ◌==◌, ◌&&◌, Bool, true, false, nat_lt, if◌then◌else◌, List, [], ◌∷◌, ◌++◌, length, Option, Some, None, refl, sym, ap, subst, ◌∙◌, arith}
 use Rattle.std.specs.Prelude.{slice_get, slice_set, map, take}
 use Rattle.std.specs.Bool.{⊤}
-use Rattle.fr_base.specs.Lists.{is_in, last_of}
-use Rattle.fr_base.specs.declared.place.Lval.{Lval}
-use Rattle.global_addr.specs.Words.{server_of}
-use Rattle.heap_partition.specs.declared.value.BoxPtr.{BoxPtr}
-use Rattle.heap_partition.specs.declared.value.Cell.{Cell}
-use Rattle.heap_partition.specs.declared.value.Owned.{Owned}
-use Rattle.heap_partition.specs.declared.value.Owned.TheVariants as owned
-use Rattle.owner_box.specs.Partition.{stored, renewed}
-use Rattle.read_cache.specs.Cache.{Copy, can_pin, pin}
-use Rattle.mut_borrow.specs.Refs.{cleaned_answer, finish_word}
-use Rattle.mut_borrow.specs.declared.shared.SharedRef.{SharedRef}
-use Rattle.mut_borrow.specs.declared.mutable.MutRef.{MutRef}
-use Rattle.mut_borrow.specs.declared.mutable.Cleaned.{Cleaned}
-use Rattle.mut_borrow.specs.declared.mutable.Cleaned.TheVariants as cleaned
-use Rattle.thread_state.specs.View.{ThreadState}
-use Rattle.thread_state.specs.declared.value.Value.{Value}
-use Rattle.thread_state.specs.declared.value.Value.TheVariants as value
-use Rattle.server_msgs.specs.declared.message.Message.{Message}
-use Rattle.place_walk.specs.declared.hop.Hop.{Hop}
-use Rattle.place_walk.specs.declared.hop.Hop.TheVariants as hop
-use Rattle.place_walk.specs.Hops.{clean_hop, dirty_hop, read_hop, write_hop}
-use Rattle.journal.specs.declared.act.Act.{Act}
-use Rattle.journal.specs.declared.act.Act.TheVariants as act
-use Rattle.server_model.specs.Servers.{Rest}
-use Rattle.server_model.specs.Work.{Hand, front_of, note, sent_from, with_cache, with_partition, working, leads_here, then_some, used_once}
-use Rattle.server_model.specs.NewWords.{NewWord, can_grow, is_last, issue_tint, issue_renewal, issue_colour}
-use Rattle.server_model.specs.Places.{Spot, in_slot, on_top, in_cell, in_copy, nowhere, value_in, cell_at, value_at, load_at, written, note_slot, note_write, put_at, pointer_of, with_word, set_pointer, put_word}
-use Rattle.server_model.specs.Prepare.{Access, ReadTo, ReadPointer, WriteTo, LendTo, EndRef, Prepared, ready, requested, nothing, and_then, ready_at, ask_copy, ask_object, request_by, box_of, clean_last, cleaned_by, clean_value, pinned_once, use_copy, hopped, local, hit_by, read_by, read_value, read_clean, tinted_first, read_star, read_stars, passing, box_ready, colour_box, write_by, pass_by, write_value, write_star, write_stars, read_pointer, is_taken, lend_by, lend_value, lend_pointer, follow_holder, follow_ended, unlabelled, end_ref, prepare}
-use Rattle.event_law.specs.Laws.{Gives}
-use Rattle.event_law.proofs.Results.{then_gives, test_gives, bind_gives}
-use Rattle.local_law.proofs.Small.{Writes}
+use Rattle.value_law.specs.Below.fr_base.Lists.{is_in, last_of}
+use Rattle.value_law.specs.Below.fr_base.declared.place.Lval.{Lval}
+use Rattle.value_law.specs.Below.global_addr.Words.{server_of}
+use Rattle.value_law.specs.Below.heap_partition.declared.value.BoxPtr.{BoxPtr}
+use Rattle.value_law.specs.Below.heap_partition.declared.value.Cell.{Cell}
+use Rattle.value_law.specs.Below.heap_partition.declared.value.Owned.{Owned}
+use Rattle.value_law.specs.Below.heap_partition.declared.value.Owned.TheVariants as owned
+use Rattle.value_law.specs.Below.owner_box.Partition.{stored, renewed}
+use Rattle.value_law.specs.Below.read_cache.Cache.{Copy, can_pin, pin}
+use Rattle.value_law.specs.Below.mut_borrow.Refs.{cleaned_answer, finish_word}
+use Rattle.value_law.specs.Below.mut_borrow.declared.shared.SharedRef.{SharedRef}
+use Rattle.value_law.specs.Below.mut_borrow.declared.mutable.MutRef.{MutRef}
+use Rattle.value_law.specs.Below.mut_borrow.declared.mutable.Cleaned.{Cleaned}
+use Rattle.value_law.specs.Below.mut_borrow.declared.mutable.Cleaned.TheVariants as cleaned
+use Rattle.value_law.specs.Below.thread_state.View.{ThreadState}
+use Rattle.value_law.specs.Below.thread_state.declared.value.Value.{Value}
+use Rattle.value_law.specs.Below.thread_state.declared.value.Value.TheVariants as value
+use Rattle.value_law.specs.Below.server_msgs.declared.message.Message.{Message}
+use Rattle.value_law.specs.Below.place_walk.declared.hop.Hop.{Hop}
+use Rattle.value_law.specs.Below.place_walk.declared.hop.Hop.TheVariants as hop
+use Rattle.value_law.specs.Below.place_walk.Hops.{clean_hop, dirty_hop, read_hop, write_hop}
+use Rattle.value_law.specs.Below.journal.declared.act.Act.{Act}
+use Rattle.value_law.specs.Below.journal.declared.act.Act.TheVariants as act
+use Rattle.value_law.specs.Below.server_model.Servers.{Rest}
+use Rattle.value_law.specs.Below.server_model.Work.{Hand, front_of, note, sent_from, with_cache, with_partition, working, leads_here, then_some, used_once}
+use Rattle.value_law.specs.Below.server_model.NewWords.{NewWord, can_grow, is_last, issue_tint, issue_renewal, issue_colour}
+use Rattle.value_law.specs.Below.server_model.Places.{Spot, in_slot, on_top, in_cell, in_copy, nowhere, value_in, cell_at, value_at, load_at, written, note_slot, note_write, put_at, pointer_of, with_word, set_pointer, put_word}
+use Rattle.value_law.specs.Below.server_model.Prepare.{Access, ReadTo, ReadPointer, WriteTo, LendTo, EndRef, Prepared, ready, requested, nothing, and_then, ready_at, ask_copy, ask_object, request_by, box_of, clean_last, cleaned_by, clean_value, pinned_once, use_copy, hopped, local, hit_by, read_by, read_value, read_clean, tinted_first, read_star, read_stars, passing, box_ready, colour_box, write_by, pass_by, write_value, write_star, write_stars, read_pointer, is_taken, lend_by, lend_value, lend_pointer, follow_holder, follow_ended, unlabelled, end_ref, prepare}
+use Rattle.value_law.specs.Below.event_law.Laws.{Gives}
+use Rattle.value_law.proofs.Below.event_law.Results.{then_gives, test_gives, bind_gives}
+use Rattle.value_law.proofs.Below.local_law.Small.{Writes}
 
 -- HOLDERS
 
@@ -345,7 +345,7 @@ module _ {most : ℕ} {W : Type 0} {X : ℕ → Rest → ℕ → Type 0} (k : St
 
       by : (b : Bool) → (if b then dirty_hop n q.word else clean_hop n cs q.word) ≡ hop.NeedTint u → (server_of q.word == n) ≡ false
       by true h = here (server_of q.word == n) refl h
-      by false h = absurd (copy_no_tint n q.word u cs (server_of q.word == n) (Rattle.read_cache.specs.Cache.is_cached cs q.word) h)
+      by false h = absurd (copy_no_tint n q.word u cs (server_of q.word == n) (Rattle.value_law.specs.Below.read_cache.Cache.is_cached cs q.word) h)
 
   -- so a tint before a read is no count
   tint_first : (c : ℕ) (s : Spot) (v : Value) (u : ℕ) (h : Hand) → read_hop h.work.rest.number h.work.rest.cache v ≡ Some (hop.NeedTint u) → Good c h → Made c (clean_value s (Some v) h)

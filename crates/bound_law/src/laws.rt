@@ -1,7 +1,7 @@
 //! What each event keeps of counts.
 
-ghost use Rattle.heap_law.specs.Coherent.{counts_bounded, passed_within};
-ghost use Rattle.local_law.specs.Laws.{EachCoherentEventKeeps, EachEventKeeps};
+ghost use Rattle.value_law.specs.Below.heap_law.Coherent.{counts_bounded, passed_within};
+ghost use Rattle.value_law.specs.Below.local_law.Laws.{EachCoherentEventKeeps, EachEventKeeps};
 
 /// In a coherent cluster no next address, and no number of retired addresses, of users of a copy or of shares of a mutex is above sixteen times the number of
 /// events: an event raises each by at most one a star of the place that its instruction follows, of which there are at most eight, and by two beside.

@@ -1,28 +1,28 @@
 -- An assignment to a variable, where it owns its value, or nothing is there.
 use Rattle.std.proofs.Common.{◌≡◌, ◌⊎◌, inl, inr, ⊎_elim, ℕ, Bool, true, false, if◌then◌else◌, List, [], ◌++◌, Option, Some, None, option_map, refl, sym, ap, subst, ◌∙◌}
 use Rattle.std.specs.Prelude.{nat_lt, slice_get, slice_set, length}
-use Rattle.fr_base.specs.declared.instruction.Operand.{Operand}
-use Rattle.fr_base.specs.declared.instruction.Operand.TheVariants as operand
-use Rattle.fr_base.specs.declared.instruction.Instr.{Instr}
-use Rattle.fr_base.specs.declared.step.Fresh.TheVariants as fresh
-use Rattle.fr_typing.proofs.PlaceLemmas.{eq_cases}
-use Rattle.heap_partition.specs.declared.value.Owned.{Owned}
-use Rattle.heap_partition.specs.declared.value.Owned.TheVariants as owned
-use Rattle.thread_state.specs.View.{ThreadState}
-use Rattle.thread_state.specs.declared.value.Value.{Value}
-use Rattle.thread_state.specs.declared.value.Value.TheVariants as value
-use Rattle.server_model.specs.Work.{Work, Hand, Popped, last_of, front_of, with_slots, with_temps, pop, then_some, working, unit}
-use Rattle.server_model.specs.Drop.{give_up, drop_value}
-use Rattle.server_model.specs.Places.{nowhere as no_spot, put_slot}
-use Rattle.server_model.specs.Commit.{done_where, go_on, label_dropped, replace_slot, settle}
-use Rattle.server_model.specs.Events.{Stepped, done_step, committed}
-use Rattle.heap_law.specs.Things.{in_slot, at_slot, things_at, slot_things, thread_things}
-use Rattle.word_law.specs.Unmoved.{pointing}
-use Rattle.word_law.proofs.Slots.{set_same, set_other}
-use Rattle.event_law.specs.Laws.{Gives}
-use Rattle.event_law.proofs.Results.{over_gives}
-use Rattle.event_law.proofs.Values.{last_split}
-use Rattle.event_law.proofs.Bags.{body_things}
+use Rattle.end_law.specs.Below.fr_base.declared.instruction.Operand.{Operand}
+use Rattle.end_law.specs.Below.fr_base.declared.instruction.Operand.TheVariants as operand
+use Rattle.end_law.specs.Below.fr_base.declared.instruction.Instr.{Instr}
+use Rattle.end_law.specs.Below.fr_base.declared.step.Fresh.TheVariants as fresh
+use Rattle.end_law.proofs.Below.fr_typing.PlaceLemmas.{eq_cases}
+use Rattle.end_law.specs.Below.heap_partition.declared.value.Owned.{Owned}
+use Rattle.end_law.specs.Below.heap_partition.declared.value.Owned.TheVariants as owned
+use Rattle.end_law.specs.Below.thread_state.View.{ThreadState}
+use Rattle.end_law.specs.Below.thread_state.declared.value.Value.{Value}
+use Rattle.end_law.specs.Below.thread_state.declared.value.Value.TheVariants as value
+use Rattle.end_law.specs.Below.server_model.Work.{Work, Hand, Popped, last_of, front_of, with_slots, with_temps, pop, then_some, working, unit}
+use Rattle.end_law.specs.Below.server_model.Drop.{give_up, drop_value}
+use Rattle.end_law.specs.Below.server_model.Places.{nowhere as no_spot, put_slot}
+use Rattle.end_law.specs.Below.server_model.Commit.{done_where, go_on, label_dropped, replace_slot, settle}
+use Rattle.end_law.specs.Below.server_model.Events.{Stepped, done_step, committed}
+use Rattle.end_law.specs.Below.heap_law.Things.{in_slot, at_slot, things_at, slot_things, thread_things}
+use Rattle.end_law.specs.Below.word_law.Unmoved.{pointing}
+use Rattle.end_law.proofs.Below.word_law.Slots.{set_same, set_other}
+use Rattle.end_law.specs.Below.event_law.Laws.{Gives}
+use Rattle.end_law.proofs.Below.event_law.Results.{over_gives}
+use Rattle.end_law.proofs.Below.event_law.Values.{last_split}
+use Rattle.end_law.proofs.Below.event_law.Bags.{body_things}
 use Rattle.prepare_law.proofs.Below.stay_law.Alike.{Alike, itself, turned, beside}
 use Rattle.prepare_law.proofs.Below.stay_law.Servers.{held, held_if, given_up}
 use Rattle.prepare_law.proofs.Below.stay_law.Threads.{temps_of, thread_alike}

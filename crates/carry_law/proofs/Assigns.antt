@@ -1,36 +1,36 @@
 -- An assignment to a variable in its cluster.
 use Rattle.std.proofs.Common.{◌≡◌, ℕ, true, Some, None, refl, sym, ap, subst, ◌++◌}
 use Rattle.std.specs.Prelude.{slice_get}
-use Rattle.fr_base.specs.declared.place.Lval.{Lval}
-use Rattle.fr_base.specs.declared.step.Fresh.TheVariants as fresh
-use Rattle.fr_base.specs.declared.instruction.Operand.{Operand}
-use Rattle.fr_base.specs.declared.instruction.Instr.TheVariants as instr
-use Rattle.heap_partition.specs.declared.value.Owned.{Owned}
-use Rattle.journal.specs.View.{EntryView}
-use Rattle.thread_state.specs.View.{ThreadState}
-use Rattle.thread_state.specs.declared.phase.Phase.{Phase}
-use Rattle.thread_state.specs.declared.phase.Phase.TheVariants as phase
-use Rattle.thread_state.specs.declared.value.Value.{Value}
-use Rattle.thread_state.specs.declared.value.Value.TheVariants as value
-use Rattle.server_model.specs.declared.event.What.TheVariants.{Step}
-use Rattle.server_model.specs.Servers.{Server, Cluster, server_at}
-use Rattle.server_model.specs.Work.{Hand, thread_in, without_thread, then_some, pop}
-use Rattle.server_model.specs.Clusters.{apply}
-use Rattle.server_model.specs.Places.{nowhere as no_spot, in_slot as spot_slot}
-use Rattle.server_model.specs.Prepare.{ending, assigned, prepare}
-use Rattle.server_model.specs.Commit.{goes_on, assign, replace_slot}
-use Rattle.server_model.specs.Events.{enabled, Stepped, committed, prepared, step, does}
-use Rattle.heap_law.specs.Things.{at_slot, servers_things}
-use Rattle.type_law.specs.ClusterTypes.{IsCoherent}
-use Rattle.path_law.specs.Pointing.{assigns}
-use Rattle.word_law.specs.Unmoved.{taking_by}
+use Rattle.end_law.specs.Below.fr_base.declared.place.Lval.{Lval}
+use Rattle.end_law.specs.Below.fr_base.declared.step.Fresh.TheVariants as fresh
+use Rattle.end_law.specs.Below.fr_base.declared.instruction.Operand.{Operand}
+use Rattle.end_law.specs.Below.fr_base.declared.instruction.Instr.TheVariants as instr
+use Rattle.end_law.specs.Below.heap_partition.declared.value.Owned.{Owned}
+use Rattle.end_law.specs.Below.journal.View.{EntryView}
+use Rattle.end_law.specs.Below.thread_state.View.{ThreadState}
+use Rattle.end_law.specs.Below.thread_state.declared.phase.Phase.{Phase}
+use Rattle.end_law.specs.Below.thread_state.declared.phase.Phase.TheVariants as phase
+use Rattle.end_law.specs.Below.thread_state.declared.value.Value.{Value}
+use Rattle.end_law.specs.Below.thread_state.declared.value.Value.TheVariants as value
+use Rattle.end_law.specs.Below.server_model.declared.event.What.TheVariants.{Step}
+use Rattle.end_law.specs.Below.server_model.Servers.{Server, Cluster, server_at}
+use Rattle.end_law.specs.Below.server_model.Work.{Hand, thread_in, without_thread, then_some, pop}
+use Rattle.end_law.specs.Below.server_model.Clusters.{apply}
+use Rattle.end_law.specs.Below.server_model.Places.{nowhere as no_spot, in_slot as spot_slot}
+use Rattle.end_law.specs.Below.server_model.Prepare.{ending, assigned, prepare}
+use Rattle.end_law.specs.Below.server_model.Commit.{goes_on, assign, replace_slot}
+use Rattle.end_law.specs.Below.server_model.Events.{enabled, Stepped, committed, prepared, step, does}
+use Rattle.end_law.specs.Below.heap_law.Things.{at_slot, servers_things}
+use Rattle.end_law.specs.Below.type_law.ClusterTypes.{IsCoherent}
+use Rattle.end_law.specs.Below.path_law.Pointing.{assigns}
+use Rattle.end_law.specs.Below.word_law.Unmoved.{taking_by}
 use Rattle.end_law.specs.Dropped.{written}
-use Rattle.event_law.specs.Laws.{Gives, FewEvents}
-use Rattle.event_law.proofs.RulesKeep.{sums_kept, sums_spend}
-use Rattle.event_law.proofs.Bags.{all_standing}
-use Rattle.event_law.proofs.Events.{others_of}
-use Rattle.event_law.proofs.Steps.{step_keeps}
-use Rattle.event_law.proofs.GiftsTaken.{gift_fits}
+use Rattle.end_law.specs.Below.event_law.Laws.{Gives, FewEvents}
+use Rattle.end_law.proofs.Below.event_law.RulesKeep.{sums_kept, sums_spend}
+use Rattle.end_law.proofs.Below.event_law.Bags.{all_standing}
+use Rattle.end_law.proofs.Below.event_law.Events.{others_of}
+use Rattle.end_law.proofs.Below.event_law.Steps.{step_keeps}
+use Rattle.end_law.proofs.Below.event_law.GiftsTaken.{gift_fits}
 use Rattle.prepare_law.proofs.Below.stay_law.Steps.{TakesNoneHere}
 use Rattle.prepare_law.proofs.Asking.{found_number}
 use Rattle.carry_law.specs.Steps.{IsOwnedOrGone, owns, gone, AssignsOver}

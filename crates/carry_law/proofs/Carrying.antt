@@ -1,32 +1,32 @@
 -- Where a value goes from one place to another, and no mutable reference was made from it, the words stay.
 use Rattle.std.proofs.Common.{◌≡◌, ◌⊎◌, inl, inr, ⊎_elim, ℕ, Bool, true, false, ◌||◌, List, [], Option, Some, None, refl, sym, ap, subst, ◌∙◌}
-use Rattle.fr_base.specs.declared.instruction.Instr.{Instr}
-use Rattle.heap_partition.specs.declared.value.Cell.{Cell}
-use Rattle.heap_partition.specs.declared.value.Owned.TheVariants as owned
-use Rattle.mut_borrow.specs.declared.mutable.MutRef.{MutRef}
-use Rattle.mut_borrow.specs.Refs.{changed}
-use Rattle.server_model.specs.Servers.{Cluster}
-use Rattle.thread_state.specs.declared.value.Value.{Value}
-use Rattle.thread_state.specs.declared.value.Value.TheVariants as value
-use Rattle.heap_law.specs.Names.{Among, other}
-use Rattle.heap_law.specs.Things.{Location, at_slot, at_temp, in_cell, lies, things_of}
-use Rattle.heap_law.specs.Follow.{Ground, value_in, value_behind, place_at}
-use Rattle.heap_law.specs.Stale.{same_location, is_among, Reference, references, holder_of, is_held_at, with_place, lent_places, changed_above, stale_above, taken_above}
-use Rattle.heap_law.specs.Sight.{Pointer, pointers_in, taken_object, taken_pointers, sight}
-use Rattle.heap_law.specs.Placing.{is_first, other_first, standing_in, standing_pointers}
-use Rattle.heap_law.specs.Coherent.{Holds, first_at_holder}
-use Rattle.heap_law.specs.Words.{all_pointers, IsStale, Fresh, HasWords, LeadsTo}
-use Rattle.heap_law.specs.Dirty.{DirtyAlone, PastWords}
-use Rattle.heap_law.proofs.Bags.{among_split}
-use Rattle.heap_law.proofs.Words.{none_at, none_all}
-use Rattle.path_law.proofs.Origins.{among_first, among_second}
-use Rattle.path_law.proofs.Contained.{location_itself, reference_there}
-use Rattle.path_law.proofs.FreshPaths.{held_at, same_is}
-use Rattle.word_law.specs.Reworded.{HasPlaces}
-use Rattle.word_law.specs.Unmoved.{owning, seen_at, takings, WordsStay}
-use Rattle.word_law.proofs.Standing.{pointer_at, Tells, tells, told, told_standing, stands_in, borrow_stands}
-use Rattle.word_law.proofs.Takings.{reference_at, seen_pointer_at, first_at, lent_by, taken_by, lents_are, takens_are, lent_listed, lent_told, taken_listed, taken_told}
-use Rattle.word_law.proofs.Grounds.{of_borrows, same_place}
+use Rattle.end_law.specs.Below.fr_base.declared.instruction.Instr.{Instr}
+use Rattle.end_law.specs.Below.heap_partition.declared.value.Cell.{Cell}
+use Rattle.end_law.specs.Below.heap_partition.declared.value.Owned.TheVariants as owned
+use Rattle.end_law.specs.Below.mut_borrow.declared.mutable.MutRef.{MutRef}
+use Rattle.end_law.specs.Below.mut_borrow.Refs.{changed}
+use Rattle.end_law.specs.Below.server_model.Servers.{Cluster}
+use Rattle.end_law.specs.Below.thread_state.declared.value.Value.{Value}
+use Rattle.end_law.specs.Below.thread_state.declared.value.Value.TheVariants as value
+use Rattle.end_law.specs.Below.heap_law.Names.{Among, other}
+use Rattle.end_law.specs.Below.heap_law.Things.{Location, at_slot, at_temp, in_cell, lies, things_of}
+use Rattle.end_law.specs.Below.heap_law.Follow.{Ground, value_in, value_behind, place_at}
+use Rattle.end_law.specs.Below.heap_law.Stale.{same_location, is_among, Reference, references, holder_of, is_held_at, with_place, lent_places, changed_above, stale_above, taken_above}
+use Rattle.end_law.specs.Below.heap_law.Sight.{Pointer, pointers_in, taken_object, taken_pointers, sight}
+use Rattle.end_law.specs.Below.heap_law.Placing.{is_first, other_first, standing_in, standing_pointers}
+use Rattle.end_law.specs.Below.heap_law.Coherent.{Holds, first_at_holder}
+use Rattle.end_law.specs.Below.heap_law.Words.{all_pointers, IsStale, Fresh, HasWords, LeadsTo}
+use Rattle.end_law.specs.Below.heap_law.Dirty.{DirtyAlone, PastWords}
+use Rattle.end_law.proofs.Below.heap_law.Bags.{among_split}
+use Rattle.end_law.proofs.Below.heap_law.Words.{none_at, none_all}
+use Rattle.end_law.proofs.Below.path_law.Origins.{among_first, among_second}
+use Rattle.end_law.proofs.Below.path_law.Contained.{location_itself, reference_there}
+use Rattle.end_law.proofs.Below.path_law.FreshPaths.{held_at, same_is}
+use Rattle.end_law.specs.Below.word_law.Reworded.{HasPlaces}
+use Rattle.end_law.specs.Below.word_law.Unmoved.{owning, seen_at, takings, WordsStay}
+use Rattle.end_law.proofs.Below.word_law.Standing.{pointer_at, Tells, tells, told, told_standing, stands_in, borrow_stands}
+use Rattle.end_law.proofs.Below.word_law.Takings.{reference_at, seen_pointer_at, first_at, lent_by, taken_by, lents_are, takens_are, lent_listed, lent_told, taken_listed, taken_told}
+use Rattle.end_law.proofs.Below.word_law.Grounds.{of_borrows, same_place}
 use Rattle.carry_law.specs.Carried.{Carried, CarriedStays}
 
 -- A PLACE OR NONE

@@ -1,35 +1,35 @@
 -- Steps of these instructions in their cluster.
 use Rattle.std.proofs.Common.{◌≡◌, ℕ, ◌++◌, Some, None, refl, sym, subst}
 use Rattle.std.specs.Prelude.{slice_get}
-use Rattle.fr_base.specs.declared.step.Fresh.TheVariants as fresh
-use Rattle.fr_base.specs.declared.instruction.Operand.{Operand}
-use Rattle.fr_base.specs.declared.instruction.Instr.{Instr}
-use Rattle.fr_base.specs.declared.instruction.Instr.TheVariants as instr
-use Rattle.journal.specs.View.{EntryView}
-use Rattle.thread_state.specs.View.{ThreadState}
-use Rattle.thread_state.specs.declared.phase.Phase.{Phase}
-use Rattle.thread_state.specs.declared.phase.Phase.TheVariants as phase
-use Rattle.thread_state.specs.declared.value.Value.{Value}
-use Rattle.thread_state.specs.declared.value.Value.TheVariants as value
-use Rattle.server_model.specs.declared.event.What.TheVariants.{Step}
-use Rattle.server_model.specs.Servers.{Server, Cluster, server_at}
-use Rattle.server_model.specs.Work.{Hand, last_of, thread_in, without_thread, then_some, pop_owned}
-use Rattle.server_model.specs.Clusters.{apply}
-use Rattle.server_model.specs.Prepare.{ending, prepare}
-use Rattle.server_model.specs.Places.{on_top, nowhere as no_spot}
-use Rattle.server_model.specs.Commit.{let_slot, mutex_made, discard}
-use Rattle.server_model.specs.Events.{Stepped, step, prepared}
-use Rattle.heap_law.specs.Things.{servers_things}
-use Rattle.heap_law.specs.Coherent.{IsSound}
-use Rattle.word_law.specs.Unmoved.{taking_by}
-use Rattle.event_law.specs.Kinds.{instr_kind}
-use Rattle.event_law.specs.Laws.{Gives, FewEvents}
-use Rattle.event_law.proofs.Proved.{IsProvedKind}
-use Rattle.event_law.proofs.RulesKeep.{sums_kept, sums_spend}
-use Rattle.event_law.proofs.Bags.{all_standing}
-use Rattle.event_law.proofs.Events.{others_of}
-use Rattle.event_law.proofs.Steps.{step_keeps}
-use Rattle.event_law.proofs.GiftsTaken.{gift_fits}
+use Rattle.end_law.specs.Below.fr_base.declared.step.Fresh.TheVariants as fresh
+use Rattle.end_law.specs.Below.fr_base.declared.instruction.Operand.{Operand}
+use Rattle.end_law.specs.Below.fr_base.declared.instruction.Instr.{Instr}
+use Rattle.end_law.specs.Below.fr_base.declared.instruction.Instr.TheVariants as instr
+use Rattle.end_law.specs.Below.journal.View.{EntryView}
+use Rattle.end_law.specs.Below.thread_state.View.{ThreadState}
+use Rattle.end_law.specs.Below.thread_state.declared.phase.Phase.{Phase}
+use Rattle.end_law.specs.Below.thread_state.declared.phase.Phase.TheVariants as phase
+use Rattle.end_law.specs.Below.thread_state.declared.value.Value.{Value}
+use Rattle.end_law.specs.Below.thread_state.declared.value.Value.TheVariants as value
+use Rattle.end_law.specs.Below.server_model.declared.event.What.TheVariants.{Step}
+use Rattle.end_law.specs.Below.server_model.Servers.{Server, Cluster, server_at}
+use Rattle.end_law.specs.Below.server_model.Work.{Hand, last_of, thread_in, without_thread, then_some, pop_owned}
+use Rattle.end_law.specs.Below.server_model.Clusters.{apply}
+use Rattle.end_law.specs.Below.server_model.Prepare.{ending, prepare}
+use Rattle.end_law.specs.Below.server_model.Places.{on_top, nowhere as no_spot}
+use Rattle.end_law.specs.Below.server_model.Commit.{let_slot, mutex_made, discard}
+use Rattle.end_law.specs.Below.server_model.Events.{Stepped, step, prepared}
+use Rattle.end_law.specs.Below.heap_law.Things.{servers_things}
+use Rattle.end_law.specs.Below.heap_law.Coherent.{IsSound}
+use Rattle.end_law.specs.Below.word_law.Unmoved.{taking_by}
+use Rattle.end_law.specs.Below.event_law.Kinds.{instr_kind}
+use Rattle.end_law.specs.Below.event_law.Laws.{Gives, FewEvents}
+use Rattle.end_law.proofs.Below.event_law.Proved.{IsProvedKind}
+use Rattle.end_law.proofs.Below.event_law.RulesKeep.{sums_kept, sums_spend}
+use Rattle.end_law.proofs.Below.event_law.Bags.{all_standing}
+use Rattle.end_law.proofs.Below.event_law.Events.{others_of}
+use Rattle.end_law.proofs.Below.event_law.Steps.{step_keeps}
+use Rattle.end_law.proofs.Below.event_law.GiftsTaken.{gift_fits}
 use Rattle.prepare_law.proofs.Below.stay_law.Steps.{TakesNoneHere}
 use Rattle.prepare_law.proofs.Asking.{found_number}
 use Rattle.carry_law.specs.Steps.{CarriesOne, a_let, a_mutex, a_join, an_end, StepsCarry, IsNoReference, DiscardsCarry}

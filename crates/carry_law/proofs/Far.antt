@@ -1,27 +1,27 @@
 -- An object leaves: of two clusters words see the same, but that a cell lies at an address in the first one and is under way in the second one.
 use Rattle.std.proofs.Common.{◌≡◌, ◌⊎◌, inl, inr, ⊎_elim, ℕ, Bool, List, [], ◌∷◌, Option, Some, None, refl, sym, ap, subst, ◌∙◌}
 use Rattle.std.specs.Prelude.{⊤}
-use Rattle.fr_base.specs.declared.instruction.Instr.{Instr}
-use Rattle.fr_base.specs.declared.name.ObjNo.{ObjNo}
-use Rattle.heap_partition.specs.declared.value.Cell.{Cell}
-use Rattle.thread_state.specs.View.{ThreadState}
-use Rattle.thread_state.specs.declared.value.Value.{Value}
-use Rattle.thread_state.specs.declared.value.Value.TheVariants as value
-use Rattle.server_model.specs.Servers.{Cluster}
-use Rattle.heap_law.specs.Names.{Among}
-use Rattle.heap_law.specs.Things.{Location, at_slot, at_temp, in_cell, Thing, lies, flies, stands, things_of}
-use Rattle.heap_law.specs.Follow.{Standing, thread_at, threads_in, cells_in, cell_of, slot_of, temp_of, value_of, value_in}
-use Rattle.heap_law.specs.Sight.{Pointer, pointer_in, pointers_of, pointers_in, sight}
-use Rattle.heap_law.specs.Placing.{standing_in}
-use Rattle.heap_law.proofs.Bags.{among_split}
-use Rattle.type_law.proofs.Branches.{found}
-use Rattle.path_law.proofs.Contained.{among_thread}
-use Rattle.path_law.proofs.Origins.{among_second}
-use Rattle.word_law.specs.Reworded.{HasPlaces, LiesThere}
-use Rattle.word_law.specs.Unmoved.{pointing, owning, seen_at, Taking, with_taking, taking_of, takings}
-use Rattle.word_law.specs.OneMore.{Beside, OneMore}
-use Rattle.word_law.proofs.Standing.{CellOf, lying, flying, cell_among, cell_found, of_thing, pointers_among, stands_in}
-use Rattle.word_law.proofs.Loose.{box_nowhere}
+use Rattle.end_law.specs.Below.fr_base.declared.instruction.Instr.{Instr}
+use Rattle.end_law.specs.Below.fr_base.declared.name.ObjNo.{ObjNo}
+use Rattle.end_law.specs.Below.heap_partition.declared.value.Cell.{Cell}
+use Rattle.end_law.specs.Below.thread_state.View.{ThreadState}
+use Rattle.end_law.specs.Below.thread_state.declared.value.Value.{Value}
+use Rattle.end_law.specs.Below.thread_state.declared.value.Value.TheVariants as value
+use Rattle.end_law.specs.Below.server_model.Servers.{Cluster}
+use Rattle.end_law.specs.Below.heap_law.Names.{Among}
+use Rattle.end_law.specs.Below.heap_law.Things.{Location, at_slot, at_temp, in_cell, Thing, lies, flies, stands, things_of}
+use Rattle.end_law.specs.Below.heap_law.Follow.{Standing, thread_at, threads_in, cells_in, cell_of, slot_of, temp_of, value_of, value_in}
+use Rattle.end_law.specs.Below.heap_law.Sight.{Pointer, pointer_in, pointers_of, pointers_in, sight}
+use Rattle.end_law.specs.Below.heap_law.Placing.{standing_in}
+use Rattle.end_law.proofs.Below.heap_law.Bags.{among_split}
+use Rattle.end_law.proofs.Below.type_law.Branches.{found}
+use Rattle.end_law.proofs.Below.path_law.Contained.{among_thread}
+use Rattle.end_law.proofs.Below.path_law.Origins.{among_second}
+use Rattle.end_law.specs.Below.word_law.Reworded.{HasPlaces, LiesThere}
+use Rattle.end_law.specs.Below.word_law.Unmoved.{pointing, owning, seen_at, Taking, with_taking, taking_of, takings}
+use Rattle.end_law.specs.Below.word_law.OneMore.{Beside, OneMore}
+use Rattle.end_law.proofs.Below.word_law.Standing.{CellOf, lying, flying, cell_among, cell_found, of_thing, pointers_among, stands_in}
+use Rattle.end_law.proofs.Below.word_law.Loose.{box_nowhere}
 use Rattle.prepare_law.proofs.Below.stay_law.Alike.{ShowsAs, shows_turn, StandsIn, Seen, Within, Alike, standing_turn}
 use Rattle.carry_law.proofs.Taken.{taker_of}
 

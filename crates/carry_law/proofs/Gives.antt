@@ -1,56 +1,56 @@
 -- Steps that take what a slot owns.
 use Rattle.std.proofs.Common.{◌≡◌, inl, ℕ, suc, ◌-◌, Bool, true, false, if◌then◌else◌, List, [], ◌∷◌, ◌++◌, Option, Some, None, option_map, refl, sym, ap, subst, ◌∙◌}
 use Rattle.std.specs.Prelude.{nat_lt, slice_get, slice_set, length}
-use Rattle.fr_base.specs.declared.name.MutexNo.{MutexNo}
-use Rattle.fr_base.specs.declared.place.Lval.{Lval}
-use Rattle.fr_base.specs.declared.step.Fresh.TheVariants as fresh
-use Rattle.fr_base.specs.declared.instruction.Instr.{Instr}
-use Rattle.fr_base.specs.declared.instruction.Instr.TheVariants as instr
-use Rattle.heap_partition.specs.declared.value.BoxPtr.{BoxPtr}
-use Rattle.heap_partition.specs.declared.value.Owned.{Owned}
-use Rattle.heap_partition.specs.declared.value.Owned.TheVariants as owned
-use Rattle.mut_borrow.specs.declared.mutable.MutRef.{MutRef}
-use Rattle.journal.specs.View.{EntryView}
-use Rattle.thread_state.specs.View.{ThreadState}
-use Rattle.thread_state.specs.declared.phase.Phase.{Phase}
-use Rattle.thread_state.specs.declared.phase.Phase.TheVariants as phase
-use Rattle.thread_state.specs.declared.value.Value.{Value}
-use Rattle.thread_state.specs.declared.value.Value.TheVariants as value
-use Rattle.server_msgs.specs.declared.message.Message.TheVariants as message
-use Rattle.server_model.specs.declared.event.What.TheVariants.{Step}
-use Rattle.server_model.specs.Servers.{Rest, Server, Cluster, server_at}
-use Rattle.server_model.specs.Work.{Hand, Popped, last_of, front_of, with_slots, pop_slot, push_temp, owned_of, taken_as, then_some, working, sent_from, thread_in, without_thread}
-use Rattle.server_model.specs.Clusters.{apply}
-use Rattle.server_model.specs.Drop.{give_up, drop_value}
-use Rattle.server_model.specs.Places.{load_at, in_slot as spot_slot, nowhere as no_spot}
-use Rattle.server_model.specs.Prepare.{ending, prepare, read_or_taken, read_stars}
-use Rattle.server_model.specs.Commit.{done_where, go_on, label_dropped, drop_slot, held_of, send_content, unlock, read, read_as, settle}
-use Rattle.server_model.specs.Events.{can_step, has_phase, enabled, does, Stepped, done_step, committed, prepared, step}
-use Rattle.heap_law.specs.Things.{Location, at_slot, sent, locks, thread_things, message_things, servers_things}
-use Rattle.heap_law.specs.Follow.{Standing, value_in, locate}
-use Rattle.heap_law.specs.Sight.{Pointer, sight}
-use Rattle.type_law.specs.ClusterTypes.{IsCoherent}
-use Rattle.path_law.specs.HeapStore.{GoesOn}
-use Rattle.path_law.specs.Pointing.{moves as moves_out}
-use Rattle.path_law.proofs.Sole.{some_is}
-use Rattle.path_law.proofs.Alike.{coherent_has_paths}
-use Rattle.path_law.proofs.Contained.{among_thread}
-use Rattle.word_law.specs.Unmoved.{taking_by}
-use Rattle.word_law.proofs.Standing.{told}
+use Rattle.end_law.specs.Below.fr_base.declared.name.MutexNo.{MutexNo}
+use Rattle.end_law.specs.Below.fr_base.declared.place.Lval.{Lval}
+use Rattle.end_law.specs.Below.fr_base.declared.step.Fresh.TheVariants as fresh
+use Rattle.end_law.specs.Below.fr_base.declared.instruction.Instr.{Instr}
+use Rattle.end_law.specs.Below.fr_base.declared.instruction.Instr.TheVariants as instr
+use Rattle.end_law.specs.Below.heap_partition.declared.value.BoxPtr.{BoxPtr}
+use Rattle.end_law.specs.Below.heap_partition.declared.value.Owned.{Owned}
+use Rattle.end_law.specs.Below.heap_partition.declared.value.Owned.TheVariants as owned
+use Rattle.end_law.specs.Below.mut_borrow.declared.mutable.MutRef.{MutRef}
+use Rattle.end_law.specs.Below.journal.View.{EntryView}
+use Rattle.end_law.specs.Below.thread_state.View.{ThreadState}
+use Rattle.end_law.specs.Below.thread_state.declared.phase.Phase.{Phase}
+use Rattle.end_law.specs.Below.thread_state.declared.phase.Phase.TheVariants as phase
+use Rattle.end_law.specs.Below.thread_state.declared.value.Value.{Value}
+use Rattle.end_law.specs.Below.thread_state.declared.value.Value.TheVariants as value
+use Rattle.end_law.specs.Below.server_msgs.declared.message.Message.TheVariants as message
+use Rattle.end_law.specs.Below.server_model.declared.event.What.TheVariants.{Step}
+use Rattle.end_law.specs.Below.server_model.Servers.{Rest, Server, Cluster, server_at}
+use Rattle.end_law.specs.Below.server_model.Work.{Hand, Popped, last_of, front_of, with_slots, pop_slot, push_temp, owned_of, taken_as, then_some, working, sent_from, thread_in, without_thread}
+use Rattle.end_law.specs.Below.server_model.Clusters.{apply}
+use Rattle.end_law.specs.Below.server_model.Drop.{give_up, drop_value}
+use Rattle.end_law.specs.Below.server_model.Places.{load_at, in_slot as spot_slot, nowhere as no_spot}
+use Rattle.end_law.specs.Below.server_model.Prepare.{ending, prepare, read_or_taken, read_stars}
+use Rattle.end_law.specs.Below.server_model.Commit.{done_where, go_on, label_dropped, drop_slot, held_of, send_content, unlock, read, read_as, settle}
+use Rattle.end_law.specs.Below.server_model.Events.{can_step, has_phase, enabled, does, Stepped, done_step, committed, prepared, step}
+use Rattle.end_law.specs.Below.heap_law.Things.{Location, at_slot, sent, locks, thread_things, message_things, servers_things}
+use Rattle.end_law.specs.Below.heap_law.Follow.{Standing, value_in, locate}
+use Rattle.end_law.specs.Below.heap_law.Sight.{Pointer, sight}
+use Rattle.end_law.specs.Below.type_law.ClusterTypes.{IsCoherent}
+use Rattle.end_law.specs.Below.path_law.HeapStore.{GoesOn}
+use Rattle.end_law.specs.Below.path_law.Pointing.{moves as moves_out}
+use Rattle.end_law.proofs.Below.path_law.Sole.{some_is}
+use Rattle.end_law.proofs.Below.path_law.Alike.{coherent_has_paths}
+use Rattle.end_law.proofs.Below.path_law.Contained.{among_thread}
+use Rattle.end_law.specs.Below.word_law.Unmoved.{taking_by}
+use Rattle.end_law.proofs.Below.word_law.Standing.{told}
 use Rattle.end_law.specs.Dropped.{GivesUp, written, dropped as slot_dropped, put_back, MayGiveUp, a_place}
 use Rattle.end_law.proofs.Owned.{owned_are_alone}
 use Rattle.end_law.proofs.Given.{given_up_may_be}
-use Rattle.event_law.specs.Kinds.{instr_kind}
-use Rattle.event_law.specs.Laws.{Gives, FewEvents}
-use Rattle.event_law.proofs.Proved.{IsProvedKind}
-use Rattle.event_law.proofs.Results.{over_gives}
-use Rattle.event_law.proofs.Values.{last_split}
-use Rattle.event_law.proofs.RulesKeep.{sums_kept, sums_spend}
-use Rattle.event_law.proofs.Bags.{body_things, all_standing, sent_number}
-use Rattle.event_law.proofs.Events.{others_of}
-use Rattle.event_law.proofs.Steps.{step_keeps}
-use Rattle.event_law.proofs.GiftsTaken.{gift_fits}
-use Rattle.event_law.proofs.ThreadThere.{thread_there}
+use Rattle.end_law.specs.Below.event_law.Kinds.{instr_kind}
+use Rattle.end_law.specs.Below.event_law.Laws.{Gives, FewEvents}
+use Rattle.end_law.proofs.Below.event_law.Proved.{IsProvedKind}
+use Rattle.end_law.proofs.Below.event_law.Results.{over_gives}
+use Rattle.end_law.proofs.Below.event_law.Values.{last_split}
+use Rattle.end_law.proofs.Below.event_law.RulesKeep.{sums_kept, sums_spend}
+use Rattle.end_law.proofs.Below.event_law.Bags.{body_things, all_standing, sent_number}
+use Rattle.end_law.proofs.Below.event_law.Events.{others_of}
+use Rattle.end_law.proofs.Below.event_law.Steps.{step_keeps}
+use Rattle.end_law.proofs.Below.event_law.GiftsTaken.{gift_fits}
+use Rattle.end_law.proofs.Below.event_law.ThreadThere.{thread_there}
 use Rattle.prepare_law.proofs.Below.stay_law.Alike.{Alike, itself, turned, chain, beside, blank}
 use Rattle.prepare_law.proofs.Below.stay_law.Servers.{held, content_held, given_up, sends}
 use Rattle.prepare_law.proofs.Below.stay_law.Sites.{HandAlike}

@@ -1,48 +1,48 @@
 -- A step that moves one value of its thread, or none that words see, leaves the words.
 use Rattle.std.proofs.Common.{◌≡◌, ◌⊎◌, ℕ, true, ◌+◌, false, List, [], ◌++◌, Option, Some, None, IsSome, option_map, refl, sym, ap, subst, ◌∙◌, arith}
 use Rattle.std.specs.Prelude.{slice_get, take, drop as drop_first, length}
-use Rattle.fr_base.specs.declared.instruction.Instr.{Instr}
-use Rattle.fr_base.specs.declared.instruction.Instr.TheVariants as instr
-use Rattle.fr_base.specs.declared.name.ObjNo.{ObjNo}
-use Rattle.fr_base.specs.declared.place.Lval.{Lval}
-use Rattle.journal.specs.View.{EntryView}
-use Rattle.thread_state.specs.View.{ThreadState}
-use Rattle.thread_state.specs.declared.phase.Phase.{Phase}
-use Rattle.thread_state.specs.declared.phase.Phase.TheVariants as phase
-use Rattle.thread_state.specs.declared.value.Value.TheVariants as value
-use Rattle.heap_partition.specs.declared.value.Owned.{Owned}
-use Rattle.server_model.specs.declared.event.What.TheVariants.{Step}
-use Rattle.server_model.specs.Servers.{Server, Cluster, server_at}
-use Rattle.server_model.specs.Work.{Hand, thread_in, set_thread, without_thread, put_back, then_some}
-use Rattle.server_model.specs.Clusters.{with_server, hand_over_newer, done_at, apply}
-use Rattle.server_model.specs.Events.{enabled, begin_work, begin_at, Stepped, step, step_in, stepped, does}
-use Rattle.heap_law.specs.Names.{Among, tot, other}
-use Rattle.heap_law.specs.Things.{Location, at_slot, in_cell, Thing, thread_things, server_things, servers_things, things_of}
-use Rattle.heap_law.specs.Follow.{Standing, cells_in, value_in, leads, place_at}
-use Rattle.heap_law.specs.Sight.{sight}
-use Rattle.heap_law.specs.Requests.{lies_here, taken_there, taken_phase, lent_place as taken_place}
-use Rattle.heap_law.specs.Weights.{owners}
-use Rattle.heap_law.specs.Coherent.{Holds, first_at_holder, IsSound}
-use Rattle.heap_law.proofs.Words.{none_at}
-use Rattle.path_law.proofs.Sole.{some_is}
-use Rattle.word_law.specs.Reworded.{HasPlaces}
-use Rattle.word_law.specs.Unmoved.{pointing, Taking, taking_by, takings, Untouched, LeavesWords}
-use Rattle.word_law.specs.PutBack.{put_in, StandsHere}
-use Rattle.word_law.proofs.Put.{Split, put_split}
-use Rattle.word_law.proofs.Takings.{leads_pointing}
-use Rattle.word_law.proofs.Follows.{seen_places_lead}
-use Rattle.word_law.proofs.Unmoved.{untouched_stays}
-use Rattle.event_law.specs.Laws.{Gives, GoTo, FewEvents}
-use Rattle.event_law.specs.Sums.{Sums}
-use Rattle.event_law.proofs.Results.{over_gives, test_gives, both_give}
-use Rattle.event_law.proofs.RulesKeep.{sums_kept}
-use Rattle.event_law.proofs.Trades.{tot-append}
-use Rattle.event_law.proofs.Sound.{sound_has_sums}
-use Rattle.event_law.proofs.Bags.{HandOk, all_standing, body_things, thread_number}
-use Rattle.event_law.proofs.Chains.{takes, puts_back}
-use Rattle.event_law.proofs.Events.{others_of, tot-server, begins_site, ends_site}
-use Rattle.event_law.proofs.Applied.{go_with}
-use Rattle.event_law.proofs.Sending.{applied_part, each_event_sends}
+use Rattle.end_law.specs.Below.fr_base.declared.instruction.Instr.{Instr}
+use Rattle.end_law.specs.Below.fr_base.declared.instruction.Instr.TheVariants as instr
+use Rattle.end_law.specs.Below.fr_base.declared.name.ObjNo.{ObjNo}
+use Rattle.end_law.specs.Below.fr_base.declared.place.Lval.{Lval}
+use Rattle.end_law.specs.Below.journal.View.{EntryView}
+use Rattle.end_law.specs.Below.thread_state.View.{ThreadState}
+use Rattle.end_law.specs.Below.thread_state.declared.phase.Phase.{Phase}
+use Rattle.end_law.specs.Below.thread_state.declared.phase.Phase.TheVariants as phase
+use Rattle.end_law.specs.Below.thread_state.declared.value.Value.TheVariants as value
+use Rattle.end_law.specs.Below.heap_partition.declared.value.Owned.{Owned}
+use Rattle.end_law.specs.Below.server_model.declared.event.What.TheVariants.{Step}
+use Rattle.end_law.specs.Below.server_model.Servers.{Server, Cluster, server_at}
+use Rattle.end_law.specs.Below.server_model.Work.{Hand, thread_in, set_thread, without_thread, put_back, then_some}
+use Rattle.end_law.specs.Below.server_model.Clusters.{with_server, hand_over_newer, done_at, apply}
+use Rattle.end_law.specs.Below.server_model.Events.{enabled, begin_work, begin_at, Stepped, step, step_in, stepped, does}
+use Rattle.end_law.specs.Below.heap_law.Names.{Among, tot, other}
+use Rattle.end_law.specs.Below.heap_law.Things.{Location, at_slot, in_cell, Thing, thread_things, server_things, servers_things, things_of}
+use Rattle.end_law.specs.Below.heap_law.Follow.{Standing, cells_in, value_in, leads, place_at}
+use Rattle.end_law.specs.Below.heap_law.Sight.{sight}
+use Rattle.end_law.specs.Below.heap_law.Requests.{lies_here, taken_there, taken_phase, lent_place as taken_place}
+use Rattle.end_law.specs.Below.heap_law.Weights.{owners}
+use Rattle.end_law.specs.Below.heap_law.Coherent.{Holds, first_at_holder, IsSound}
+use Rattle.end_law.proofs.Below.heap_law.Words.{none_at}
+use Rattle.end_law.proofs.Below.path_law.Sole.{some_is}
+use Rattle.end_law.specs.Below.word_law.Reworded.{HasPlaces}
+use Rattle.end_law.specs.Below.word_law.Unmoved.{pointing, Taking, taking_by, takings, Untouched, LeavesWords}
+use Rattle.end_law.specs.Below.word_law.PutBack.{put_in, StandsHere}
+use Rattle.end_law.proofs.Below.word_law.Put.{Split, put_split}
+use Rattle.end_law.proofs.Below.word_law.Takings.{leads_pointing}
+use Rattle.end_law.proofs.Below.word_law.Follows.{seen_places_lead}
+use Rattle.end_law.proofs.Below.word_law.Unmoved.{untouched_stays}
+use Rattle.end_law.specs.Below.event_law.Laws.{Gives, GoTo, FewEvents}
+use Rattle.end_law.specs.Below.event_law.Sums.{Sums}
+use Rattle.end_law.proofs.Below.event_law.Results.{over_gives, test_gives, both_give}
+use Rattle.end_law.proofs.Below.event_law.RulesKeep.{sums_kept}
+use Rattle.end_law.proofs.Below.event_law.Trades.{tot-append}
+use Rattle.end_law.proofs.Below.event_law.Sound.{sound_has_sums}
+use Rattle.end_law.proofs.Below.event_law.Bags.{HandOk, all_standing, body_things, thread_number}
+use Rattle.end_law.proofs.Below.event_law.Chains.{takes, puts_back}
+use Rattle.end_law.proofs.Below.event_law.Events.{others_of, tot-server, begins_site, ends_site}
+use Rattle.end_law.proofs.Below.event_law.Applied.{go_with}
+use Rattle.end_law.proofs.Below.event_law.Sending.{applied_part, each_event_sends}
 use Rattle.prepare_law.proofs.Below.stay_law.Alike.{Alike, itself, turned, chain, beside, exchanged, joined}
 use Rattle.prepare_law.proofs.Below.stay_law.Lists.{thread_set, taken_alike}
 use Rattle.prepare_law.proofs.Below.stay_law.Sites.{HandAlike, put_alike, begun_alike, ends_alike, servers_alike, replaced, handed_over}

@@ -1,49 +1,49 @@
 -- A lock: it asks for the content of its mutex, or takes what came into a new variable.
 use Rattle.std.proofs.Common.{◌≡◌, ◌⊎◌, inl, inr, ℕ, true, false, List, [], ◌∷◌, ◌++◌, Option, Some, None, option_map, refl, sym, ap, subst, ◌∙◌, arith}
 use Rattle.std.specs.Prelude.{slice_get, length, take, drop as drop_first}
-use Rattle.fr_base.specs.declared.name.MutexNo.{MutexNo}
-use Rattle.fr_base.specs.declared.name.ObjNo.{ObjNo}
-use Rattle.fr_base.specs.declared.place.Lval.{Lval}
-use Rattle.fr_base.specs.declared.step.Fresh.TheVariants as fresh
-use Rattle.fr_base.specs.declared.instruction.Instr.{Instr}
-use Rattle.fr_base.specs.declared.instruction.Instr.TheVariants as instr
-use Rattle.heap_partition.specs.declared.value.Owned.{Owned}
-use Rattle.journal.specs.View.{EntryView}
-use Rattle.journal.specs.declared.act.Act.TheVariants as act
-use Rattle.thread_state.specs.View.{ThreadState}
-use Rattle.thread_state.specs.declared.phase.Phase.TheVariants as phase
-use Rattle.thread_state.specs.declared.value.Value.TheVariants as value
-use Rattle.server_msgs.specs.declared.message.Message.TheVariants as message
-use Rattle.server_model.specs.declared.event.What.TheVariants.{Step}
-use Rattle.server_model.specs.Servers.{Server, Cluster, server_at}
-use Rattle.server_model.specs.Work.{Hand, thread_in, without_thread, then_some}
-use Rattle.server_model.specs.Clusters.{with_server, hand_over_newer, done_at, apply}
-use Rattle.server_model.specs.Places.{Spot, in_slot, load_at}
-use Rattle.server_model.specs.Prepare.{Prepared, ready, requested, nothing, read_stars}
-use Rattle.server_model.specs.Commit.{waiting, take_gift, mutex_at, ask_lock, push_content, lock}
-use Rattle.server_model.specs.Events.{enabled, begin_work, Stepped, committed, prepared, step, step_in, stepped, does}
-use Rattle.heap_law.specs.Names.{tot}
-use Rattle.heap_law.specs.Things.{things_at, slot_things, temp_things, gift_things, walk_things, thread_things, servers_things, things_of}
-use Rattle.heap_law.specs.Follow.{place_at}
-use Rattle.heap_law.specs.Sight.{sight}
-use Rattle.heap_law.specs.Weights.{owners}
-use Rattle.heap_law.proofs.Sums.{tot-append}
-use Rattle.type_law.specs.ClusterTypes.{IsCoherent}
-use Rattle.word_law.specs.Reworded.{HasPlaces}
-use Rattle.word_law.specs.Unmoved.{pointing, LeavesWords}
-use Rattle.word_law.proofs.Follows.{seen_places_lead}
-use Rattle.word_law.proofs.Unmoved.{untouched_stays}
-use Rattle.event_law.specs.Laws.{Gives, GoTo, FewEvents}
-use Rattle.event_law.proofs.Results.{over_gives, map_gives, both_give, test_gives}
-use Rattle.event_law.proofs.RulesKeep.{sums_kept}
-use Rattle.event_law.proofs.Bags.{all_standing, body_things}
-use Rattle.event_law.proofs.Events.{others_of}
-use Rattle.event_law.proofs.AllSteps.{commits}
-use Rattle.event_law.proofs.Commits.{CommittedOk}
-use Rattle.event_law.proofs.Steps.{SteppedOk, committed_keeps}
-use Rattle.event_law.proofs.Applied.{go_with}
-use Rattle.event_law.proofs.Sending.{applied_part, each_event_sends}
-use Rattle.prepare_law.specs.Below.read_law.Reading.{locks}
+use Rattle.end_law.specs.Below.fr_base.declared.name.MutexNo.{MutexNo}
+use Rattle.end_law.specs.Below.fr_base.declared.name.ObjNo.{ObjNo}
+use Rattle.end_law.specs.Below.fr_base.declared.place.Lval.{Lval}
+use Rattle.end_law.specs.Below.fr_base.declared.step.Fresh.TheVariants as fresh
+use Rattle.end_law.specs.Below.fr_base.declared.instruction.Instr.{Instr}
+use Rattle.end_law.specs.Below.fr_base.declared.instruction.Instr.TheVariants as instr
+use Rattle.end_law.specs.Below.heap_partition.declared.value.Owned.{Owned}
+use Rattle.end_law.specs.Below.journal.View.{EntryView}
+use Rattle.end_law.specs.Below.journal.declared.act.Act.TheVariants as act
+use Rattle.end_law.specs.Below.thread_state.View.{ThreadState}
+use Rattle.end_law.specs.Below.thread_state.declared.phase.Phase.TheVariants as phase
+use Rattle.end_law.specs.Below.thread_state.declared.value.Value.TheVariants as value
+use Rattle.end_law.specs.Below.server_msgs.declared.message.Message.TheVariants as message
+use Rattle.end_law.specs.Below.server_model.declared.event.What.TheVariants.{Step}
+use Rattle.end_law.specs.Below.server_model.Servers.{Server, Cluster, server_at}
+use Rattle.end_law.specs.Below.server_model.Work.{Hand, thread_in, without_thread, then_some}
+use Rattle.end_law.specs.Below.server_model.Clusters.{with_server, hand_over_newer, done_at, apply}
+use Rattle.end_law.specs.Below.server_model.Places.{Spot, in_slot, load_at}
+use Rattle.end_law.specs.Below.server_model.Prepare.{Prepared, ready, requested, nothing, read_stars}
+use Rattle.end_law.specs.Below.server_model.Commit.{waiting, take_gift, mutex_at, ask_lock, push_content, lock}
+use Rattle.end_law.specs.Below.server_model.Events.{enabled, begin_work, Stepped, committed, prepared, step, step_in, stepped, does}
+use Rattle.end_law.specs.Below.heap_law.Names.{tot}
+use Rattle.end_law.specs.Below.heap_law.Things.{things_at, slot_things, temp_things, gift_things, walk_things, thread_things, servers_things, things_of}
+use Rattle.end_law.specs.Below.heap_law.Follow.{place_at}
+use Rattle.end_law.specs.Below.heap_law.Sight.{sight}
+use Rattle.end_law.specs.Below.heap_law.Weights.{owners}
+use Rattle.end_law.proofs.Below.heap_law.Sums.{tot-append}
+use Rattle.end_law.specs.Below.type_law.ClusterTypes.{IsCoherent}
+use Rattle.end_law.specs.Below.word_law.Reworded.{HasPlaces}
+use Rattle.end_law.specs.Below.word_law.Unmoved.{pointing, LeavesWords}
+use Rattle.end_law.proofs.Below.word_law.Follows.{seen_places_lead}
+use Rattle.end_law.proofs.Below.word_law.Unmoved.{untouched_stays}
+use Rattle.end_law.specs.Below.event_law.Laws.{Gives, GoTo, FewEvents}
+use Rattle.end_law.proofs.Below.event_law.Results.{over_gives, map_gives, both_give, test_gives}
+use Rattle.end_law.proofs.Below.event_law.RulesKeep.{sums_kept}
+use Rattle.end_law.proofs.Below.event_law.Bags.{all_standing, body_things}
+use Rattle.end_law.proofs.Below.event_law.Events.{others_of}
+use Rattle.end_law.proofs.Below.event_law.AllSteps.{commits}
+use Rattle.end_law.proofs.Below.event_law.Commits.{CommittedOk}
+use Rattle.end_law.proofs.Below.event_law.Steps.{SteppedOk, committed_keeps}
+use Rattle.end_law.proofs.Below.event_law.Applied.{go_with}
+use Rattle.end_law.proofs.Below.event_law.Sending.{applied_part, each_event_sends}
+use Rattle.end_law.specs.Below.read_law.Reading.{locks}
 use Rattle.prepare_law.proofs.Below.stay_law.Alike.{Alike, itself}
 use Rattle.prepare_law.proofs.Below.stay_law.Sites.{handed_over}
 use Rattle.prepare_law.proofs.Below.stay_law.Seen.{seen_alike}

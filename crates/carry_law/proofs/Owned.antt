@@ -1,34 +1,34 @@
 -- What a slot owns goes from there, and to each object that it owns its box is the only pointer: so no holder's place passes the slot.
 use Rattle.std.proofs.Common.{◌≡◌, ◌⊎◌, inl, inr, ⊎_elim, ℕ, zero, suc, ◌==◌, true, false, Option, Some, None, refl, sym, ap, subst, ◌∙◌}
 use Rattle.std.specs.Prelude.{slice_get}
-use Rattle.fr_base.specs.declared.name.ObjNo.{ObjNo}
-use Rattle.fr_base.specs.declared.place.Lval.{Lval}
-use Rattle.heap_partition.specs.declared.value.BoxPtr.{BoxPtr}
-use Rattle.heap_partition.specs.declared.value.Cell.{Cell}
-use Rattle.heap_partition.specs.declared.value.Owned.{Owned}
-use Rattle.heap_partition.specs.declared.value.Owned.TheVariants as owned
-use Rattle.mut_borrow.specs.declared.mutable.MutRef.{MutRef}
-use Rattle.thread_state.specs.View.{ThreadState}
-use Rattle.thread_state.specs.declared.value.Value.{Value}
-use Rattle.thread_state.specs.declared.value.Value.TheVariants as value
-use Rattle.server_model.specs.Servers.{Cluster}
-use Rattle.heap_law.specs.Names.{Among, same_object}
-use Rattle.heap_law.specs.Things.{Location, at_slot, at_temp, in_cell, thread_things, things_of}
-use Rattle.heap_law.specs.Follow.{Ground, Standing, thread_at, cell_of, value_of, value_in, value_behind, leads, locate, place_at}
-use Rattle.heap_law.specs.Stale.{holder_of, one_star_less}
-use Rattle.heap_law.specs.Sight.{sight}
-use Rattle.heap_law.specs.Placing.{is_first}
-use Rattle.heap_law.specs.Coherent.{Holds, first_at_holder}
-use Rattle.heap_law.proofs.Words.{named}
-use Rattle.type_law.proofs.Branches.{found}
-use Rattle.path_law.proofs.Climbs.{and_second}
-use Rattle.path_law.proofs.Sole.{some_is}
+use Rattle.end_law.specs.Below.fr_base.declared.name.ObjNo.{ObjNo}
+use Rattle.end_law.specs.Below.fr_base.declared.place.Lval.{Lval}
+use Rattle.end_law.specs.Below.heap_partition.declared.value.BoxPtr.{BoxPtr}
+use Rattle.end_law.specs.Below.heap_partition.declared.value.Cell.{Cell}
+use Rattle.end_law.specs.Below.heap_partition.declared.value.Owned.{Owned}
+use Rattle.end_law.specs.Below.heap_partition.declared.value.Owned.TheVariants as owned
+use Rattle.end_law.specs.Below.mut_borrow.declared.mutable.MutRef.{MutRef}
+use Rattle.end_law.specs.Below.thread_state.View.{ThreadState}
+use Rattle.end_law.specs.Below.thread_state.declared.value.Value.{Value}
+use Rattle.end_law.specs.Below.thread_state.declared.value.Value.TheVariants as value
+use Rattle.end_law.specs.Below.server_model.Servers.{Cluster}
+use Rattle.end_law.specs.Below.heap_law.Names.{Among, same_object}
+use Rattle.end_law.specs.Below.heap_law.Things.{Location, at_slot, at_temp, in_cell, thread_things, things_of}
+use Rattle.end_law.specs.Below.heap_law.Follow.{Ground, Standing, thread_at, cell_of, value_of, value_in, value_behind, leads, locate, place_at}
+use Rattle.end_law.specs.Below.heap_law.Stale.{holder_of, one_star_less}
+use Rattle.end_law.specs.Below.heap_law.Sight.{sight}
+use Rattle.end_law.specs.Below.heap_law.Placing.{is_first}
+use Rattle.end_law.specs.Below.heap_law.Coherent.{Holds, first_at_holder}
+use Rattle.end_law.proofs.Below.heap_law.Words.{named}
+use Rattle.end_law.proofs.Below.type_law.Branches.{found}
+use Rattle.end_law.proofs.Below.path_law.Climbs.{and_second}
+use Rattle.end_law.proofs.Below.path_law.Sole.{some_is}
 use Rattle.end_law.specs.Dropped.{box_leads, boxes_below}
-use Rattle.word_law.specs.Reworded.{HasPlaces}
-use Rattle.word_law.specs.Unmoved.{pointing, seen_at, Taking, taking_of, takings, Untouched}
-use Rattle.word_law.proofs.Grounds.{same_place}
-use Rattle.word_law.proofs.Put.{Split}
-use Rattle.word_law.proofs.Takings.{reference_at, seen_pointer_at}
+use Rattle.end_law.specs.Below.word_law.Reworded.{HasPlaces}
+use Rattle.end_law.specs.Below.word_law.Unmoved.{pointing, seen_at, Taking, taking_of, takings, Untouched}
+use Rattle.end_law.proofs.Below.word_law.Grounds.{same_place}
+use Rattle.end_law.proofs.Below.word_law.Put.{Split}
+use Rattle.end_law.proofs.Below.word_law.Takings.{reference_at, seen_pointer_at}
 use Rattle.carry_law.proofs.Replaced.{at_a}
 use Rattle.carry_law.proofs.Passing.{Here, slot, temp, nowhere, located, Passes, Quiet, here_a, elsewhere, no_temp, seen_leads, holder_no_temp, first_there}
 use Rattle.carry_law.proofs.Taken.{taker_of, taking_thread}

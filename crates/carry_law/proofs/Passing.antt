@@ -1,34 +1,34 @@
 -- A value of one thread goes from one place to another: as a slot, as a temporary value, or as the thread's gift, where no place leads.
 use Rattle.std.proofs.Common.{◌≡◌, ◌⊎◌, inl, inr, ⊎_elim, ℕ, zero, suc, Bool, true, false, List, [], ◌++◌, Option, Some, None, refl, sym, ap, subst, ◌∙◌}
 use Rattle.std.specs.Prelude.{slice_get}
-use Rattle.fr_base.specs.declared.instruction.Instr.{Instr}
-use Rattle.fr_base.specs.declared.name.ObjNo.{ObjNo}
-use Rattle.fr_base.specs.declared.place.Lval.{Lval}
-use Rattle.heap_partition.specs.declared.value.Owned.{Owned}
-use Rattle.heap_partition.specs.declared.value.Owned.TheVariants as owned
-use Rattle.mut_borrow.specs.declared.mutable.MutRef.{MutRef}
-use Rattle.thread_state.specs.View.{ThreadState}
-use Rattle.thread_state.specs.declared.value.Value.{Value}
-use Rattle.thread_state.specs.declared.value.Value.TheVariants as value
-use Rattle.server_model.specs.Servers.{Cluster}
-use Rattle.heap_law.specs.Names.{Among, tot, other}
-use Rattle.heap_law.specs.Things.{Location, at_slot, at_temp, in_cell, thread_things, things_of}
-use Rattle.heap_law.specs.Weights.{owners}
-use Rattle.heap_law.specs.Follow.{Ground, slot_of, temp_of, value_in, value_behind, leads, locate, place_at}
-use Rattle.heap_law.specs.Stale.{Reference, references, holder_of, one_star_less}
-use Rattle.heap_law.specs.Sight.{Pointer, pointer_in, pointers_in, sight}
-use Rattle.heap_law.specs.Placing.{is_first, other_first, standing_in}
-use Rattle.heap_law.specs.Coherent.{Holds, first_at_holder}
-use Rattle.heap_law.proofs.Bags.{among_split}
-use Rattle.heap_law.proofs.Words.{none_at}
-use Rattle.path_law.proofs.Origins.{among_first}
-use Rattle.path_law.proofs.Sole.{some_is}
-use Rattle.path_law.proofs.Contained.{reference_there}
-use Rattle.word_law.specs.Reworded.{HasPlaces}
-use Rattle.word_law.specs.Unmoved.{pointing, owning, seen_at, Taking, taking_by, takings}
-use Rattle.word_law.proofs.Put.{Split}
-use Rattle.word_law.proofs.Standing.{pointer_at, tells, told_standing, stands_in}
-use Rattle.word_law.proofs.Takings.{leads_pointing, first_pointing}
+use Rattle.end_law.specs.Below.fr_base.declared.instruction.Instr.{Instr}
+use Rattle.end_law.specs.Below.fr_base.declared.name.ObjNo.{ObjNo}
+use Rattle.end_law.specs.Below.fr_base.declared.place.Lval.{Lval}
+use Rattle.end_law.specs.Below.heap_partition.declared.value.Owned.{Owned}
+use Rattle.end_law.specs.Below.heap_partition.declared.value.Owned.TheVariants as owned
+use Rattle.end_law.specs.Below.mut_borrow.declared.mutable.MutRef.{MutRef}
+use Rattle.end_law.specs.Below.thread_state.View.{ThreadState}
+use Rattle.end_law.specs.Below.thread_state.declared.value.Value.{Value}
+use Rattle.end_law.specs.Below.thread_state.declared.value.Value.TheVariants as value
+use Rattle.end_law.specs.Below.server_model.Servers.{Cluster}
+use Rattle.end_law.specs.Below.heap_law.Names.{Among, tot, other}
+use Rattle.end_law.specs.Below.heap_law.Things.{Location, at_slot, at_temp, in_cell, thread_things, things_of}
+use Rattle.end_law.specs.Below.heap_law.Weights.{owners}
+use Rattle.end_law.specs.Below.heap_law.Follow.{Ground, slot_of, temp_of, value_in, value_behind, leads, locate, place_at}
+use Rattle.end_law.specs.Below.heap_law.Stale.{Reference, references, holder_of, one_star_less}
+use Rattle.end_law.specs.Below.heap_law.Sight.{Pointer, pointer_in, pointers_in, sight}
+use Rattle.end_law.specs.Below.heap_law.Placing.{is_first, other_first, standing_in}
+use Rattle.end_law.specs.Below.heap_law.Coherent.{Holds, first_at_holder}
+use Rattle.end_law.proofs.Below.heap_law.Bags.{among_split}
+use Rattle.end_law.proofs.Below.heap_law.Words.{none_at}
+use Rattle.end_law.proofs.Below.path_law.Origins.{among_first}
+use Rattle.end_law.proofs.Below.path_law.Sole.{some_is}
+use Rattle.end_law.proofs.Below.path_law.Contained.{reference_there}
+use Rattle.end_law.specs.Below.word_law.Reworded.{HasPlaces}
+use Rattle.end_law.specs.Below.word_law.Unmoved.{pointing, owning, seen_at, Taking, taking_by, takings}
+use Rattle.end_law.proofs.Below.word_law.Put.{Split}
+use Rattle.end_law.proofs.Below.word_law.Standing.{pointer_at, tells, told_standing, stands_in}
+use Rattle.end_law.proofs.Below.word_law.Takings.{leads_pointing, first_pointing}
 use Rattle.prepare_law.proofs.Below.stay_law.Alike.{Alike, standing_turn}
 use Rattle.prepare_law.proofs.Below.stay_law.Servers.{held}
 use Rattle.carry_law.specs.Carried.{Carried}

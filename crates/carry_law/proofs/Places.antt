@@ -1,22 +1,22 @@
 -- How a value of a thread goes: from the end of its temporary values to its slots or its gift, and from its gift to either.
 use Rattle.std.proofs.Common.{◌≡◌, inl, inr, ℕ, zero, suc, ◌+◌, List, [], ◌∷◌, ◌++◌, Some, None, refl, sym, ap, subst, ◌∙◌, arith}
 use Rattle.std.specs.Prelude.{slice_get, slice_set, length}
-use Rattle.fr_base.specs.declared.instruction.Instr.{Instr}
-use Rattle.fr_base.specs.declared.name.ObjNo.{ObjNo}
-use Rattle.heap_partition.specs.declared.value.Owned.{Owned}
-use Rattle.mut_borrow.specs.declared.shared.SharedRef.{SharedRef}
-use Rattle.mut_borrow.specs.declared.mutable.MutRef.{MutRef}
-use Rattle.thread_state.specs.View.{ThreadState}
-use Rattle.thread_state.specs.declared.value.Value.{Value}
-use Rattle.thread_state.specs.declared.value.Value.TheVariants as value
-use Rattle.heap_law.specs.Names.{Among, tot}
-use Rattle.heap_law.specs.Things.{Location, Spot, in_slot, in_temp, as_gift, at_slot, at_temp, Thing, holds, shares, borrows, locks, things_at, pin_things, value_things, slot_things, temp_things, gift_things, walk_things}
-use Rattle.heap_law.specs.Sight.{Pointer, pointer_in, location_of, pointers_of}
-use Rattle.heap_law.specs.Weights.{owners}
-use Rattle.heap_law.proofs.Sums.{tot-append}
-use Rattle.word_law.specs.Unmoved.{pointing, owning, taking_by}
-use Rattle.word_law.proofs.Loose.{box_nowhere}
-use Rattle.word_law.proofs.Slots.{set_same, set_other}
+use Rattle.end_law.specs.Below.fr_base.declared.instruction.Instr.{Instr}
+use Rattle.end_law.specs.Below.fr_base.declared.name.ObjNo.{ObjNo}
+use Rattle.end_law.specs.Below.heap_partition.declared.value.Owned.{Owned}
+use Rattle.end_law.specs.Below.mut_borrow.declared.shared.SharedRef.{SharedRef}
+use Rattle.end_law.specs.Below.mut_borrow.declared.mutable.MutRef.{MutRef}
+use Rattle.end_law.specs.Below.thread_state.View.{ThreadState}
+use Rattle.end_law.specs.Below.thread_state.declared.value.Value.{Value}
+use Rattle.end_law.specs.Below.thread_state.declared.value.Value.TheVariants as value
+use Rattle.end_law.specs.Below.heap_law.Names.{Among, tot}
+use Rattle.end_law.specs.Below.heap_law.Things.{Location, Spot, in_slot, in_temp, as_gift, at_slot, at_temp, Thing, holds, shares, borrows, locks, things_at, pin_things, value_things, slot_things, temp_things, gift_things, walk_things}
+use Rattle.end_law.specs.Below.heap_law.Sight.{Pointer, pointer_in, location_of, pointers_of}
+use Rattle.end_law.specs.Below.heap_law.Weights.{owners}
+use Rattle.end_law.proofs.Below.heap_law.Sums.{tot-append}
+use Rattle.end_law.specs.Below.word_law.Unmoved.{pointing, owning, taking_by}
+use Rattle.end_law.proofs.Below.word_law.Loose.{box_nowhere}
+use Rattle.end_law.proofs.Below.word_law.Slots.{set_same, set_other}
 use Rattle.prepare_law.proofs.Below.stay_law.Alike.{Alike, Seen, itself, turned, chain, beside, exchanged, in_front, joined, alone, blank}
 use Rattle.prepare_law.proofs.Below.stay_law.Servers.{held, gift_held}
 use Rattle.carry_law.proofs.Passing.{slot, temp, nowhere, Passes, between, leaves, comes}

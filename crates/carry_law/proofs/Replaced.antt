@@ -2,27 +2,27 @@
 use Rattle.std.proofs.Common.{◌≡◌, ◌⊎◌, inl, inr, ⊎_elim, ℕ, ◌+◌, ◌==◌, false, List, [], ◌∷◌, ◌++◌, Some, None, refl, sym, ap, subst, ◌∙◌, arith}
 use Rattle.std.specs.Prelude.{slice_get}
 use Rattle.std.proofs.lemmas.List.{append_assoc}
-use Rattle.fr_base.specs.declared.instruction.Instr.{Instr}
-use Rattle.fr_base.specs.declared.name.ObjNo.{ObjNo}
-use Rattle.heap_partition.specs.declared.value.Cell.{Cell}
-use Rattle.thread_state.specs.View.{ThreadState}
-use Rattle.server_model.specs.Servers.{Cluster}
-use Rattle.heap_law.specs.Names.{Among, tot, one}
-use Rattle.heap_law.specs.Things.{at_slot, at_temp, in_cell, Thing, lies, flies, stands, gift_things, walk_things, slot_things, temp_things, things_at, thread_things, things_of}
-use Rattle.heap_law.specs.Follow.{Standing, threads_in, thread_at, cells_in, cell_of, slot_of, temp_of, value_of, value_in}
-use Rattle.heap_law.specs.Sight.{Pointer, pointers_of, pointers_in, sight}
-use Rattle.heap_law.specs.Placing.{standing_of, standing_in}
-use Rattle.heap_law.specs.Weights.{cells, owners, is_thread}
-use Rattle.heap_law.proofs.Bags.{among_split}
-use Rattle.heap_law.proofs.Sums.{tot-append}
-use Rattle.type_law.proofs.Branches.{found}
-use Rattle.path_law.proofs.Origins.{threads_joined, among_first, among_second}
-use Rattle.path_law.proofs.Contained.{rest_none}
-use Rattle.word_law.specs.Reworded.{HasPlaces}
-use Rattle.word_law.specs.Unmoved.{with_taking, taking_of, takings}
-use Rattle.word_law.proofs.Put.{Split}
-use Rattle.word_law.proofs.Slots.{cells_joined, thread_replaced, among_replaced, thread_cells, lying_in}
-use Rattle.word_law.proofs.Standing.{of_thing, pointers_among, standing_among}
+use Rattle.end_law.specs.Below.fr_base.declared.instruction.Instr.{Instr}
+use Rattle.end_law.specs.Below.fr_base.declared.name.ObjNo.{ObjNo}
+use Rattle.end_law.specs.Below.heap_partition.declared.value.Cell.{Cell}
+use Rattle.end_law.specs.Below.thread_state.View.{ThreadState}
+use Rattle.end_law.specs.Below.server_model.Servers.{Cluster}
+use Rattle.end_law.specs.Below.heap_law.Names.{Among, tot, one}
+use Rattle.end_law.specs.Below.heap_law.Things.{at_slot, at_temp, in_cell, Thing, lies, flies, stands, gift_things, walk_things, slot_things, temp_things, things_at, thread_things, things_of}
+use Rattle.end_law.specs.Below.heap_law.Follow.{Standing, threads_in, thread_at, cells_in, cell_of, slot_of, temp_of, value_of, value_in}
+use Rattle.end_law.specs.Below.heap_law.Sight.{Pointer, pointers_of, pointers_in, sight}
+use Rattle.end_law.specs.Below.heap_law.Placing.{standing_of, standing_in}
+use Rattle.end_law.specs.Below.heap_law.Weights.{cells, owners, is_thread}
+use Rattle.end_law.proofs.Below.heap_law.Bags.{among_split}
+use Rattle.end_law.proofs.Below.heap_law.Sums.{tot-append}
+use Rattle.end_law.proofs.Below.type_law.Branches.{found}
+use Rattle.end_law.proofs.Below.path_law.Origins.{threads_joined, among_first, among_second}
+use Rattle.end_law.proofs.Below.path_law.Contained.{rest_none}
+use Rattle.end_law.specs.Below.word_law.Reworded.{HasPlaces}
+use Rattle.end_law.specs.Below.word_law.Unmoved.{with_taking, taking_of, takings}
+use Rattle.end_law.proofs.Below.word_law.Put.{Split}
+use Rattle.end_law.proofs.Below.word_law.Slots.{cells_joined, thread_replaced, among_replaced, thread_cells, lying_in}
+use Rattle.end_law.proofs.Below.word_law.Standing.{of_thing, pointers_among, standing_among}
 
 -- POINTERS OF LISTS
 

@@ -1,37 +1,37 @@
 -- What the steps of these instructions do to the thread and its server, as words see it.
 use Rattle.std.proofs.Common.{◌≡◌, ◌⊎◌, inl, inr, ℕ, zero, suc, ◌==◌, Bool, true, false, List, [], ◌∷◌, ◌++◌, Option, Some, None, option_map, refl, sym, ap, subst, ◌∙◌, arith}
 use Rattle.std.specs.Prelude.{slice_get, length}
-use Rattle.fr_base.specs.declared.step.Fresh.{Fresh}
-use Rattle.fr_base.specs.declared.step.Fresh.TheVariants as fresh
-use Rattle.fr_base.specs.declared.instruction.Operand.{Operand}
-use Rattle.fr_base.specs.declared.instruction.Operand.TheVariants as operand
-use Rattle.fr_base.specs.declared.instruction.Instr.{Instr}
-use Rattle.fr_base.specs.declared.name.MutexNo.{MutexNo}
-use Rattle.fr_base.specs.declared.name.ObjNo.{ObjNo}
-use Rattle.heap_partition.specs.declared.value.Owned.{Owned}
-use Rattle.heap_partition.specs.declared.value.Owned.TheVariants as owned
-use Rattle.mutex_home.specs.Mutexes.{Mutex, can_make, make, next_mutex}
-use Rattle.thread_state.specs.View.{ThreadState}
-use Rattle.thread_state.specs.declared.phase.Phase.TheVariants as phase
-use Rattle.thread_state.specs.declared.value.Value.{Value}
-use Rattle.thread_state.specs.declared.value.Value.TheVariants as value
-use Rattle.server_msgs.specs.declared.message.Message.TheVariants as message
-use Rattle.server_model.specs.Servers.{Rest}
-use Rattle.server_model.specs.Work.{Work, Hand, Popped, last_of, front_of, with_temps, push_temp, push_slot, pop, pop_owned, owned_of, task_of, taken_as, then_some, working, with_phase, sent_from, label_all}
-use Rattle.server_model.specs.Drop.{give_up, drop_labels, drop_value}
-use Rattle.server_model.specs.Commit.{done_where, go_on, waiting, let_slot, label_dropped, take_gift, ask_join, join, mutex_made, end_with, end_thread, discard, settle}
-use Rattle.server_model.specs.Places.{nowhere as no_spot}
-use Rattle.server_model.specs.Events.{Stepped, done_step, committed}
-use Rattle.heap_law.specs.Names.{tot}
-use Rattle.heap_law.specs.Things.{in_slot, at_slot, in_hand, holds, sent, locks, things_at, slot_things, temp_things, gift_things, walk_things, thread_things, mutex_things, message_things}
-use Rattle.heap_law.specs.Weights.{owners}
-use Rattle.heap_law.proofs.Sums.{tot-append}
-use Rattle.path_law.proofs.Sole.{some_is}
-use Rattle.word_law.specs.Unmoved.{pointing}
-use Rattle.event_law.specs.Laws.{Gives}
-use Rattle.event_law.proofs.Results.{over_gives, test_gives, both_give, weaker}
-use Rattle.event_law.proofs.Values.{last_split}
-use Rattle.event_law.proofs.Bags.{body_things, sent_number}
+use Rattle.end_law.specs.Below.fr_base.declared.step.Fresh.{Fresh}
+use Rattle.end_law.specs.Below.fr_base.declared.step.Fresh.TheVariants as fresh
+use Rattle.end_law.specs.Below.fr_base.declared.instruction.Operand.{Operand}
+use Rattle.end_law.specs.Below.fr_base.declared.instruction.Operand.TheVariants as operand
+use Rattle.end_law.specs.Below.fr_base.declared.instruction.Instr.{Instr}
+use Rattle.end_law.specs.Below.fr_base.declared.name.MutexNo.{MutexNo}
+use Rattle.end_law.specs.Below.fr_base.declared.name.ObjNo.{ObjNo}
+use Rattle.end_law.specs.Below.heap_partition.declared.value.Owned.{Owned}
+use Rattle.end_law.specs.Below.heap_partition.declared.value.Owned.TheVariants as owned
+use Rattle.end_law.specs.Below.mutex_home.Mutexes.{Mutex, can_make, make, next_mutex}
+use Rattle.end_law.specs.Below.thread_state.View.{ThreadState}
+use Rattle.end_law.specs.Below.thread_state.declared.phase.Phase.TheVariants as phase
+use Rattle.end_law.specs.Below.thread_state.declared.value.Value.{Value}
+use Rattle.end_law.specs.Below.thread_state.declared.value.Value.TheVariants as value
+use Rattle.end_law.specs.Below.server_msgs.declared.message.Message.TheVariants as message
+use Rattle.end_law.specs.Below.server_model.Servers.{Rest}
+use Rattle.end_law.specs.Below.server_model.Work.{Work, Hand, Popped, last_of, front_of, with_temps, push_temp, push_slot, pop, pop_owned, owned_of, task_of, taken_as, then_some, working, with_phase, sent_from, label_all}
+use Rattle.end_law.specs.Below.server_model.Drop.{give_up, drop_labels, drop_value}
+use Rattle.end_law.specs.Below.server_model.Commit.{done_where, go_on, waiting, let_slot, label_dropped, take_gift, ask_join, join, mutex_made, end_with, end_thread, discard, settle}
+use Rattle.end_law.specs.Below.server_model.Places.{nowhere as no_spot}
+use Rattle.end_law.specs.Below.server_model.Events.{Stepped, done_step, committed}
+use Rattle.end_law.specs.Below.heap_law.Names.{tot}
+use Rattle.end_law.specs.Below.heap_law.Things.{in_slot, at_slot, in_hand, holds, sent, locks, things_at, slot_things, temp_things, gift_things, walk_things, thread_things, mutex_things, message_things}
+use Rattle.end_law.specs.Below.heap_law.Weights.{owners}
+use Rattle.end_law.proofs.Below.heap_law.Sums.{tot-append}
+use Rattle.end_law.proofs.Below.path_law.Sole.{some_is}
+use Rattle.end_law.specs.Below.word_law.Unmoved.{pointing}
+use Rattle.end_law.specs.Below.event_law.Laws.{Gives}
+use Rattle.end_law.proofs.Below.event_law.Results.{over_gives, test_gives, both_give, weaker}
+use Rattle.end_law.proofs.Below.event_law.Values.{last_split}
+use Rattle.end_law.proofs.Below.event_law.Bags.{body_things, sent_number}
 use Rattle.prepare_law.proofs.Below.stay_law.Alike.{Alike, itself, turned, chain, beside, in_front, joined, alone, blank, goes}
 use Rattle.prepare_law.proofs.Below.stay_law.Lists.{at_end, taken_alike}
 use Rattle.prepare_law.proofs.Below.stay_law.Servers.{held, held_if, mutex_shows, other_mutexes, result_held, given_up, sends}

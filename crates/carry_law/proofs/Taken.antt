@@ -1,13 +1,13 @@
 -- Which thread has taken what was taken.
 use Rattle.std.proofs.Common.{◌≡◌, inl, inr, ℕ, List, [], ◌∷◌, Option, Some, None, refl, sym, ap, ◌∙◌}
-use Rattle.fr_base.specs.declared.instruction.Instr.{Instr}
-use Rattle.fr_base.specs.declared.instruction.Instr.TheVariants as instr
-use Rattle.thread_state.specs.declared.phase.Phase.{Phase}
-use Rattle.thread_state.specs.declared.phase.Phase.TheVariants as phase
-use Rattle.heap_law.specs.Names.{Among}
-use Rattle.heap_law.specs.Follow.{Standing}
-use Rattle.path_law.proofs.Sole.{some_is}
-use Rattle.word_law.specs.Unmoved.{Taking, taking_by, with_taking, taking_of, takings}
+use Rattle.end_law.specs.Below.fr_base.declared.instruction.Instr.{Instr}
+use Rattle.end_law.specs.Below.fr_base.declared.instruction.Instr.TheVariants as instr
+use Rattle.end_law.specs.Below.thread_state.declared.phase.Phase.{Phase}
+use Rattle.end_law.specs.Below.thread_state.declared.phase.Phase.TheVariants as phase
+use Rattle.end_law.specs.Below.heap_law.Names.{Among}
+use Rattle.end_law.specs.Below.heap_law.Follow.{Standing}
+use Rattle.end_law.proofs.Below.path_law.Sole.{some_is}
+use Rattle.end_law.specs.Below.word_law.Unmoved.{Taking, taking_by, with_taking, taking_of, takings}
 
 pub record Taker (code : List Instr) (xs : List Standing) (t : Taking) : Type 0 where
   pub taker : Standing

@@ -1,2 +1,23 @@
 -- What this law stands on, passed on to the laws above it, which need not list that then.
 pub use Rattle.end_law.specs as end_law
+pub use Rattle.end_law.specs.Below.event_law as event_law
+pub use Rattle.end_law.specs.Below.fr_base as fr_base
+pub use Rattle.end_law.specs.Below.fr_code as fr_code
+pub use Rattle.end_law.specs.Below.fr_sound as fr_sound
+pub use Rattle.end_law.specs.Below.fr_store as fr_store
+pub use Rattle.end_law.specs.Below.fr_typing as fr_typing
+pub use Rattle.end_law.specs.Below.heap_law as heap_law
+pub use Rattle.end_law.specs.Below.heap_partition as heap_partition
+pub use Rattle.end_law.specs.Below.join_home as join_home
+pub use Rattle.end_law.specs.Below.journal as journal
+pub use Rattle.end_law.specs.Below.mut_borrow as mut_borrow
+pub use Rattle.end_law.specs.Below.path_law as path_law
+pub use Rattle.prepare_law.specs as prepare_law
+pub use Rattle.end_law.specs.Below.read_cache as read_cache
+pub use Rattle.end_law.specs.Below.read_law as read_law
+pub use Rattle.end_law.specs.Below.server_model as server_model
+pub use Rattle.end_law.specs.Below.server_msgs as server_msgs
+pub use Rattle.prepare_law.specs.Below.stay_law as stay_law
+pub use Rattle.end_law.specs.Below.thread_state as thread_state
+pub use Rattle.end_law.specs.Below.type_law as type_law
+pub use Rattle.end_law.specs.Below.word_law as word_law

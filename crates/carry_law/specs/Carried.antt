@@ -1,20 +1,20 @@
 -- A VALUE GOES FROM ONE PLACE TO ANOTHER (this project's rule): a temporary value becomes a slot, say, or a gift, at which no place of a thread is. No mutable
 -- reference was made from its pointer, and none is.
 use Rattle.std.specs.Prelude.{◌≡◌, ◌⊎◌, ℕ, Option, Some, None}
-use Rattle.fr_base.specs.declared.place.Lval.{Lval}
-use Rattle.heap_partition.specs.declared.value.Cell.{Cell}
-use Rattle.mut_borrow.specs.declared.mutable.MutRef.{MutRef}
-use Rattle.thread_state.specs.declared.value.Value.TheVariants as value
-use Rattle.server_model.specs.Servers.{Cluster}
-use Rattle.heap_law.specs.Names.{Among}
-use Rattle.heap_law.specs.Things.{Location, lies, things_of}
-use Rattle.heap_law.specs.Follow.{value_in, place_at}
-use Rattle.heap_law.specs.Stale.{holder_of, one_star_less}
-use Rattle.heap_law.specs.Sight.{Pointer, pointers_in, sight}
-use Rattle.heap_law.specs.Placing.{standing_in}
-use Rattle.heap_law.specs.Coherent.{Holds, first_at_holder}
-use Rattle.word_law.specs.Reworded.{HasPlaces, LiesThere}
-use Rattle.word_law.specs.Unmoved.{owning, seen_at, Taking, takings, LeavesWords}
+use Rattle.end_law.specs.Below.fr_base.declared.place.Lval.{Lval}
+use Rattle.end_law.specs.Below.heap_partition.declared.value.Cell.{Cell}
+use Rattle.end_law.specs.Below.mut_borrow.declared.mutable.MutRef.{MutRef}
+use Rattle.end_law.specs.Below.thread_state.declared.value.Value.TheVariants as value
+use Rattle.end_law.specs.Below.server_model.Servers.{Cluster}
+use Rattle.end_law.specs.Below.heap_law.Names.{Among}
+use Rattle.end_law.specs.Below.heap_law.Things.{Location, lies, things_of}
+use Rattle.end_law.specs.Below.heap_law.Follow.{value_in, place_at}
+use Rattle.end_law.specs.Below.heap_law.Stale.{holder_of, one_star_less}
+use Rattle.end_law.specs.Below.heap_law.Sight.{Pointer, pointers_in, sight}
+use Rattle.end_law.specs.Below.heap_law.Placing.{standing_in}
+use Rattle.end_law.specs.Below.heap_law.Coherent.{Holds, first_at_holder}
+use Rattle.end_law.specs.Below.word_law.Reworded.{HasPlaces, LiesThere}
+use Rattle.end_law.specs.Below.word_law.Unmoved.{owning, seen_at, Taking, takings, LeavesWords}
 
 -- it goes from the location f, or from where nobody's holder can be, to the location g, or to such a place
 pub record Carried (k z : Cluster) (f g : Option Location) : Type 0 where

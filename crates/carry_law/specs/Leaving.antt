@@ -1,14 +1,14 @@
 -- AN OBJECT LEAVES its address for a thread elsewhere (this project's rule): the words stay, as the word that goes along is the object's.
 use Rattle.std.specs.Prelude.{ℕ}
-use Rattle.fr_base.specs.declared.name.ObjNo.{ObjNo}
-use Rattle.journal.specs.View.{EntryView}
-use Rattle.server_msgs.specs.declared.message.Message.TheVariants.{Move}
-use Rattle.server_model.specs.declared.event.Event.{Event}
-use Rattle.server_model.specs.Servers.{Cluster}
-use Rattle.server_model.specs.Clusters.{apply}
-use Rattle.heap_law.specs.Coherent.{IsSound}
-use Rattle.event_law.specs.Laws.{Gives, FewEvents}
-use Rattle.word_law.specs.Unmoved.{Delivers, LeavesWords}
+use Rattle.end_law.specs.Below.fr_base.declared.name.ObjNo.{ObjNo}
+use Rattle.end_law.specs.Below.journal.View.{EntryView}
+use Rattle.end_law.specs.Below.server_msgs.declared.message.Message.TheVariants.{Move}
+use Rattle.end_law.specs.Below.server_model.declared.event.Event.{Event}
+use Rattle.end_law.specs.Below.server_model.Servers.{Cluster}
+use Rattle.end_law.specs.Below.server_model.Clusters.{apply}
+use Rattle.end_law.specs.Below.heap_law.Coherent.{IsSound}
+use Rattle.end_law.specs.Below.event_law.Laws.{Gives, FewEvents}
+use Rattle.end_law.specs.Below.word_law.Unmoved.{Delivers, LeavesWords}
 
 -- the delivery of a `move` from a sound cluster, with its messages handed over, leaves each object the word that it had
 abbrev pub MovesLeave : Type 0

@@ -1,21 +1,21 @@
 -- AN OBJECT IS MADE (this project's rule): a cell lies to which nothing pointed, with a value that stood in no place, and one pointer to it is there, in no place yet.
 use Rattle.std.specs.Prelude.{◌≡◌, ◌⊎◌, ℕ, Some, None}
-use Rattle.fr_base.specs.declared.name.ObjNo.{ObjNo}
-use Rattle.heap_partition.specs.declared.value.Cell.{Cell}
-use Rattle.mut_borrow.specs.declared.mutable.MutRef.{MutRef}
-use Rattle.thread_state.specs.declared.value.Value.TheVariants as value
-use Rattle.server_model.specs.Servers.{Cluster}
-use Rattle.heap_law.specs.Names.{Among}
-use Rattle.heap_law.specs.Things.{Location, in_cell, lies, things_of}
-use Rattle.heap_law.specs.Follow.{value_in, place_at}
-use Rattle.heap_law.specs.Stale.{holder_of, one_star_less}
-use Rattle.heap_law.specs.Sight.{Pointer, pointers_in, sight}
-use Rattle.heap_law.specs.Placing.{standing_in}
-use Rattle.heap_law.specs.Coherent.{Holds, first_at_holder}
-use Rattle.heap_law.specs.Words.{all_pointers, HasWords, LeadsTo}
-use Rattle.word_law.specs.Reworded.{HasPlaces, LiesThere}
-use Rattle.word_law.specs.Unmoved.{seen_at, Taking, takings}
-use Rattle.word_law.specs.WordsAfter.{KeepsWords}
+use Rattle.end_law.specs.Below.fr_base.declared.name.ObjNo.{ObjNo}
+use Rattle.end_law.specs.Below.heap_partition.declared.value.Cell.{Cell}
+use Rattle.end_law.specs.Below.mut_borrow.declared.mutable.MutRef.{MutRef}
+use Rattle.end_law.specs.Below.thread_state.declared.value.Value.TheVariants as value
+use Rattle.end_law.specs.Below.server_model.Servers.{Cluster}
+use Rattle.end_law.specs.Below.heap_law.Names.{Among}
+use Rattle.end_law.specs.Below.heap_law.Things.{Location, in_cell, lies, things_of}
+use Rattle.end_law.specs.Below.heap_law.Follow.{value_in, place_at}
+use Rattle.end_law.specs.Below.heap_law.Stale.{holder_of, one_star_less}
+use Rattle.end_law.specs.Below.heap_law.Sight.{Pointer, pointers_in, sight}
+use Rattle.end_law.specs.Below.heap_law.Placing.{standing_in}
+use Rattle.end_law.specs.Below.heap_law.Coherent.{Holds, first_at_holder}
+use Rattle.end_law.specs.Below.heap_law.Words.{all_pointers, HasWords, LeadsTo}
+use Rattle.end_law.specs.Below.word_law.Reworded.{HasPlaces, LiesThere}
+use Rattle.end_law.specs.Below.word_law.Unmoved.{seen_at, Taking, takings}
+use Rattle.end_law.specs.Below.word_law.WordsAfter.{KeepsWords}
 
 -- the pointer to the new object, under its word
 abbrev pub new_pointer : ObjNo → ℕ → Pointer

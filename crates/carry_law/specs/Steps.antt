@@ -1,23 +1,23 @@
 -- STEPS THAT CARRY A VALUE leave the words (this project's rules): a temporary value becomes a variable, the content of a new mutex, a thread's result, or is dropped, and
 -- a result that came becomes a temporary value.
 use Rattle.std.specs.Prelude.{◌≡◌, ⊤, ℕ, true, Some, slice_get}
-use Rattle.fr_base.specs.declared.place.Lval.{Lval}
-use Rattle.fr_base.specs.declared.instruction.Operand.{Operand}
-use Rattle.fr_base.specs.declared.instruction.Instr.{Instr}
-use Rattle.fr_base.specs.declared.instruction.Instr.TheVariants as instr
-use Rattle.heap_partition.specs.declared.value.Owned.{Owned}
-use Rattle.journal.specs.View.{EntryView}
-use Rattle.thread_state.specs.View.{ThreadState}
-use Rattle.thread_state.specs.declared.value.Value.{Value}
-use Rattle.thread_state.specs.declared.value.Value.TheVariants as value
-use Rattle.server_model.specs.declared.event.What.TheVariants.{Step}
-use Rattle.server_model.specs.Servers.{Server, Cluster, server_at}
-use Rattle.server_model.specs.Work.{thread_in, last_of}
-use Rattle.server_model.specs.Clusters.{apply}
-use Rattle.heap_law.specs.Coherent.{IsSound}
-use Rattle.type_law.specs.ClusterTypes.{IsCoherent}
-use Rattle.event_law.specs.Laws.{Gives, FewEvents}
-use Rattle.word_law.specs.Unmoved.{LeavesWords}
+use Rattle.end_law.specs.Below.fr_base.declared.place.Lval.{Lval}
+use Rattle.end_law.specs.Below.fr_base.declared.instruction.Operand.{Operand}
+use Rattle.end_law.specs.Below.fr_base.declared.instruction.Instr.{Instr}
+use Rattle.end_law.specs.Below.fr_base.declared.instruction.Instr.TheVariants as instr
+use Rattle.end_law.specs.Below.heap_partition.declared.value.Owned.{Owned}
+use Rattle.end_law.specs.Below.journal.View.{EntryView}
+use Rattle.end_law.specs.Below.thread_state.View.{ThreadState}
+use Rattle.end_law.specs.Below.thread_state.declared.value.Value.{Value}
+use Rattle.end_law.specs.Below.thread_state.declared.value.Value.TheVariants as value
+use Rattle.end_law.specs.Below.server_model.declared.event.What.TheVariants.{Step}
+use Rattle.end_law.specs.Below.server_model.Servers.{Server, Cluster, server_at}
+use Rattle.end_law.specs.Below.server_model.Work.{thread_in, last_of}
+use Rattle.end_law.specs.Below.server_model.Clusters.{apply}
+use Rattle.end_law.specs.Below.heap_law.Coherent.{IsSound}
+use Rattle.end_law.specs.Below.type_law.ClusterTypes.{IsCoherent}
+use Rattle.end_law.specs.Below.event_law.Laws.{Gives, FewEvents}
+use Rattle.end_law.specs.Below.word_law.Unmoved.{LeavesWords}
 use Rattle.prepare_law.specs.Requests.{WordsRise}
 
 -- an instruction that carries one value of its thread at most, to or from where no place of a thread leads

@@ -3,48 +3,48 @@ use Rattle.std.proofs.Common.{◌≡◌, ◌⊎◌, inl, inr, ℕ, ◌+◌, Bool
 use Rattle.std.specs.Bool.{⊤}
 use Rattle.std.specs.Prelude.{option_map, length, take, drop as drop_first}
 use Rattle.std.specs.List.{AllByRecursion}
-use Rattle.fr_base.specs.declared.instruction.Instr.{Instr}
-use Rattle.fr_base.specs.declared.release.Released.TheVariants as released
-use Rattle.global_addr.specs.Words.{server_of}
-use Rattle.heap_partition.specs.declared.value.Owned.{Owned}
-use Rattle.heap_partition.specs.declared.value.Owned.TheVariants as owned
-use Rattle.read_cache.specs.Cache.{Copy}
-use Rattle.mutex_home.specs.Mutexes.{can_make}
-use Rattle.join_home.specs.Tasks.{can_begin, can_begin_pair}
-use Rattle.migration.specs.Packing.{unpin_all}
-use Rattle.thread_state.specs.View.{ThreadState, new_thread}
-use Rattle.thread_state.specs.declared.phase.Phase.TheVariants as phase
-use Rattle.thread_state.specs.declared.value.Value.{Value}
-use Rattle.thread_state.specs.declared.value.Value.TheVariants as value
-use Rattle.journal.specs.View.{EntryView}
-use Rattle.journal.specs.declared.act.Act.TheVariants as act
-use Rattle.server_msgs.specs.declared.message.Message.{Message}
-use Rattle.server_msgs.specs.declared.message.Message.TheVariants as message
-use Rattle.server_model.specs.declared.event.What.TheVariants.{Step}
-use Rattle.server_model.specs.Servers.{Sent, Rest, Server, Cluster, server_at}
-use Rattle.server_model.specs.Work.{Work, Hand, send, working, with_cache, with_phase, then_some}
-use Rattle.server_model.specs.NewWords.{NewWord, can_grow, issue_placed}
-use Rattle.server_model.specs.Places.{Spot}
-use Rattle.server_model.specs.Start.{next_thread, server_for, start_thread, capture}
-use Rattle.server_model.specs.Drop.{home_of, give_up}
-use Rattle.server_model.specs.Commit.{Committed, done, waits, refused, go_on, next_object, push_box, begun, pair_begun, spawn_with, end_with, label_dropped, commit}
-use Rattle.server_model.specs.Prepare.{Prepared, ready, requested, nothing, access_of, prepare}
-use Rattle.server_model.specs.Events.{Stepped, done_step, committed, prepared, step, enabled, does}
-use Rattle.server_model.specs.Clusters.{with_server, hand_over_newer, done_at, apply}
-use Rattle.heap_law.specs.Names.{tot}
-use Rattle.heap_law.specs.Things.{Thing, server_things, things_of}
-use Rattle.heap_law.specs.Coherent.{IsSound}
-use Rattle.event_law.specs.Laws.{Gives, GoTo, FewEvents}
-use Rattle.event_law.proofs.Results.{then_gives, over_gives, test_gives, weaker}
-use Rattle.event_law.proofs.Events.{tot-server}
-use Rattle.event_law.proofs.Applied.{go_with}
-use Rattle.event_law.proofs.Handing.{hand_over_newer_law}
-use Rattle.event_law.proofs.Sending.{each_event_sends}
-use Rattle.local_law.proofs.Small.{Of, Places, Small, Passes, Made, prepare_makes}
-use Rattle.local_law.proofs.Plainly.{Settles, Acts, Ends, moves_by, commits}
-use Rattle.local_law.proofs.Goes.{puts_by, Any, AnyWord}
-use Rattle.local_law.proofs.Mail.{Mailed, mail_sent}
-use Rattle.local_law.proofs.Messages.{on_sent, Light, letters_from, letters_to}
+use Rattle.result_law.specs.Below.fr_base.declared.instruction.Instr.{Instr}
+use Rattle.result_law.specs.Below.fr_base.declared.release.Released.TheVariants as released
+use Rattle.result_law.specs.Below.global_addr.Words.{server_of}
+use Rattle.result_law.specs.Below.heap_partition.declared.value.Owned.{Owned}
+use Rattle.result_law.specs.Below.heap_partition.declared.value.Owned.TheVariants as owned
+use Rattle.result_law.specs.Below.read_cache.Cache.{Copy}
+use Rattle.result_law.specs.Below.mutex_home.Mutexes.{can_make}
+use Rattle.result_law.specs.Below.join_home.Tasks.{can_begin, can_begin_pair}
+use Rattle.result_law.specs.Below.migration.Packing.{unpin_all}
+use Rattle.result_law.specs.Below.thread_state.View.{ThreadState, new_thread}
+use Rattle.result_law.specs.Below.thread_state.declared.phase.Phase.TheVariants as phase
+use Rattle.result_law.specs.Below.thread_state.declared.value.Value.{Value}
+use Rattle.result_law.specs.Below.thread_state.declared.value.Value.TheVariants as value
+use Rattle.result_law.specs.Below.journal.View.{EntryView}
+use Rattle.result_law.specs.Below.journal.declared.act.Act.TheVariants as act
+use Rattle.result_law.specs.Below.server_msgs.declared.message.Message.{Message}
+use Rattle.result_law.specs.Below.server_msgs.declared.message.Message.TheVariants as message
+use Rattle.result_law.specs.Below.server_model.declared.event.What.TheVariants.{Step}
+use Rattle.result_law.specs.Below.server_model.Servers.{Sent, Rest, Server, Cluster, server_at}
+use Rattle.result_law.specs.Below.server_model.Work.{Work, Hand, send, working, with_cache, with_phase, then_some}
+use Rattle.result_law.specs.Below.server_model.NewWords.{NewWord, can_grow, issue_placed}
+use Rattle.result_law.specs.Below.server_model.Places.{Spot}
+use Rattle.result_law.specs.Below.server_model.Start.{next_thread, server_for, start_thread, capture}
+use Rattle.result_law.specs.Below.server_model.Drop.{home_of, give_up}
+use Rattle.result_law.specs.Below.server_model.Commit.{Committed, done, waits, refused, go_on, next_object, push_box, begun, pair_begun, spawn_with, end_with, label_dropped, commit}
+use Rattle.result_law.specs.Below.server_model.Prepare.{Prepared, ready, requested, nothing, access_of, prepare}
+use Rattle.result_law.specs.Below.server_model.Events.{Stepped, done_step, committed, prepared, step, enabled, does}
+use Rattle.result_law.specs.Below.server_model.Clusters.{with_server, hand_over_newer, done_at, apply}
+use Rattle.result_law.specs.Below.heap_law.Names.{tot}
+use Rattle.result_law.specs.Below.heap_law.Things.{Thing, server_things, things_of}
+use Rattle.result_law.specs.Below.heap_law.Coherent.{IsSound}
+use Rattle.result_law.specs.Below.event_law.Laws.{Gives, GoTo, FewEvents}
+use Rattle.result_law.proofs.Below.event_law.Results.{then_gives, over_gives, test_gives, weaker}
+use Rattle.result_law.proofs.Below.event_law.Events.{tot-server}
+use Rattle.result_law.proofs.Below.event_law.Applied.{go_with}
+use Rattle.result_law.proofs.Below.event_law.Handing.{hand_over_newer_law}
+use Rattle.result_law.proofs.Below.event_law.Sending.{each_event_sends}
+use Rattle.copy_law.proofs.Below.local_law.Small.{Of, Places, Small, Passes, Made, prepare_makes}
+use Rattle.copy_law.proofs.Below.local_law.Plainly.{Settles, Acts, Ends, moves_by, commits}
+use Rattle.copy_law.proofs.Below.local_law.Goes.{puts_by, Any, AnyWord}
+use Rattle.copy_law.proofs.Below.local_law.Mail.{Mailed, mail_sent}
+use Rattle.copy_law.proofs.Below.local_law.Messages.{on_sent, Light, letters_from, letters_to}
 
 -- the weight of a word in a request for a copy, and in its answer
 abbrev pub asking : (ℕ → ℕ) → ℕ → Message → ℕ

@@ -1,14 +1,14 @@
 -- Which objects are changed through references stays where words see the same of all locations.
 use Rattle.std.proofs.Common.{◌≡◌, Some, refl, sym, subst}
-use Rattle.server_model.specs.Servers.{Cluster}
-use Rattle.heap_law.specs.Names.{Among}
-use Rattle.heap_law.specs.Things.{Location, things_of}
-use Rattle.heap_law.specs.Follow.{cells_in, value_in}
-use Rattle.heap_law.specs.Sight.{sight}
-use Rattle.word_law.specs.Reworded.{HasPlaces}
-use Rattle.word_law.specs.Unmoved.{seen_at, Taking, takings}
-use Rattle.word_law.proofs.Unmoved.{reference, stale_at}
-use Rattle.carry_law.proofs.Hands.{leaves_chain}
+use Rattle.result_law.specs.Below.server_model.Servers.{Cluster}
+use Rattle.result_law.specs.Below.heap_law.Names.{Among}
+use Rattle.result_law.specs.Below.heap_law.Things.{Location, things_of}
+use Rattle.result_law.specs.Below.heap_law.Follow.{cells_in, value_in}
+use Rattle.result_law.specs.Below.heap_law.Sight.{sight}
+use Rattle.copy_law.specs.Below.word_law.Reworded.{HasPlaces}
+use Rattle.copy_law.specs.Below.word_law.Unmoved.{seen_at, Taking, takings}
+use Rattle.copy_law.proofs.Below.word_law.Unmoved.{reference, stale_at}
+use Rattle.copy_law.proofs.Below.carry_law.Hands.{leaves_chain}
 use Rattle.copy_law.proofs.Clean.{ChangedGo, KeepsClean, Leaves, clean_goes}
 
 -- at each location stands the same, and threads have taken the same

@@ -1,34 +1,34 @@
 -- The word of a pointer that a place follows for reading, but for a dirty reference, is that of a clean cell.
 use Rattle.std.proofs.Common.{◌≡◌, inl, inr, ⊎_elim, ℕ, ◌&&◌, ◌||◌, not, Bool, true, false, if◌then◌else◌, List, [], ◌∷◌, Some, is_some, refl, sym, ap, subst, ◌∙◌}
 use Rattle.std.proofs.lemmas.Bool.{eq-eqb}
-use Rattle.fr_base.specs.declared.name.ObjNo.{ObjNo}
-use Rattle.heap_partition.specs.declared.value.BoxPtr.{BoxPtr}
-use Rattle.heap_partition.specs.declared.value.Cell.{Cell}
-use Rattle.heap_partition.specs.declared.value.Owned.TheVariants as owned
-use Rattle.mut_borrow.specs.declared.mutable.MutRef.{MutRef}
-use Rattle.thread_state.specs.declared.value.Value.{Value}
-use Rattle.thread_state.specs.declared.value.Value.TheVariants as value
-use Rattle.server_model.specs.Servers.{Cluster}
-use Rattle.server_model.specs.Places.{pointer_of}
-use Rattle.heap_law.specs.Names.{other, same_object, Among}
-use Rattle.heap_law.specs.Things.{Location, Thing, borrows, lies, things_of}
-use Rattle.heap_law.specs.Follow.{Ground, value_in, cells_in}
-use Rattle.heap_law.specs.Stale.{Reference, is_among, holder_of, is_held_at}
-use Rattle.heap_law.specs.Sight.{Pointer, word_of_object, is_word, cell_of_word, dirty_objects, if_dirty, is_object_among, sight, word, taken_pointers}
-use Rattle.heap_law.specs.Words.{IsStale, HasWords}
-use Rattle.heap_law.specs.Dirty.{IsAlone}
-use Rattle.heap_law.specs.Placing.{standing_in, unless_dirty, if_clean}
-use Rattle.heap_law.specs.Coherent.{IsSound}
-use Rattle.heap_law.proofs.Dirty.{dirty_law}
-use Rattle.heap_law.proofs.Words.{named, told as told_stale}
-use Rattle.type_law.specs.ClusterTypes.{IsCoherent}
-use Rattle.path_law.proofs.Sole.{some_is}
-use Rattle.path_law.proofs.Origins.{among_first}
-use Rattle.path_law.proofs.Contained.{reference_there}
-use Rattle.path_law.proofs.FreshPaths.{same_is}
-use Rattle.read_law.proofs.Homes.{shared_among, fresh_word}
-use Rattle.word_law.specs.Reworded.{LiesThere}
-use Rattle.word_law.proofs.Standing.{lying, borrow_stands, told_standing}
+use Rattle.result_law.specs.Below.fr_base.declared.name.ObjNo.{ObjNo}
+use Rattle.result_law.specs.Below.heap_partition.declared.value.BoxPtr.{BoxPtr}
+use Rattle.result_law.specs.Below.heap_partition.declared.value.Cell.{Cell}
+use Rattle.result_law.specs.Below.heap_partition.declared.value.Owned.TheVariants as owned
+use Rattle.result_law.specs.Below.mut_borrow.declared.mutable.MutRef.{MutRef}
+use Rattle.result_law.specs.Below.thread_state.declared.value.Value.{Value}
+use Rattle.result_law.specs.Below.thread_state.declared.value.Value.TheVariants as value
+use Rattle.result_law.specs.Below.server_model.Servers.{Cluster}
+use Rattle.result_law.specs.Below.server_model.Places.{pointer_of}
+use Rattle.result_law.specs.Below.heap_law.Names.{other, same_object, Among}
+use Rattle.result_law.specs.Below.heap_law.Things.{Location, Thing, borrows, lies, things_of}
+use Rattle.result_law.specs.Below.heap_law.Follow.{Ground, value_in, cells_in}
+use Rattle.result_law.specs.Below.heap_law.Stale.{Reference, is_among, holder_of, is_held_at}
+use Rattle.result_law.specs.Below.heap_law.Sight.{Pointer, word_of_object, is_word, cell_of_word, dirty_objects, if_dirty, is_object_among, sight, word, taken_pointers}
+use Rattle.result_law.specs.Below.heap_law.Words.{IsStale, HasWords}
+use Rattle.result_law.specs.Below.heap_law.Dirty.{IsAlone}
+use Rattle.result_law.specs.Below.heap_law.Placing.{standing_in, unless_dirty, if_clean}
+use Rattle.result_law.specs.Below.heap_law.Coherent.{IsSound}
+use Rattle.result_law.proofs.Below.heap_law.Dirty.{dirty_law}
+use Rattle.result_law.proofs.Below.heap_law.Words.{named, told as told_stale}
+use Rattle.result_law.specs.Below.type_law.ClusterTypes.{IsCoherent}
+use Rattle.result_law.proofs.Below.path_law.Sole.{some_is}
+use Rattle.result_law.proofs.Below.path_law.Origins.{among_first}
+use Rattle.result_law.proofs.Below.path_law.Contained.{reference_there}
+use Rattle.result_law.proofs.Below.path_law.FreshPaths.{same_is}
+use Rattle.copy_law.proofs.Below.read_law.Homes.{shared_among, fresh_word}
+use Rattle.copy_law.specs.Below.word_law.Reworded.{LiesThere}
+use Rattle.copy_law.proofs.Below.word_law.Standing.{lying, borrow_stands, told_standing}
 use Rattle.copy_law.proofs.Clean.{found_by, thing_cell, told, one_of_word}
 use Rattle.clean_law.proofs.Kept.{has_none, places_before}
 

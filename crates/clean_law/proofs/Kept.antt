@@ -2,31 +2,31 @@
 use Rattle.std.proofs.Common.{◌≡◌, inl, ℕ, true, List, [], ◌∷◌, Some, is_some, refl, sym, ap, subst, ◌∙◌, arith}
 use Rattle.std.specs.Bool.{⊤}
 use Rattle.std.specs.Prelude.{slice_get, option_map}
-use Rattle.fr_base.specs.declared.instruction.Instr.{Instr}
-use Rattle.journal.specs.View.{EntryView}
-use Rattle.thread_state.specs.View.{ThreadState}
-use Rattle.server_msgs.specs.declared.message.Message.{Message}
-use Rattle.server_msgs.specs.declared.message.Message.TheVariants as message
-use Rattle.server_model.specs.declared.event.Event.{Event}
-use Rattle.server_model.specs.declared.event.What.TheVariants.{Step}
-use Rattle.server_model.specs.Servers.{Server, Cluster, server_at}
-use Rattle.server_model.specs.Work.{Hand, thread_in, then_some}
-use Rattle.server_model.specs.Places.{Spot}
-use Rattle.server_model.specs.Prepare.{ready, access_of, prepare}
-use Rattle.server_model.specs.Events.{enabled, begin_work, Stepped, prepared, step, step_in, stepped}
-use Rattle.server_model.specs.Clusters.{apply}
-use Rattle.heap_law.specs.Names.{tot, other}
-use Rattle.heap_law.specs.Things.{Thing, sent, things_of}
-use Rattle.heap_law.specs.Sight.{sight}
-use Rattle.heap_law.specs.Placing.{clean_cell, unclean, unclean_request}
-use Rattle.heap_law.specs.Coherent.{IsSound, Holds, copies_agree}
-use Rattle.word_law.specs.Reworded.{HasPlaces}
-use Rattle.event_law.specs.Laws.{Gives, FewEvents}
-use Rattle.event_law.proofs.Results.{over_gives, both_give, weaker}
-use Rattle.event_law.proofs.Sending.{applied_part}
-use Rattle.local_law.proofs.Mail.{Mailed}
-use Rattle.local_law.proofs.Messages.{on_sent, Light}
-use Rattle.prepare_law.proofs.Asking.{found_number}
+use Rattle.result_law.specs.Below.fr_base.declared.instruction.Instr.{Instr}
+use Rattle.result_law.specs.Below.journal.View.{EntryView}
+use Rattle.result_law.specs.Below.thread_state.View.{ThreadState}
+use Rattle.result_law.specs.Below.server_msgs.declared.message.Message.{Message}
+use Rattle.result_law.specs.Below.server_msgs.declared.message.Message.TheVariants as message
+use Rattle.result_law.specs.Below.server_model.declared.event.Event.{Event}
+use Rattle.result_law.specs.Below.server_model.declared.event.What.TheVariants.{Step}
+use Rattle.result_law.specs.Below.server_model.Servers.{Server, Cluster, server_at}
+use Rattle.result_law.specs.Below.server_model.Work.{Hand, thread_in, then_some}
+use Rattle.result_law.specs.Below.server_model.Places.{Spot}
+use Rattle.result_law.specs.Below.server_model.Prepare.{ready, access_of, prepare}
+use Rattle.result_law.specs.Below.server_model.Events.{enabled, begin_work, Stepped, prepared, step, step_in, stepped}
+use Rattle.result_law.specs.Below.server_model.Clusters.{apply}
+use Rattle.result_law.specs.Below.heap_law.Names.{tot, other}
+use Rattle.result_law.specs.Below.heap_law.Things.{Thing, sent, things_of}
+use Rattle.result_law.specs.Below.heap_law.Sight.{sight}
+use Rattle.result_law.specs.Below.heap_law.Placing.{clean_cell, unclean, unclean_request}
+use Rattle.result_law.specs.Below.heap_law.Coherent.{IsSound, Holds, copies_agree}
+use Rattle.copy_law.specs.Below.word_law.Reworded.{HasPlaces}
+use Rattle.result_law.specs.Below.event_law.Laws.{Gives, FewEvents}
+use Rattle.result_law.proofs.Below.event_law.Results.{over_gives, both_give, weaker}
+use Rattle.result_law.proofs.Below.event_law.Sending.{applied_part}
+use Rattle.copy_law.proofs.Below.local_law.Mail.{Mailed}
+use Rattle.copy_law.proofs.Below.local_law.Messages.{on_sent, Light}
+use Rattle.copy_law.proofs.Below.prepare_law.Asking.{found_number}
 use Rattle.copy_law.specs.Copies.{CellsGoOn, CopiesAreRight}
 use Rattle.copy_law.proofs.Clean.{CellsStay, Leaves, cells_stay}
 use Rattle.copy_law.proofs.KeptCopies.{come_from_copies}

@@ -2,34 +2,34 @@
 use Rattle.std.proofs.Common.{◌≡◌, ℕ, zero, suc, ◌<◌, ◌≤◌, ◌==◌, Bool, true, false, if◌then◌else◌, List, Option, Some, None, refl, sym, ap, subst, ◌∙◌, arith}
 use Rattle.std.specs.Bool.{⊤}
 use Rattle.std.specs.Prelude.{slice_get, nat_lt}
-use Rattle.fr_base.specs.declared.place.Lval.{Lval}
-use Rattle.fr_base.specs.declared.instruction.Instr.{Instr}
-use Rattle.global_addr.specs.Words.{colour_of, server_of, next_word}
-use Rattle.heap_partition.specs.declared.value.BoxPtr.{BoxPtr}
-use Rattle.heap_partition.specs.declared.value.Owned.{Owned}
-use Rattle.read_cache.specs.Cache.{Copy, is_cached}
-use Rattle.mut_borrow.specs.Refs.{cleaned_answer}
-use Rattle.mut_borrow.specs.declared.mutable.MutRef.{MutRef}
-use Rattle.mut_borrow.specs.declared.mutable.Cleaned.{Cleaned}
-use Rattle.mut_borrow.specs.declared.mutable.Cleaned.TheVariants as cleaned
-use Rattle.place_walk.specs.declared.hop.Hop.{Hop}
-use Rattle.place_walk.specs.declared.hop.Hop.TheVariants as hop
-use Rattle.place_walk.specs.Hops.{clean_hop, dirty_hop, read_hop}
-use Rattle.thread_state.specs.View.{ThreadState}
-use Rattle.thread_state.specs.declared.value.Value.{Value}
-use Rattle.thread_state.specs.declared.value.Value.TheVariants as value
-use Rattle.server_model.specs.Servers.{Server, Cluster}
-use Rattle.server_model.specs.Work.{Hand, look, then_some}
-use Rattle.server_model.specs.NewWords.{issue_tint, issue_renewal}
-use Rattle.server_model.specs.Places.{Spot, in_slot, in_cell, in_copy, on_top, nowhere, value_at, value_in as cell_value, load_at, pointer_of, took, put_word}
-use Rattle.server_model.specs.Prepare.{Prepared, ready, requested, nothing, and_then, ready_at, ask_copy, ask_object, request_by, box_of, cleaned_by, clean_value, use_copy, hit_by, read_by, read_value, read_clean, tinted_first, read_star, read_stars}
-use Rattle.heap_law.specs.Things.{Location, at_slot}
-use Rattle.heap_law.specs.Follow.{Standing, Ground, value_in, value_of, slot_of, locate}
-use Rattle.heap_law.specs.Sight.{sight}
-use Rattle.path_law.proofs.Shown.{stands_there}
-use Rattle.path_law.proofs.Sole.{some_is}
-use Rattle.word_law.proofs.Slots.{set_same}
-use Rattle.word_law.proofs.Tints.{slot_put}
+use Rattle.result_law.specs.Below.fr_base.declared.place.Lval.{Lval}
+use Rattle.result_law.specs.Below.fr_base.declared.instruction.Instr.{Instr}
+use Rattle.result_law.specs.Below.global_addr.Words.{colour_of, server_of, next_word}
+use Rattle.result_law.specs.Below.heap_partition.declared.value.BoxPtr.{BoxPtr}
+use Rattle.result_law.specs.Below.heap_partition.declared.value.Owned.{Owned}
+use Rattle.result_law.specs.Below.read_cache.Cache.{Copy, is_cached}
+use Rattle.result_law.specs.Below.mut_borrow.Refs.{cleaned_answer}
+use Rattle.result_law.specs.Below.mut_borrow.declared.mutable.MutRef.{MutRef}
+use Rattle.result_law.specs.Below.mut_borrow.declared.mutable.Cleaned.{Cleaned}
+use Rattle.result_law.specs.Below.mut_borrow.declared.mutable.Cleaned.TheVariants as cleaned
+use Rattle.result_law.specs.Below.place_walk.declared.hop.Hop.{Hop}
+use Rattle.result_law.specs.Below.place_walk.declared.hop.Hop.TheVariants as hop
+use Rattle.result_law.specs.Below.place_walk.Hops.{clean_hop, dirty_hop, read_hop}
+use Rattle.result_law.specs.Below.thread_state.View.{ThreadState}
+use Rattle.result_law.specs.Below.thread_state.declared.value.Value.{Value}
+use Rattle.result_law.specs.Below.thread_state.declared.value.Value.TheVariants as value
+use Rattle.result_law.specs.Below.server_model.Servers.{Server, Cluster}
+use Rattle.result_law.specs.Below.server_model.Work.{Hand, look, then_some}
+use Rattle.result_law.specs.Below.server_model.NewWords.{issue_tint, issue_renewal}
+use Rattle.result_law.specs.Below.server_model.Places.{Spot, in_slot, in_cell, in_copy, on_top, nowhere, value_at, value_in as cell_value, load_at, pointer_of, took, put_word}
+use Rattle.result_law.specs.Below.server_model.Prepare.{Prepared, ready, requested, nothing, and_then, ready_at, ask_copy, ask_object, request_by, box_of, cleaned_by, clean_value, use_copy, hit_by, read_by, read_value, read_clean, tinted_first, read_star, read_stars}
+use Rattle.result_law.specs.Below.heap_law.Things.{Location, at_slot}
+use Rattle.result_law.specs.Below.heap_law.Follow.{Standing, Ground, value_in, value_of, slot_of, locate}
+use Rattle.result_law.specs.Below.heap_law.Sight.{sight}
+use Rattle.result_law.proofs.Below.path_law.Shown.{stands_there}
+use Rattle.result_law.proofs.Below.path_law.Sole.{some_is}
+use Rattle.copy_law.proofs.Below.word_law.Slots.{set_same}
+use Rattle.copy_law.proofs.Below.word_law.Tints.{slot_put}
 use Rattle.result_law.proofs.Known.{Steps, goes, paths, standing, hand}
 use Rattle.result_law.proofs.Followed.{Place}
 use Rattle.result_law.proofs.Reading.{Alike, equal, both_shared, alike_at, Reading}

@@ -1,44 +1,44 @@
 -- Copies, dups and locks, once their place is ready: one value of the thread moves at most.
 use Rattle.std.proofs.Common.{◌≡◌, ◌⊎◌, inl, inr, ℕ, zero, suc, ◌+◌, Bool, true, false, if◌then◌else◌, List, [], ◌∷◌, ◌++◌, length, Option, Some, None, option_map, refl, sym, ap, subst, ◌∙◌}
 use Rattle.std.specs.Prelude.{slice_get}
-use Rattle.fr_base.specs.declared.name.MutexNo.{MutexNo}
-use Rattle.fr_base.specs.declared.instruction.Instr.{Instr}
-use Rattle.fr_base.specs.declared.step.Fresh.TheVariants as fresh
-use Rattle.heap_partition.specs.declared.value.Owned.{Owned}
-use Rattle.mut_borrow.specs.declared.shared.SharedRef.{SharedRef}
-use Rattle.journal.specs.declared.act.Act.{Act}
-use Rattle.journal.specs.declared.act.Act.TheVariants as act
-use Rattle.thread_state.specs.View.{ThreadState}
-use Rattle.thread_state.specs.declared.phase.Phase.{Phase}
-use Rattle.thread_state.specs.declared.phase.Phase.TheVariants as phase
-use Rattle.thread_state.specs.declared.value.Value.{Value}
-use Rattle.thread_state.specs.declared.value.Value.TheVariants as value
-use Rattle.server_msgs.specs.declared.message.Message.{Message}
-use Rattle.server_msgs.specs.declared.message.Message.TheVariants as message
-use Rattle.server_model.specs.Work.{Hand, note, send, working, with_phase, push_temp}
-use Rattle.server_model.specs.Places.{Spot, value_at, load_at, owns_nothing, second_of}
-use Rattle.server_model.specs.Commit.{goes_on, waiting, take_gift, push_content, ask_dup, ask_lock, mutex_at, dup, lock, read, read_as}
-use Rattle.server_model.specs.Events.{Stepped, wait_step, committed}
-use Rattle.heap_law.specs.Names.{Among}
-use Rattle.heap_law.specs.Things.{Location, at_slot, at_temp, Thing, shares, sent, slot_things, temp_things, thread_things, message_things, things_at}
-use Rattle.heap_law.specs.Sight.{Pointer, pointers_of}
-use Rattle.path_law.proofs.Origins.{among_first, among_second}
-use Rattle.word_law.specs.Unmoved.{pointing}
-use Rattle.word_law.proofs.Standing.{standing_among}
-use Rattle.event_law.specs.Laws.{Gives}
-use Rattle.event_law.proofs.Results.{then_gives, map_gives}
-use Rattle.event_law.proofs.Bags.{body_things, sent_number}
-use Rattle.stay_law.proofs.Alike.{Alike, Within, Seen, itself, turned, chain, beside, joined, seen_itself, within_both, within_first, blank, goes}
-use Rattle.stay_law.proofs.Servers.{held_if, sends}
-use Rattle.stay_law.proofs.Threads.{slots_of, temps_of, thread_alike, values_alike, TakesNone}
-use Rattle.stay_law.proofs.Sites.{HandAlike}
-use Rattle.stay_law.proofs.Steps.{IsUnseen, shared_slot_unseen, owned_unseen, last_points, TakesNoneHere, pushes}
-use Rattle.prepare_law.proofs.Copying.{end_things}
-use Rattle.carry_law.proofs.Passing.{slot, temp, nowhere}
-use Rattle.carry_law.proofs.Places.{gift_to_temp}
-use Rattle.carry_law.proofs.Hands.{Moved, seen, passed, each_together}
-use Rattle.carry_law.proofs.Locks.{content_taken}
-use Rattle.carry_law.proofs.Steps.{Does, goes_over}
+use Rattle.result_law.specs.Below.fr_base.declared.name.MutexNo.{MutexNo}
+use Rattle.result_law.specs.Below.fr_base.declared.instruction.Instr.{Instr}
+use Rattle.result_law.specs.Below.fr_base.declared.step.Fresh.TheVariants as fresh
+use Rattle.result_law.specs.Below.heap_partition.declared.value.Owned.{Owned}
+use Rattle.result_law.specs.Below.mut_borrow.declared.shared.SharedRef.{SharedRef}
+use Rattle.result_law.specs.Below.journal.declared.act.Act.{Act}
+use Rattle.result_law.specs.Below.journal.declared.act.Act.TheVariants as act
+use Rattle.result_law.specs.Below.thread_state.View.{ThreadState}
+use Rattle.result_law.specs.Below.thread_state.declared.phase.Phase.{Phase}
+use Rattle.result_law.specs.Below.thread_state.declared.phase.Phase.TheVariants as phase
+use Rattle.result_law.specs.Below.thread_state.declared.value.Value.{Value}
+use Rattle.result_law.specs.Below.thread_state.declared.value.Value.TheVariants as value
+use Rattle.result_law.specs.Below.server_msgs.declared.message.Message.{Message}
+use Rattle.result_law.specs.Below.server_msgs.declared.message.Message.TheVariants as message
+use Rattle.result_law.specs.Below.server_model.Work.{Hand, note, send, working, with_phase, push_temp}
+use Rattle.result_law.specs.Below.server_model.Places.{Spot, value_at, load_at, owns_nothing, second_of}
+use Rattle.result_law.specs.Below.server_model.Commit.{goes_on, waiting, take_gift, push_content, ask_dup, ask_lock, mutex_at, dup, lock, read, read_as}
+use Rattle.result_law.specs.Below.server_model.Events.{Stepped, wait_step, committed}
+use Rattle.result_law.specs.Below.heap_law.Names.{Among}
+use Rattle.result_law.specs.Below.heap_law.Things.{Location, at_slot, at_temp, Thing, shares, sent, slot_things, temp_things, thread_things, message_things, things_at}
+use Rattle.result_law.specs.Below.heap_law.Sight.{Pointer, pointers_of}
+use Rattle.result_law.proofs.Below.path_law.Origins.{among_first, among_second}
+use Rattle.copy_law.specs.Below.word_law.Unmoved.{pointing}
+use Rattle.copy_law.proofs.Below.word_law.Standing.{standing_among}
+use Rattle.result_law.specs.Below.event_law.Laws.{Gives}
+use Rattle.result_law.proofs.Below.event_law.Results.{then_gives, map_gives}
+use Rattle.result_law.proofs.Below.event_law.Bags.{body_things, sent_number}
+use Rattle.copy_law.proofs.Below.stay_law.Alike.{Alike, Within, Seen, itself, turned, chain, beside, joined, seen_itself, within_both, within_first, blank, goes}
+use Rattle.copy_law.proofs.Below.stay_law.Servers.{held_if, sends}
+use Rattle.copy_law.proofs.Below.stay_law.Threads.{slots_of, temps_of, thread_alike, values_alike, TakesNone}
+use Rattle.copy_law.proofs.Below.stay_law.Sites.{HandAlike}
+use Rattle.copy_law.proofs.Below.stay_law.Steps.{IsUnseen, shared_slot_unseen, owned_unseen, last_points, TakesNoneHere, pushes}
+use Rattle.copy_law.proofs.Below.prepare_law.Copying.{end_things}
+use Rattle.copy_law.proofs.Below.carry_law.Passing.{slot, temp, nowhere}
+use Rattle.copy_law.proofs.Below.carry_law.Places.{gift_to_temp}
+use Rattle.copy_law.proofs.Below.carry_law.Hands.{Moved, seen, passed, each_together}
+use Rattle.copy_law.proofs.Below.carry_law.Locks.{content_taken}
+use Rattle.copy_law.proofs.Below.carry_law.Steps.{Does, goes_over}
 
 -- A SHARED REFERENCE ONCE MORE
 

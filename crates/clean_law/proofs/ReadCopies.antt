@@ -2,42 +2,42 @@
 use Rattle.std.proofs.Common.{Bool, ◌≡◌, ◌⊎◌, inl, inr, ⊎_elim, ℕ, ◌<◌, true, false, [], Some, refl, sym, subst, ◌∙◌, Option, ap, None}
 use Rattle.std.specs.Bool.{⊤}
 use Rattle.std.specs.Prelude.{slice_get}
-use Rattle.fr_base.specs.declared.place.Lval.{Lval}
-use Rattle.fr_base.specs.declared.instruction.Instr.{Instr}
-use Rattle.global_addr.specs.Words.{server_of}
-use Rattle.heap_partition.specs.declared.value.BoxPtr.{BoxPtr}
-use Rattle.mut_borrow.specs.declared.mutable.MutRef.{MutRef}
-use Rattle.journal.specs.View.{EntryView}
-use Rattle.thread_state.specs.View.{ThreadState}
-use Rattle.thread_state.specs.declared.phase.Phase.TheVariants as phase
-use Rattle.thread_state.specs.declared.value.Value.TheVariants as value
-use Rattle.server_msgs.specs.declared.message.Message.TheVariants as message
-use Rattle.server_model.specs.declared.event.What.TheVariants.{Step}
-use Rattle.server_model.specs.Servers.{Server, Cluster, server_at, Rest}
-use Rattle.server_model.specs.Work.{Hand, thread_in}
-use Rattle.server_model.specs.Prepare.{Prepared, ready, requested, nothing, read_stars}
-use Rattle.server_model.specs.Places.{in_slot}
-use Rattle.server_model.specs.Events.{can_step, has_phase, enabled, begin_work, Stepped, wait_step, prepared, step}
-use Rattle.server_model.specs.Clusters.{apply}
-use Rattle.heap_law.specs.Things.{at_slot}
-use Rattle.heap_law.specs.Follow.{Standing, locate, value_in}
-use Rattle.heap_law.specs.Sight.{sight}
-use Rattle.heap_law.specs.Words.{IsStale}
-use Rattle.type_law.specs.ClusterTypes.{IsCoherent}
-use Rattle.event_law.specs.Laws.{Gives, FewEvents}
-use Rattle.event_law.proofs.Results.{weaker}
-use Rattle.local_law.proofs.Small.{Made}
-use Rattle.local_law.proofs.Mail.{Mail, Mailed, mail_sent}
-use Rattle.local_law.proofs.Messages.{Light}
-use Rattle.read_law.specs.Reading.{LiesUnder}
-use Rattle.read_law.proofs.FreshReads.{read_are_fresh}
-use Rattle.read_law.proofs.Homes.{read_lie_there}
+use Rattle.result_law.specs.Below.fr_base.declared.place.Lval.{Lval}
+use Rattle.result_law.specs.Below.fr_base.declared.instruction.Instr.{Instr}
+use Rattle.result_law.specs.Below.global_addr.Words.{server_of}
+use Rattle.result_law.specs.Below.heap_partition.declared.value.BoxPtr.{BoxPtr}
+use Rattle.result_law.specs.Below.mut_borrow.declared.mutable.MutRef.{MutRef}
+use Rattle.result_law.specs.Below.journal.View.{EntryView}
+use Rattle.result_law.specs.Below.thread_state.View.{ThreadState}
+use Rattle.result_law.specs.Below.thread_state.declared.phase.Phase.TheVariants as phase
+use Rattle.result_law.specs.Below.thread_state.declared.value.Value.TheVariants as value
+use Rattle.result_law.specs.Below.server_msgs.declared.message.Message.TheVariants as message
+use Rattle.result_law.specs.Below.server_model.declared.event.What.TheVariants.{Step}
+use Rattle.result_law.specs.Below.server_model.Servers.{Server, Cluster, server_at, Rest}
+use Rattle.result_law.specs.Below.server_model.Work.{Hand, thread_in}
+use Rattle.result_law.specs.Below.server_model.Prepare.{Prepared, ready, requested, nothing, read_stars}
+use Rattle.result_law.specs.Below.server_model.Places.{in_slot}
+use Rattle.result_law.specs.Below.server_model.Events.{can_step, has_phase, enabled, begin_work, Stepped, wait_step, prepared, step}
+use Rattle.result_law.specs.Below.server_model.Clusters.{apply}
+use Rattle.result_law.specs.Below.heap_law.Things.{at_slot}
+use Rattle.result_law.specs.Below.heap_law.Follow.{Standing, locate, value_in}
+use Rattle.result_law.specs.Below.heap_law.Sight.{sight}
+use Rattle.result_law.specs.Below.heap_law.Words.{IsStale}
+use Rattle.result_law.specs.Below.type_law.ClusterTypes.{IsCoherent}
+use Rattle.result_law.specs.Below.event_law.Laws.{Gives, FewEvents}
+use Rattle.result_law.proofs.Below.event_law.Results.{weaker}
+use Rattle.copy_law.proofs.Below.local_law.Small.{Made}
+use Rattle.copy_law.proofs.Below.local_law.Mail.{Mail, Mailed, mail_sent}
+use Rattle.copy_law.proofs.Below.local_law.Messages.{Light}
+use Rattle.copy_law.specs.Below.read_law.Reading.{LiesUnder}
+use Rattle.copy_law.proofs.Below.read_law.FreshReads.{read_are_fresh}
+use Rattle.copy_law.proofs.Below.read_law.Homes.{read_lie_there}
 use Rattle.result_law.proofs.Known.{standing, paths, goes, Steps}
-use Rattle.stay_law.proofs.Sites.{HandAlike}
-use Rattle.prepare_law.proofs.Untaken.{not_taken}
-use Rattle.prepare_law.proofs.Hands.{calm_waits}
-use Rattle.prepare_law.proofs.Asking.{found_number}
-use Rattle.carry_law.proofs.Hands.{left_by, step_by}
+use Rattle.copy_law.proofs.Below.stay_law.Sites.{HandAlike}
+use Rattle.copy_law.proofs.Below.prepare_law.Untaken.{not_taken}
+use Rattle.copy_law.proofs.Below.prepare_law.Hands.{calm_waits}
+use Rattle.copy_law.proofs.Below.prepare_law.Asking.{found_number}
+use Rattle.copy_law.proofs.Below.carry_law.Hands.{left_by, step_by}
 use Rattle.copy_law.proofs.Clean.{Leaves, all_goes}
 use Rattle.clean_law.specs.Clean.{ReadsAll, a_copy, a_dup, a_lock, ReadsKeepCopies}
 use Rattle.clean_law.proofs.Asked.{asking, ready_asks}
@@ -46,17 +46,17 @@ use Rattle.clean_law.proofs.CleanReads.{clean_there}
 use Rattle.clean_law.proofs.ReadHands.{IsCalm}
 use Rattle.clean_law.proofs.ReadAsks.{Asked, Followed, for_copy, for_object, for_tinted, AsksSo}
 use Rattle.clean_law.proofs.ReadSteps.{reads_of, access_is, X, IsOk, its, asked, known_ready, Outcome, went, asks, Went, outcome, ok_steps, alike_leaves, went_leaves, copy_alike, object_alike}
-use Rattle.event_law.proofs.Prepares.{PreparedOk}
+use Rattle.result_law.proofs.Below.event_law.Prepares.{PreparedOk}
 use Rattle.copy_law.specs.Copies.{CopiesAreRight}
-use Rattle.global_addr.specs.Words.{next_word}
-use Rattle.server_model.specs.NewWords.{issue_tint}
-use Rattle.server_model.specs.Places.{put_word}
-use Rattle.server_model.specs.Prepare.{box_of, ask_copy}
-use Rattle.event_law.proofs.Results.{both_give}
-use Rattle.heap_law.specs.Coherent.{IsSound}
+use Rattle.result_law.specs.Below.global_addr.Words.{next_word}
+use Rattle.result_law.specs.Below.server_model.NewWords.{issue_tint}
+use Rattle.result_law.specs.Below.server_model.Places.{put_word}
+use Rattle.result_law.specs.Below.server_model.Prepare.{box_of, ask_copy}
+use Rattle.result_law.proofs.Below.event_law.Results.{both_give}
+use Rattle.result_law.specs.Below.heap_law.Coherent.{IsSound}
 use Rattle.result_law.proofs.Reading.{Reading}
 use Rattle.result_law.proofs.Starred.{bound}
-use Rattle.stay_law.proofs.Steps.{hand_itself}
+use Rattle.copy_law.proofs.Below.stay_law.Steps.{hand_itself}
 use Rattle.clean_law.proofs.Worded.{Worded, worded_on, has_none_but}
 use Rattle.clean_law.proofs.WordedCopies.{then_holds, new_asked, none_but_before, worded_right}
 use Rattle.clean_law.proofs.Tinted.{unissued, its_cell, was_dirty, wrote, asked_worded}

@@ -2,27 +2,27 @@
 use Rattle.std.proofs.Common.{◌≡◌, ℕ, zero, suc, ◌+◌, false, List, [], ◌∷◌, map, Option, Some, refl, sym, ap, subst, ◌∙◌}
 use Rattle.std.specs.Bool.{⊤}
 use Rattle.std.specs.Prelude.{slice_get}
-use Rattle.fr_base.specs.declared.instruction.Instr.{Instr}
-use Rattle.mutex_home.specs.Mutexes.{Mutexes}
-use Rattle.join_home.specs.Tasks.{Task}
-use Rattle.migration.specs.Packing.{unpinned}
-use Rattle.thread_state.specs.View.{ThreadState}
-use Rattle.thread_state.specs.declared.value.Value.{Value}
-use Rattle.thread_state.specs.declared.value.Value.TheVariants as value
-use Rattle.server_msgs.specs.declared.message.Message.{Message}
-use Rattle.server_model.specs.Servers.{Sent, Rest}
-use Rattle.server_model.specs.Work.{Hand}
-use Rattle.server_model.specs.Prepare.{Access, prepare}
-use Rattle.heap_law.specs.Things.{at_slot, in_slot, slot_things, temp_things, things_at, value_things}
-use Rattle.word_law.specs.Unmoved.{pointing, owning, taking_by}
-use Rattle.event_law.proofs.Bags.{body_things}
-use Rattle.local_law.proofs.Small.{Of, Small, Passes, Made, prepare_makes}
-use Rattle.local_law.proofs.Goes.{puts_by, Any, AnyWord}
+use Rattle.result_law.specs.Below.fr_base.declared.instruction.Instr.{Instr}
+use Rattle.result_law.specs.Below.mutex_home.Mutexes.{Mutexes}
+use Rattle.result_law.specs.Below.join_home.Tasks.{Task}
+use Rattle.result_law.specs.Below.migration.Packing.{unpinned}
+use Rattle.result_law.specs.Below.thread_state.View.{ThreadState}
+use Rattle.result_law.specs.Below.thread_state.declared.value.Value.{Value}
+use Rattle.result_law.specs.Below.thread_state.declared.value.Value.TheVariants as value
+use Rattle.result_law.specs.Below.server_msgs.declared.message.Message.{Message}
+use Rattle.result_law.specs.Below.server_model.Servers.{Sent, Rest}
+use Rattle.result_law.specs.Below.server_model.Work.{Hand}
+use Rattle.result_law.specs.Below.server_model.Prepare.{Access, prepare}
+use Rattle.result_law.specs.Below.heap_law.Things.{at_slot, in_slot, slot_things, temp_things, things_at, value_things}
+use Rattle.copy_law.specs.Below.word_law.Unmoved.{pointing, owning, taking_by}
+use Rattle.result_law.proofs.Below.event_law.Bags.{body_things}
+use Rattle.copy_law.proofs.Below.local_law.Small.{Of, Small, Passes, Made, prepare_makes}
+use Rattle.copy_law.proofs.Below.local_law.Goes.{puts_by, Any, AnyWord}
 use Rattle.result_law.proofs.Reading.{Reading}
-use Rattle.stay_law.proofs.Alike.{Alike, itself, turned, chain, beside}
-use Rattle.stay_law.proofs.Servers.{held_if, other_copies}
-use Rattle.stay_law.proofs.Threads.{slots_of, temps_of, thread_alike, value_alike}
-use Rattle.stay_law.proofs.Sites.{HandAlike}
+use Rattle.copy_law.proofs.Below.stay_law.Alike.{Alike, itself, turned, chain, beside}
+use Rattle.copy_law.proofs.Below.stay_law.Servers.{held_if, other_copies}
+use Rattle.copy_law.proofs.Below.stay_law.Threads.{slots_of, temps_of, thread_alike, value_alike}
+use Rattle.copy_law.proofs.Below.stay_law.Sites.{HandAlike}
 
 -- WHAT NO SMALL STEP TOUCHES
 

@@ -2,51 +2,51 @@
 use Rattle.std.proofs.Common.{◌≡◌, ℕ, ◌≤◌, true, false, [], ◌++◌, Some, refl, sym, ap, subst, ◌∙◌, arith}
 use Rattle.std.specs.Bool.{⊤}
 use Rattle.std.specs.Prelude.{slice_get}
-use Rattle.fr_base.specs.declared.place.Lval.{Lval}
-use Rattle.fr_base.specs.declared.instruction.Instr.{Instr}
-use Rattle.fr_base.specs.declared.instruction.Instr.TheVariants as instr
-use Rattle.fr_typing.specs.Kinds.{Kind, own, mutex}
-use Rattle.fr_code.specs.CodeTypes.{Entry, Table, InstrTypes, i_copy, i_dup, i_lock}
-use Rattle.global_addr.specs.Words.{server_of}
-use Rattle.heap_partition.specs.declared.value.BoxPtr.{BoxPtr}
-use Rattle.heap_partition.specs.declared.value.Owned.{Owned}
-use Rattle.mut_borrow.specs.declared.shared.SharedRef.{SharedRef}
-use Rattle.journal.specs.declared.act.Act.TheVariants as act
-use Rattle.thread_state.specs.View.{ThreadState}
-use Rattle.thread_state.specs.declared.phase.Phase.TheVariants as phase
-use Rattle.thread_state.specs.declared.value.Value.TheVariants as value
-use Rattle.server_msgs.specs.declared.message.Message.TheVariants as message
-use Rattle.server_model.specs.declared.event.What.TheVariants.{Step}
-use Rattle.server_model.specs.Servers.{Server, Cluster, server_at}
-use Rattle.server_model.specs.Work.{Hand, look, thread_in, without_thread}
-use Rattle.server_model.specs.Places.{Spot, in_slot, value_at, value_in as cell_value}
-use Rattle.server_model.specs.Prepare.{Prepared, ready, requested, nothing, ReadTo, access_of, ask_copy, ask_object, prepare, read_stars}
-use Rattle.server_model.specs.Commit.{commit}
-use Rattle.server_model.specs.Events.{enabled, begin_work, Stepped, wait_step, committed, prepared, step}
-use Rattle.heap_law.specs.Things.{Location, servers_things}
-use Rattle.heap_law.specs.Coherent.{Holds, first_at_holder}
-use Rattle.type_law.specs.ClusterTypes.{IsCoherent}
-use Rattle.path_law.proofs.Sole.{some_is}
-use Rattle.event_law.specs.Kinds.{instr_kind}
-use Rattle.event_law.specs.Laws.{Gives, FewEvents}
-use Rattle.event_law.proofs.Proved.{IsProvedKind}
-use Rattle.event_law.proofs.Results.{weaker}
-use Rattle.event_law.proofs.RulesKeep.{sums_kept, sums_spend}
-use Rattle.event_law.proofs.Bags.{all_standing}
-use Rattle.event_law.proofs.Events.{others_of}
-use Rattle.event_law.proofs.Prepares.{PreparedOk, prepares}
-use Rattle.event_law.proofs.Steps.{step_keeps}
-use Rattle.local_law.proofs.Small.{Made}
-use Rattle.read_law.specs.Reading.{Reads, copies, dups, locks}
+use Rattle.result_law.specs.Below.fr_base.declared.place.Lval.{Lval}
+use Rattle.result_law.specs.Below.fr_base.declared.instruction.Instr.{Instr}
+use Rattle.result_law.specs.Below.fr_base.declared.instruction.Instr.TheVariants as instr
+use Rattle.result_law.specs.Below.fr_typing.Kinds.{Kind, own, mutex}
+use Rattle.result_law.specs.Below.fr_code.CodeTypes.{Entry, Table, InstrTypes, i_copy, i_dup, i_lock}
+use Rattle.result_law.specs.Below.global_addr.Words.{server_of}
+use Rattle.result_law.specs.Below.heap_partition.declared.value.BoxPtr.{BoxPtr}
+use Rattle.result_law.specs.Below.heap_partition.declared.value.Owned.{Owned}
+use Rattle.result_law.specs.Below.mut_borrow.declared.shared.SharedRef.{SharedRef}
+use Rattle.result_law.specs.Below.journal.declared.act.Act.TheVariants as act
+use Rattle.result_law.specs.Below.thread_state.View.{ThreadState}
+use Rattle.result_law.specs.Below.thread_state.declared.phase.Phase.TheVariants as phase
+use Rattle.result_law.specs.Below.thread_state.declared.value.Value.TheVariants as value
+use Rattle.result_law.specs.Below.server_msgs.declared.message.Message.TheVariants as message
+use Rattle.result_law.specs.Below.server_model.declared.event.What.TheVariants.{Step}
+use Rattle.result_law.specs.Below.server_model.Servers.{Server, Cluster, server_at}
+use Rattle.result_law.specs.Below.server_model.Work.{Hand, look, thread_in, without_thread}
+use Rattle.result_law.specs.Below.server_model.Places.{Spot, in_slot, value_at, value_in as cell_value}
+use Rattle.result_law.specs.Below.server_model.Prepare.{Prepared, ready, requested, nothing, ReadTo, access_of, ask_copy, ask_object, prepare, read_stars}
+use Rattle.result_law.specs.Below.server_model.Commit.{commit}
+use Rattle.result_law.specs.Below.server_model.Events.{enabled, begin_work, Stepped, wait_step, committed, prepared, step}
+use Rattle.result_law.specs.Below.heap_law.Things.{Location, servers_things}
+use Rattle.result_law.specs.Below.heap_law.Coherent.{Holds, first_at_holder}
+use Rattle.result_law.specs.Below.type_law.ClusterTypes.{IsCoherent}
+use Rattle.result_law.proofs.Below.path_law.Sole.{some_is}
+use Rattle.result_law.specs.Below.event_law.Kinds.{instr_kind}
+use Rattle.result_law.specs.Below.event_law.Laws.{Gives, FewEvents}
+use Rattle.result_law.proofs.Below.event_law.Proved.{IsProvedKind}
+use Rattle.result_law.proofs.Below.event_law.Results.{weaker}
+use Rattle.result_law.proofs.Below.event_law.RulesKeep.{sums_kept, sums_spend}
+use Rattle.result_law.proofs.Below.event_law.Bags.{all_standing}
+use Rattle.result_law.proofs.Below.event_law.Events.{others_of}
+use Rattle.result_law.proofs.Below.event_law.Prepares.{PreparedOk, prepares}
+use Rattle.result_law.proofs.Below.event_law.Steps.{step_keeps}
+use Rattle.copy_law.proofs.Below.local_law.Small.{Made}
+use Rattle.copy_law.specs.Below.read_law.Reading.{Reads, copies, dups, locks}
 use Rattle.result_law.proofs.Known.{Steps, standing, paths, goes, entry, typed, types}
 use Rattle.result_law.proofs.Reading.{Reading}
 use Rattle.result_law.proofs.Starred.{bound, At, a_slot, a_cell, a_copy, Fine}
 use Rattle.result_law.proofs.Readers.{IsReadable, readable_place, never_taken, stars_fine, to_entry}
-use Rattle.stay_law.proofs.Sites.{HandAlike}
-use Rattle.stay_law.proofs.Seen.{seen_alike}
-use Rattle.stay_law.proofs.Steps.{TakesNoneHere, hand_chain, untaken_here}
-use Rattle.prepare_law.proofs.Asking.{read_all}
-use Rattle.carry_law.proofs.Hands.{RootedIn, rooted, rooted_on, Ok, Moved, seen, put, places, each_together, its_number, first_ok, first_seen, puts_alike, moved_goes, moved_over}
+use Rattle.copy_law.proofs.Below.stay_law.Sites.{HandAlike}
+use Rattle.copy_law.proofs.Below.stay_law.Seen.{seen_alike}
+use Rattle.copy_law.proofs.Below.stay_law.Steps.{TakesNoneHere, hand_chain, untaken_here}
+use Rattle.copy_law.proofs.Below.prepare_law.Asking.{read_all}
+use Rattle.copy_law.proofs.Below.carry_law.Hands.{RootedIn, rooted, rooted_on, Ok, Moved, seen, put, places, each_together, its_number, first_ok, first_seen, puts_alike, moved_goes, moved_over}
 use Rattle.copy_law.proofs.Clean.{Leaves, all_goes}
 use Rattle.clean_law.specs.Clean.{ReadsAll, a_copy as a_copying, a_dup as a_dupping, a_lock as a_locking}
 use Rattle.clean_law.proofs.Changed.{all_chain}
@@ -54,7 +54,7 @@ use Rattle.clean_law.proofs.ReadHands.{IsCalm, calm_start, calm_ready, read_take
 use Rattle.clean_law.proofs.ReadAsks.{Asked, AsksSo, Known, stars_ask}
 use Rattle.clean_law.proofs.ReadCommits.{asks_so, copied, dupped, locked}
 use Rattle.result_law.proofs.Followed.{Place}
-use Rattle.fr_base.specs.declared.instruction.Operand.{Operand}
+use Rattle.result_law.specs.Below.fr_base.declared.instruction.Operand.{Operand}
 
 -- AN INSTRUCTION THAT READS ALL STARS OF ITS PLACE
 

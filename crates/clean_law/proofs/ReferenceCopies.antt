@@ -1,35 +1,35 @@
 -- Copies are right after steps in which a reference goes, and after borrows of variables.
 use Rattle.std.proofs.Common.{◌≡◌, ℕ, ◌-◌, true, false, length, List, [], Some, refl, sym, ap, subst, ◌∙◌}
 use Rattle.std.specs.Prelude.{⊤, slice_get}
-use Rattle.fr_base.specs.declared.instruction.Instr.{Instr}
-use Rattle.fr_base.specs.declared.instruction.Instr.TheVariants as instr
-use Rattle.journal.specs.View.{EntryView}
-use Rattle.thread_state.specs.View.{ThreadState}
-use Rattle.thread_state.specs.declared.phase.Phase.TheVariants as phase
-use Rattle.server_model.specs.declared.event.Event.{Event}
-use Rattle.server_model.specs.declared.event.What.TheVariants.{Step}
-use Rattle.server_model.specs.Servers.{Server, Cluster, server_at}
-use Rattle.server_model.specs.Work.{Hand, thread_in}
-use Rattle.server_model.specs.Places.{Spot, nowhere as no_spot, in_slot as spot_slot, on_top}
-use Rattle.server_model.specs.Prepare.{ready, ending, assigned, prepare, read_or_taken, read_stars, read_pointer, lend_pointer, access_of}
-use Rattle.server_model.specs.Events.{begin_work, does, Stepped, step}
-use Rattle.server_model.specs.Clusters.{apply}
-use Rattle.heap_law.specs.Names.{other}
-use Rattle.heap_law.specs.Things.{at_slot}
-use Rattle.heap_law.specs.Follow.{Standing, locate, place_at}
-use Rattle.heap_law.specs.Sight.{sight}
-use Rattle.heap_law.specs.Requests.{lies_here, lent_place, taken_there, taken_phase}
-use Rattle.heap_law.specs.Coherent.{IsSound}
-use Rattle.path_law.proofs.Sole.{some_is}
-use Rattle.word_law.specs.Reworded.{HasPlaces}
-use Rattle.event_law.specs.Laws.{Gives}
-use Rattle.event_law.proofs.Results.{both_give, weaker}
-use Rattle.event_law.proofs.GiftsTaken.{none_here}
-use Rattle.stay_law.specs.Laws.{BorrowsVariable, shared, mutable}
-use Rattle.stay_law.proofs.Sites.{ServerAlike, HandAlike, steps}
-use Rattle.stay_law.proofs.Steps.{borrow_steps, borrow_mut_steps}
-use Rattle.stay_law.proofs.StayKinds.{Seen, seen_where}
-use Rattle.prepare_law.proofs.Untaken.{not_taken}
+use Rattle.result_law.specs.Below.fr_base.declared.instruction.Instr.{Instr}
+use Rattle.result_law.specs.Below.fr_base.declared.instruction.Instr.TheVariants as instr
+use Rattle.result_law.specs.Below.journal.View.{EntryView}
+use Rattle.result_law.specs.Below.thread_state.View.{ThreadState}
+use Rattle.result_law.specs.Below.thread_state.declared.phase.Phase.TheVariants as phase
+use Rattle.result_law.specs.Below.server_model.declared.event.Event.{Event}
+use Rattle.result_law.specs.Below.server_model.declared.event.What.TheVariants.{Step}
+use Rattle.result_law.specs.Below.server_model.Servers.{Server, Cluster, server_at}
+use Rattle.result_law.specs.Below.server_model.Work.{Hand, thread_in}
+use Rattle.result_law.specs.Below.server_model.Places.{Spot, nowhere as no_spot, in_slot as spot_slot, on_top}
+use Rattle.result_law.specs.Below.server_model.Prepare.{ready, ending, assigned, prepare, read_or_taken, read_stars, read_pointer, lend_pointer, access_of}
+use Rattle.result_law.specs.Below.server_model.Events.{begin_work, does, Stepped, step}
+use Rattle.result_law.specs.Below.server_model.Clusters.{apply}
+use Rattle.result_law.specs.Below.heap_law.Names.{other}
+use Rattle.result_law.specs.Below.heap_law.Things.{at_slot}
+use Rattle.result_law.specs.Below.heap_law.Follow.{Standing, locate, place_at}
+use Rattle.result_law.specs.Below.heap_law.Sight.{sight}
+use Rattle.result_law.specs.Below.heap_law.Requests.{lies_here, lent_place, taken_there, taken_phase}
+use Rattle.result_law.specs.Below.heap_law.Coherent.{IsSound}
+use Rattle.result_law.proofs.Below.path_law.Sole.{some_is}
+use Rattle.copy_law.specs.Below.word_law.Reworded.{HasPlaces}
+use Rattle.result_law.specs.Below.event_law.Laws.{Gives}
+use Rattle.result_law.proofs.Below.event_law.Results.{both_give, weaker}
+use Rattle.result_law.proofs.Below.event_law.GiftsTaken.{none_here}
+use Rattle.copy_law.specs.Below.stay_law.Laws.{BorrowsVariable, shared, mutable}
+use Rattle.copy_law.proofs.Below.stay_law.Sites.{ServerAlike, HandAlike, steps}
+use Rattle.copy_law.proofs.Below.stay_law.Steps.{borrow_steps, borrow_mut_steps}
+use Rattle.copy_law.proofs.Below.stay_law.StayKinds.{Seen, seen_where}
+use Rattle.copy_law.proofs.Below.prepare_law.Untaken.{not_taken}
 use Rattle.refs_law.specs.Gone.{GivesReference, moves, drops, discards, assigns}
 use Rattle.copy_law.proofs.Clean.{Leaves, all_goes}
 use Rattle.clean_law.specs.Clean.{ReferencesKeepCopies, VariableBorrowsKeepCopies}

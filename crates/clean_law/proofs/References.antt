@@ -1,55 +1,55 @@
 -- Steps in which a reference goes leave cells and changed references.
 use Rattle.std.proofs.Common.{◌≡◌, ℕ, suc, ◌-◌, Bool, true, false, List, [], ◌∷◌, ◌++◌, Some, None, refl, sym, ap, subst, ◌∙◌}
 use Rattle.std.specs.Prelude.{slice_get, length}
-use Rattle.fr_base.specs.declared.place.Lval.{Lval}
-use Rattle.fr_base.specs.declared.instruction.Operand.{Operand}
-use Rattle.fr_base.specs.declared.instruction.Instr.{Instr}
-use Rattle.fr_base.specs.declared.instruction.Instr.TheVariants as instr
-use Rattle.fr_base.specs.declared.step.Fresh.TheVariants as fresh
-use Rattle.journal.specs.View.{EntryView}
-use Rattle.mut_borrow.specs.declared.mutable.MutRef.{MutRef}
-use Rattle.thread_state.specs.View.{ThreadState}
-use Rattle.thread_state.specs.declared.phase.Phase.{Phase}
-use Rattle.thread_state.specs.declared.phase.Phase.TheVariants as phase
-use Rattle.thread_state.specs.declared.value.Value.{Value}
-use Rattle.thread_state.specs.declared.value.Value.TheVariants as value
-use Rattle.server_model.specs.declared.event.What.TheVariants.{Step}
-use Rattle.server_model.specs.Servers.{Server, Cluster, server_at}
-use Rattle.server_model.specs.Work.{Hand, front_of, with_slots, with_temps, thread_in, without_thread, then_some, pop}
-use Rattle.server_model.specs.Clusters.{apply}
-use Rattle.server_model.specs.Places.{Spot, nowhere as no_spot, in_slot as spot_slot, on_top}
-use Rattle.server_model.specs.Prepare.{ending, assigned, prepare, read_or_taken, read_stars}
-use Rattle.server_model.specs.Commit.{goes_on, assign, replace_slot, read, discard, drop_slot}
-use Rattle.server_model.specs.Events.{can_step, has_phase, enabled, does, Stepped, committed, prepared, step}
-use Rattle.heap_law.specs.Things.{at_slot, servers_things}
-use Rattle.heap_law.specs.Follow.{Standing}
-use Rattle.heap_law.specs.Sight.{sight}
-use Rattle.heap_law.specs.Coherent.{IsSound}
-use Rattle.type_law.specs.ClusterTypes.{IsCoherent}
-use Rattle.path_law.specs.HeapStore.{GoesOn, HasPaths}
-use Rattle.path_law.specs.Pointing.{moves as moves_from, assigns as assigns_to}
-use Rattle.path_law.proofs.Alike.{coherent_has_paths}
-use Rattle.path_law.proofs.Contained.{among_thread}
-use Rattle.end_law.specs.Dropped.{GivesUp, written, dropped}
-use Rattle.end_law.proofs.Given.{given_up_may_be}
-use Rattle.word_law.specs.Unmoved.{taking_by}
-use Rattle.event_law.specs.Kinds.{instr_kind}
-use Rattle.event_law.specs.Laws.{Gives, FewEvents}
-use Rattle.event_law.proofs.Proved.{IsProvedKind}
-use Rattle.event_law.proofs.RulesKeep.{sums_kept, sums_spend}
-use Rattle.event_law.proofs.Bags.{all_standing}
-use Rattle.event_law.proofs.Events.{others_of}
-use Rattle.event_law.proofs.Steps.{step_keeps}
-use Rattle.event_law.proofs.ThreadThere.{thread_there}
-use Rattle.event_law.proofs.Values.{last_split}
-use Rattle.stay_law.proofs.Steps.{TakesNoneHere, hand_itself}
-use Rattle.prepare_law.proofs.Hands.{calm_goes}
-use Rattle.prepare_law.proofs.Asking.{found_number}
-use Rattle.carry_law.proofs.Passing.{Here, slot, temp, Passes}
-use Rattle.carry_law.proofs.Places.{end_is}
-use Rattle.carry_law.proofs.Replaced.{cells_same}
-use Rattle.carry_law.proofs.Hands.{ThereBy, Ok, Moved, seen, h0, first_ok, each_together, moved_goes, moved_over, places, left_by, step_by}
-use Rattle.carry_law.proofs.Steps.{goes_over}
+use Rattle.result_law.specs.Below.fr_base.declared.place.Lval.{Lval}
+use Rattle.result_law.specs.Below.fr_base.declared.instruction.Operand.{Operand}
+use Rattle.result_law.specs.Below.fr_base.declared.instruction.Instr.{Instr}
+use Rattle.result_law.specs.Below.fr_base.declared.instruction.Instr.TheVariants as instr
+use Rattle.result_law.specs.Below.fr_base.declared.step.Fresh.TheVariants as fresh
+use Rattle.result_law.specs.Below.journal.View.{EntryView}
+use Rattle.result_law.specs.Below.mut_borrow.declared.mutable.MutRef.{MutRef}
+use Rattle.result_law.specs.Below.thread_state.View.{ThreadState}
+use Rattle.result_law.specs.Below.thread_state.declared.phase.Phase.{Phase}
+use Rattle.result_law.specs.Below.thread_state.declared.phase.Phase.TheVariants as phase
+use Rattle.result_law.specs.Below.thread_state.declared.value.Value.{Value}
+use Rattle.result_law.specs.Below.thread_state.declared.value.Value.TheVariants as value
+use Rattle.result_law.specs.Below.server_model.declared.event.What.TheVariants.{Step}
+use Rattle.result_law.specs.Below.server_model.Servers.{Server, Cluster, server_at}
+use Rattle.result_law.specs.Below.server_model.Work.{Hand, front_of, with_slots, with_temps, thread_in, without_thread, then_some, pop}
+use Rattle.result_law.specs.Below.server_model.Clusters.{apply}
+use Rattle.result_law.specs.Below.server_model.Places.{Spot, nowhere as no_spot, in_slot as spot_slot, on_top}
+use Rattle.result_law.specs.Below.server_model.Prepare.{ending, assigned, prepare, read_or_taken, read_stars}
+use Rattle.result_law.specs.Below.server_model.Commit.{goes_on, assign, replace_slot, read, discard, drop_slot}
+use Rattle.result_law.specs.Below.server_model.Events.{can_step, has_phase, enabled, does, Stepped, committed, prepared, step}
+use Rattle.result_law.specs.Below.heap_law.Things.{at_slot, servers_things}
+use Rattle.result_law.specs.Below.heap_law.Follow.{Standing}
+use Rattle.result_law.specs.Below.heap_law.Sight.{sight}
+use Rattle.result_law.specs.Below.heap_law.Coherent.{IsSound}
+use Rattle.result_law.specs.Below.type_law.ClusterTypes.{IsCoherent}
+use Rattle.result_law.specs.Below.path_law.HeapStore.{GoesOn, HasPaths}
+use Rattle.result_law.specs.Below.path_law.Pointing.{moves as moves_from, assigns as assigns_to}
+use Rattle.result_law.proofs.Below.path_law.Alike.{coherent_has_paths}
+use Rattle.result_law.proofs.Below.path_law.Contained.{among_thread}
+use Rattle.copy_law.specs.Below.end_law.Dropped.{GivesUp, written, dropped}
+use Rattle.copy_law.proofs.Below.end_law.Given.{given_up_may_be}
+use Rattle.copy_law.specs.Below.word_law.Unmoved.{taking_by}
+use Rattle.result_law.specs.Below.event_law.Kinds.{instr_kind}
+use Rattle.result_law.specs.Below.event_law.Laws.{Gives, FewEvents}
+use Rattle.result_law.proofs.Below.event_law.Proved.{IsProvedKind}
+use Rattle.result_law.proofs.Below.event_law.RulesKeep.{sums_kept, sums_spend}
+use Rattle.result_law.proofs.Below.event_law.Bags.{all_standing}
+use Rattle.result_law.proofs.Below.event_law.Events.{others_of}
+use Rattle.result_law.proofs.Below.event_law.Steps.{step_keeps}
+use Rattle.result_law.proofs.Below.event_law.ThreadThere.{thread_there}
+use Rattle.result_law.proofs.Below.event_law.Values.{last_split}
+use Rattle.copy_law.proofs.Below.stay_law.Steps.{TakesNoneHere, hand_itself}
+use Rattle.copy_law.proofs.Below.prepare_law.Hands.{calm_goes}
+use Rattle.copy_law.proofs.Below.prepare_law.Asking.{found_number}
+use Rattle.copy_law.proofs.Below.carry_law.Passing.{Here, slot, temp, Passes}
+use Rattle.copy_law.proofs.Below.carry_law.Places.{end_is}
+use Rattle.copy_law.proofs.Below.carry_law.Replaced.{cells_same}
+use Rattle.copy_law.proofs.Below.carry_law.Hands.{ThereBy, Ok, Moved, seen, h0, first_ok, each_together, moved_goes, moved_over, places, left_by, step_by}
+use Rattle.copy_law.proofs.Below.carry_law.Steps.{goes_over}
 use Rattle.refs_law.specs.Unpassed.{IsUnpassed}
 use Rattle.refs_law.specs.Fewer.{IsRanked}
 use Rattle.refs_law.specs.Gone.{IsLight, to_slot, to_slot_mutably, shared_to, GivesReference, moves, drops, discards, assigns}

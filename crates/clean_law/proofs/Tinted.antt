@@ -1,67 +1,67 @@
 -- A dirty reference on the way of a place that is read gets the next colour: its object has that word then, and isn't changed through it any more.
 use Rattle.std.proofs.Common.{◌≡◌, inl, ⊎_elim, ℕ, ◌+◌, ◌<◌, true, false, [], ◌++◌, Some, refl, sym, ap, subst, ◌∙◌}
 use Rattle.std.specs.Prelude.{slice_get}
-use Rattle.fr_base.specs.declared.place.Lval.{Lval}
-use Rattle.fr_base.specs.declared.instruction.Instr.{Instr}
-use Rattle.global_addr.specs.Words.{server_of, next_word}
-use Rattle.heap_partition.specs.declared.value.Cell.{Cell}
-use Rattle.mut_borrow.specs.declared.mutable.MutRef.{MutRef}
-use Rattle.journal.specs.declared.act.Act.TheVariants as act
-use Rattle.thread_state.specs.View.{ThreadState}
-use Rattle.thread_state.specs.declared.phase.Phase.TheVariants as phase
-use Rattle.thread_state.specs.declared.value.Value.TheVariants as value
-use Rattle.server_msgs.specs.declared.message.Message.TheVariants as message
-use Rattle.server_model.specs.declared.event.What.TheVariants.{Step}
-use Rattle.server_model.specs.Servers.{Server, Cluster, server_at}
-use Rattle.server_model.specs.Work.{Hand, thread_in, without_thread}
-use Rattle.server_model.specs.NewWords.{issue_tint}
-use Rattle.server_model.specs.Places.{in_slot, took, put_word}
-use Rattle.server_model.specs.Prepare.{box_of, ask_copy}
-use Rattle.server_model.specs.Events.{can_step, has_phase, enabled}
-use Rattle.heap_law.specs.Names.{Among}
-use Rattle.heap_law.specs.Things.{Location, at_slot, lies, servers_things, things_of}
-use Rattle.heap_law.specs.Follow.{Standing, value_in, cells_in, locate}
-use Rattle.heap_law.specs.Stale.{Reference, references, holder_of, is_held_at}
-use Rattle.heap_law.specs.Sight.{Pointer, pointers_in, taken_pointers, is_object_among, sight, issued}
-use Rattle.heap_law.specs.Words.{IsStale, HasWords, LeadsTo}
-use Rattle.heap_law.specs.Dirty.{DirtyAlone}
-use Rattle.heap_law.specs.Coherent.{Holds, first_at_holder}
-use Rattle.type_law.specs.ClusterTypes.{IsCoherent}
-use Rattle.path_law.proofs.Origins.{among_first}
-use Rattle.path_law.proofs.Contained.{reference_there}
-use Rattle.path_law.proofs.FreshPaths.{same_is}
-use Rattle.word_law.specs.Reworded.{HasPlaces, LiesThere, Reworded}
-use Rattle.word_law.specs.PutBack.{LeadsHome}
-use Rattle.word_law.specs.WordsAfter.{WordsAfter, Rewrites}
-use Rattle.word_law.proofs.Standing.{lying, borrow_stands, told, told_standing}
-use Rattle.word_law.proofs.Grounds.{of_borrows, still_stale}
-use Rattle.word_law.proofs.Put.{put_split}
-use Rattle.word_law.proofs.Slots.{set_same}
-use Rattle.word_law.proofs.Tints.{SlotPut, slot_put, slot_stands, tint_rewords}
-use Rattle.word_law.proofs.NewWord.{is_new}
-use Rattle.word_law.proofs.Only.{are_only}
-use Rattle.word_law.proofs.Past.{first_issued}
-use Rattle.word_law.proofs.Words.{words_go_on, changed_rewords}
-use Rattle.event_law.specs.Laws.{FewEvents}
-use Rattle.event_law.proofs.Results.{given_by}
-use Rattle.event_law.proofs.RulesKeep.{sums_kept}
-use Rattle.event_law.proofs.Bags.{all_standing}
-use Rattle.event_law.proofs.Events.{others_of}
-use Rattle.event_law.proofs.NewWords.{puts_word}
-use Rattle.read_law.specs.Reading.{LiesUnder}
-use Rattle.read_law.proofs.FreshReads.{read_are_fresh}
-use Rattle.read_law.proofs.Homes.{read_lie_there}
-use Rattle.read_law.proofs.Lookups.{one_state}
+use Rattle.result_law.specs.Below.fr_base.declared.place.Lval.{Lval}
+use Rattle.result_law.specs.Below.fr_base.declared.instruction.Instr.{Instr}
+use Rattle.result_law.specs.Below.global_addr.Words.{server_of, next_word}
+use Rattle.result_law.specs.Below.heap_partition.declared.value.Cell.{Cell}
+use Rattle.result_law.specs.Below.mut_borrow.declared.mutable.MutRef.{MutRef}
+use Rattle.result_law.specs.Below.journal.declared.act.Act.TheVariants as act
+use Rattle.result_law.specs.Below.thread_state.View.{ThreadState}
+use Rattle.result_law.specs.Below.thread_state.declared.phase.Phase.TheVariants as phase
+use Rattle.result_law.specs.Below.thread_state.declared.value.Value.TheVariants as value
+use Rattle.result_law.specs.Below.server_msgs.declared.message.Message.TheVariants as message
+use Rattle.result_law.specs.Below.server_model.declared.event.What.TheVariants.{Step}
+use Rattle.result_law.specs.Below.server_model.Servers.{Server, Cluster, server_at}
+use Rattle.result_law.specs.Below.server_model.Work.{Hand, thread_in, without_thread}
+use Rattle.result_law.specs.Below.server_model.NewWords.{issue_tint}
+use Rattle.result_law.specs.Below.server_model.Places.{in_slot, took, put_word}
+use Rattle.result_law.specs.Below.server_model.Prepare.{box_of, ask_copy}
+use Rattle.result_law.specs.Below.server_model.Events.{can_step, has_phase, enabled}
+use Rattle.result_law.specs.Below.heap_law.Names.{Among}
+use Rattle.result_law.specs.Below.heap_law.Things.{Location, at_slot, lies, servers_things, things_of}
+use Rattle.result_law.specs.Below.heap_law.Follow.{Standing, value_in, cells_in, locate}
+use Rattle.result_law.specs.Below.heap_law.Stale.{Reference, references, holder_of, is_held_at}
+use Rattle.result_law.specs.Below.heap_law.Sight.{Pointer, pointers_in, taken_pointers, is_object_among, sight, issued}
+use Rattle.result_law.specs.Below.heap_law.Words.{IsStale, HasWords, LeadsTo}
+use Rattle.result_law.specs.Below.heap_law.Dirty.{DirtyAlone}
+use Rattle.result_law.specs.Below.heap_law.Coherent.{Holds, first_at_holder}
+use Rattle.result_law.specs.Below.type_law.ClusterTypes.{IsCoherent}
+use Rattle.result_law.proofs.Below.path_law.Origins.{among_first}
+use Rattle.result_law.proofs.Below.path_law.Contained.{reference_there}
+use Rattle.result_law.proofs.Below.path_law.FreshPaths.{same_is}
+use Rattle.copy_law.specs.Below.word_law.Reworded.{HasPlaces, LiesThere, Reworded}
+use Rattle.copy_law.specs.Below.word_law.PutBack.{LeadsHome}
+use Rattle.copy_law.specs.Below.word_law.WordsAfter.{WordsAfter, Rewrites}
+use Rattle.copy_law.proofs.Below.word_law.Standing.{lying, borrow_stands, told, told_standing}
+use Rattle.copy_law.proofs.Below.word_law.Grounds.{of_borrows, still_stale}
+use Rattle.copy_law.proofs.Below.word_law.Put.{put_split}
+use Rattle.copy_law.proofs.Below.word_law.Slots.{set_same}
+use Rattle.copy_law.proofs.Below.word_law.Tints.{SlotPut, slot_put, slot_stands, tint_rewords}
+use Rattle.copy_law.proofs.Below.word_law.NewWord.{is_new}
+use Rattle.copy_law.proofs.Below.word_law.Only.{are_only}
+use Rattle.copy_law.proofs.Below.word_law.Past.{first_issued}
+use Rattle.copy_law.proofs.Below.word_law.Words.{words_go_on, changed_rewords}
+use Rattle.result_law.specs.Below.event_law.Laws.{FewEvents}
+use Rattle.result_law.proofs.Below.event_law.Results.{given_by}
+use Rattle.result_law.proofs.Below.event_law.RulesKeep.{sums_kept}
+use Rattle.result_law.proofs.Below.event_law.Bags.{all_standing}
+use Rattle.result_law.proofs.Below.event_law.Events.{others_of}
+use Rattle.result_law.proofs.Below.event_law.NewWords.{puts_word}
+use Rattle.copy_law.specs.Below.read_law.Reading.{LiesUnder}
+use Rattle.copy_law.proofs.Below.read_law.FreshReads.{read_are_fresh}
+use Rattle.copy_law.proofs.Below.read_law.Homes.{read_lie_there}
+use Rattle.copy_law.proofs.Below.read_law.Lookups.{one_state}
 use Rattle.result_law.proofs.Known.{standing, paths, goes}
 use Rattle.result_law.proofs.Reading.{Reading}
 use Rattle.result_law.proofs.Starred.{bound}
-use Rattle.stay_law.proofs.Alike.{chain}
-use Rattle.stay_law.proofs.Sites.{HandAlike}
-use Rattle.stay_law.proofs.Steps.{TakesNoneHere}
-use Rattle.prepare_law.proofs.Along.{Along, dirty_changed}
-use Rattle.prepare_law.proofs.Hands.{State, unseen, first_hand, calm_waits}
-use Rattle.carry_law.proofs.Replaced.{cells_same}
-use Rattle.carry_law.proofs.Hands.{places, stands_here, each_together, puts_alike}
+use Rattle.copy_law.proofs.Below.stay_law.Alike.{chain}
+use Rattle.copy_law.proofs.Below.stay_law.Sites.{HandAlike}
+use Rattle.copy_law.proofs.Below.stay_law.Steps.{TakesNoneHere}
+use Rattle.copy_law.proofs.Below.prepare_law.Along.{Along, dirty_changed}
+use Rattle.copy_law.proofs.Below.prepare_law.Hands.{State, unseen, first_hand, calm_waits}
+use Rattle.copy_law.proofs.Below.carry_law.Replaced.{cells_same}
+use Rattle.copy_law.proofs.Below.carry_law.Hands.{places, stands_here, each_together, puts_alike}
 use Rattle.copy_law.proofs.Clean.{Found, Leaves, thing_cell, all_goes}
 use Rattle.clean_law.specs.Clean.{ReadsAll}
 use Rattle.clean_law.proofs.ReadCommits.{asks_so}

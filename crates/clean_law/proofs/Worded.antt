@@ -3,26 +3,26 @@ use Rattle.std.proofs.Common.{◌≡◌, ◌⊎◌, inl, inr, ⊎_elim, ℕ, ◌
 use Rattle.std.proofs.lemmas.Bool.{eqb-true, eq-eqb}
 use Rattle.std.proofs.lemmas.Bool.Decides.{nat_tests}
 use Rattle.std.specs.Prelude.{nat_le}
-use Rattle.global_addr.specs.Words.{server_of, address_of, colour_of}
-use Rattle.fr_base.specs.declared.name.ObjNo.{ObjNo}
-use Rattle.heap_partition.specs.declared.value.Cell.{Cell}
-use Rattle.mut_borrow.specs.declared.mutable.MutRef.{MutRef}
-use Rattle.server_model.specs.Servers.{Cluster}
-use Rattle.heap_law.specs.Names.{tot, other, same_object, Among}
-use Rattle.heap_law.specs.Things.{Location, Thing, borrows, lies, flies, things_of}
-use Rattle.heap_law.specs.Follow.{cells_in}
-use Rattle.heap_law.specs.Stale.{Reference, references, is_among, holder_of}
-use Rattle.heap_law.specs.Sight.{Pointer, Sight, pointers_in, taken_pointers, colour_up_to, is_issued_at, is_issued, is_word, cell_of_word, dirty_objects, if_dirty, is_object_among, sight, word, issued}
-use Rattle.heap_law.specs.Words.{IsStale, HasWords}
-use Rattle.heap_law.specs.Placing.{words as words_of, unless_dirty, if_clean, clean_cell}
-use Rattle.heap_law.specs.Coherent.{IsSound}
-use Rattle.heap_law.proofs.Words.{named, itself, none_at, told as told_stale, not_told}
-use Rattle.path_law.proofs.Sole.{some_is}
-use Rattle.path_law.proofs.Origins.{among_first}
-use Rattle.path_law.proofs.Contained.{reference_there}
-use Rattle.word_law.specs.Reworded.{HasPlaces}
-use Rattle.word_law.proofs.Standing.{CellOf, lying, flying, borrow_stands, pointers_among}
-use Rattle.word_law.proofs.Grounds.{of_borrows}
+use Rattle.result_law.specs.Below.global_addr.Words.{server_of, address_of, colour_of}
+use Rattle.result_law.specs.Below.fr_base.declared.name.ObjNo.{ObjNo}
+use Rattle.result_law.specs.Below.heap_partition.declared.value.Cell.{Cell}
+use Rattle.result_law.specs.Below.mut_borrow.declared.mutable.MutRef.{MutRef}
+use Rattle.result_law.specs.Below.server_model.Servers.{Cluster}
+use Rattle.result_law.specs.Below.heap_law.Names.{tot, other, same_object, Among}
+use Rattle.result_law.specs.Below.heap_law.Things.{Location, Thing, borrows, lies, flies, things_of}
+use Rattle.result_law.specs.Below.heap_law.Follow.{cells_in}
+use Rattle.result_law.specs.Below.heap_law.Stale.{Reference, references, is_among, holder_of}
+use Rattle.result_law.specs.Below.heap_law.Sight.{Pointer, Sight, pointers_in, taken_pointers, colour_up_to, is_issued_at, is_issued, is_word, cell_of_word, dirty_objects, if_dirty, is_object_among, sight, word, issued}
+use Rattle.result_law.specs.Below.heap_law.Words.{IsStale, HasWords}
+use Rattle.result_law.specs.Below.heap_law.Placing.{words as words_of, unless_dirty, if_clean, clean_cell}
+use Rattle.result_law.specs.Below.heap_law.Coherent.{IsSound}
+use Rattle.result_law.proofs.Below.heap_law.Words.{named, itself, none_at, told as told_stale, not_told}
+use Rattle.result_law.proofs.Below.path_law.Sole.{some_is}
+use Rattle.result_law.proofs.Below.path_law.Origins.{among_first}
+use Rattle.result_law.proofs.Below.path_law.Contained.{reference_there}
+use Rattle.copy_law.specs.Below.word_law.Reworded.{HasPlaces}
+use Rattle.copy_law.proofs.Below.word_law.Standing.{CellOf, lying, flying, borrow_stands, pointers_among}
+use Rattle.copy_law.proofs.Below.word_law.Grounds.{of_borrows}
 use Rattle.copy_law.specs.Copies.{CellsGoOn}
 use Rattle.copy_law.proofs.Clean.{Found, Leaves, cell_thing, found_by, told, one_of_word}
 use Rattle.clean_law.proofs.Kept.{has_none, places_before}

@@ -2,32 +2,32 @@
 use Rattle.std.proofs.Common.{◌≡◌, ℕ, ◌==◌, Bool, true, false, if◌then◌else◌, List, [], ◌∷◌, Option, Some, None, refl, sym, ap, subst, arith}
 use Rattle.std.proofs.lemmas.Bool.{eq-eqb}
 use Rattle.std.specs.Prelude.{option_map, length, take, drop as drop_first}
-use Rattle.fr_base.specs.declared.name.ObjNo.{ObjNo}
-use Rattle.heap_partition.specs.declared.value.Cell.{Cell}
-use Rattle.journal.specs.View.{EntryView}
-use Rattle.server_msgs.specs.declared.message.Message.{Message}
-use Rattle.server_msgs.specs.declared.message.Message.TheVariants as message
-use Rattle.server_model.specs.declared.event.Event.{Event}
-use Rattle.server_model.specs.declared.event.What.TheVariants.{Step}
-use Rattle.server_model.specs.Servers.{Server, Cluster, server_at}
-use Rattle.server_model.specs.Work.{then_some}
-use Rattle.server_model.specs.Events.{enabled, does}
-use Rattle.server_model.specs.Clusters.{with_server, hand_over_newer, done_at, apply}
-use Rattle.heap_law.specs.Names.{Among, tot}
-use Rattle.heap_law.specs.Things.{Thing, sent, things_of}
-use Rattle.heap_law.specs.Follow.{cells_in}
-use Rattle.heap_law.specs.Sight.{is_object_among, sight, issued}
-use Rattle.heap_law.specs.Placing.{unclean, unclean_request}
-use Rattle.heap_law.specs.Coherent.{IsSound, Holds, copies_agree}
-use Rattle.word_law.specs.Reworded.{HasPlaces}
-use Rattle.event_law.specs.Laws.{Gives, GoTo, FewEvents}
-use Rattle.event_law.proofs.Results.{test_gives, both_give}
-use Rattle.event_law.proofs.Applied.{go_with}
-use Rattle.event_law.proofs.Sending.{each_event_sends}
-use Rattle.local_law.proofs.Messages.{on_sent}
-use Rattle.stay_law.proofs.Alike.{Alike}
-use Rattle.stay_law.proofs.Sites.{handed_over}
-use Rattle.carry_law.proofs.Hands.{ThereBy}
+use Rattle.result_law.specs.Below.fr_base.declared.name.ObjNo.{ObjNo}
+use Rattle.result_law.specs.Below.heap_partition.declared.value.Cell.{Cell}
+use Rattle.result_law.specs.Below.journal.View.{EntryView}
+use Rattle.result_law.specs.Below.server_msgs.declared.message.Message.{Message}
+use Rattle.result_law.specs.Below.server_msgs.declared.message.Message.TheVariants as message
+use Rattle.result_law.specs.Below.server_model.declared.event.Event.{Event}
+use Rattle.result_law.specs.Below.server_model.declared.event.What.TheVariants.{Step}
+use Rattle.result_law.specs.Below.server_model.Servers.{Server, Cluster, server_at}
+use Rattle.result_law.specs.Below.server_model.Work.{then_some}
+use Rattle.result_law.specs.Below.server_model.Events.{enabled, does}
+use Rattle.result_law.specs.Below.server_model.Clusters.{with_server, hand_over_newer, done_at, apply}
+use Rattle.result_law.specs.Below.heap_law.Names.{Among, tot}
+use Rattle.result_law.specs.Below.heap_law.Things.{Thing, sent, things_of}
+use Rattle.result_law.specs.Below.heap_law.Follow.{cells_in}
+use Rattle.result_law.specs.Below.heap_law.Sight.{is_object_among, sight, issued}
+use Rattle.result_law.specs.Below.heap_law.Placing.{unclean, unclean_request}
+use Rattle.result_law.specs.Below.heap_law.Coherent.{IsSound, Holds, copies_agree}
+use Rattle.copy_law.specs.Below.word_law.Reworded.{HasPlaces}
+use Rattle.result_law.specs.Below.event_law.Laws.{Gives, GoTo, FewEvents}
+use Rattle.result_law.proofs.Below.event_law.Results.{test_gives, both_give}
+use Rattle.result_law.proofs.Below.event_law.Applied.{go_with}
+use Rattle.result_law.proofs.Below.event_law.Sending.{each_event_sends}
+use Rattle.copy_law.proofs.Below.local_law.Messages.{on_sent}
+use Rattle.copy_law.proofs.Below.stay_law.Alike.{Alike}
+use Rattle.copy_law.proofs.Below.stay_law.Sites.{handed_over}
+use Rattle.copy_law.proofs.Below.carry_law.Hands.{ThereBy}
 use Rattle.copy_law.specs.Copies.{CellsGoOn, CopiesAreRight}
 use Rattle.copy_law.proofs.Clean.{Leaves, all_goes}
 use Rattle.copy_law.proofs.KeptCopies.{come_from_copies}

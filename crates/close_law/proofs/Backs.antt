@@ -1,16 +1,16 @@
 -- The end of a reference, as a hand sees it: what the word that its holder's pointer gets changes, and that words stay and each object is what it was, or covered, however the reference goes.
 use Rattle.std.proofs.Common.{◌≡◌, ℕ, List, Some}
 use Rattle.std.specs.Prelude.{slice_get, slice_set}
-use Rattle.mut_borrow.specs.declared.mutable.MutRef.{MutRef}
-use Rattle.thread_state.specs.View.{ThreadState}
-use Rattle.thread_state.specs.declared.value.Value.{Value}
-use Rattle.server_model.specs.Servers.{Rest, Server, Cluster, server_at}
-use Rattle.server_model.specs.Work.{Hand, thread_in}
-use Rattle.server_model.specs.Places.{Spot}
-use Rattle.server_model.specs.Drop.{finish}
-use Rattle.type_law.specs.ClusterTypes.{IsCoherent}
-use Rattle.event_law.specs.Laws.{Gives}
-use Rattle.carry_law.proofs.Passing.{Here, slot}
+use Rattle.cover_law.specs.Below.mut_borrow.declared.mutable.MutRef.{MutRef}
+use Rattle.cover_law.specs.Below.thread_state.View.{ThreadState}
+use Rattle.cover_law.specs.Below.thread_state.declared.value.Value.{Value}
+use Rattle.cover_law.specs.Below.server_model.Servers.{Rest, Server, Cluster, server_at}
+use Rattle.cover_law.specs.Below.server_model.Work.{Hand, thread_in}
+use Rattle.cover_law.specs.Below.server_model.Places.{Spot}
+use Rattle.cover_law.specs.Below.server_model.Drop.{finish}
+use Rattle.cover_law.specs.Below.type_law.ClusterTypes.{IsCoherent}
+use Rattle.cover_law.specs.Below.event_law.Laws.{Gives}
+use Rattle.cover_law.proofs.Below.carry_law.Passing.{Here, slot}
 use Rattle.return_law.proofs.Below.finish_law.EndHands.{Goes}
 use Rattle.return_law.proofs.Returns.{Shape, after}
 use Rattle.cover_law.proofs.Hops.{Now}

@@ -1,33 +1,33 @@
 -- A mutable reference goes from a slot or the hand of one thread, and the box that it was made from gets its word in a cell: what references and marks see of it.
 use Rattle.std.proofs.Common.{◌≡◌, ◌≢◌, ◌⊎◌, inl, inr, ⊎_elim, ℕ, zero, suc, ◌≤◌, true, false, [], ◌∷◌, Option, Some, None, refl, sym, ap, subst, ◌∙◌, arith}
 use Rattle.std.specs.Prelude.{slice_get}
-use Rattle.fr_base.specs.declared.name.ObjNo.{ObjNo}
-use Rattle.heap_partition.specs.declared.value.Cell.{Cell}
-use Rattle.mut_borrow.specs.declared.mutable.MutRef.{MutRef}
-use Rattle.thread_state.specs.View.{ThreadState}
-use Rattle.thread_state.specs.declared.value.Value.TheVariants as value
-use Rattle.server_model.specs.Servers.{Cluster}
-use Rattle.server_model.specs.Places.{with_word}
-use Rattle.heap_law.specs.Names.{Among}
-use Rattle.heap_law.specs.Things.{Location, at_slot, at_temp, in_cell, lies, thread_things, things_of}
-use Rattle.heap_law.specs.Follow.{Ground, cell_of, slot_of, temp_of, value_in, value_of, value_behind, leads, locate}
-use Rattle.heap_law.specs.Stale.{Reference, references, holder_of, is_held_at, is_among, lent_places}
-use Rattle.heap_law.specs.Sight.{sight}
-use Rattle.heap_law.specs.Words.{IsStale}
-use Rattle.heap_law.specs.Coherent.{Holds, first_at_holder}
-use Rattle.path_law.proofs.Sole.{some_is}
-use Rattle.word_law.specs.Reworded.{HasPlaces, Renewed, a_box, a_reference, Reworded}
-use Rattle.word_law.specs.Soles.{SameOutlines}
-use Rattle.word_law.specs.Unmoved.{pointing, taking_by, takings}
-use Rattle.word_law.proofs.Grounds.{same_place}
-use Rattle.word_law.proofs.Outlines.{leads_outline, soles_stay}
-use Rattle.word_law.proofs.Put.{Split}
-use Rattle.move_law.specs.Ended.{its_word}
-use Rattle.carry_law.proofs.Replaced.{at_b, in_slots, in_temps, in_cells}
-use Rattle.carry_law.proofs.Passing.{Here, slot, temp, nowhere, located, here}
-use Rattle.carry_law.proofs.Hands.{RootedIn}
-use Rattle.refs_law.specs.Unpassed.{IsUnpassed}
-use Rattle.refs_law.proofs.Chains.{held_there}
+use Rattle.cover_law.specs.Below.fr_base.declared.name.ObjNo.{ObjNo}
+use Rattle.cover_law.specs.Below.heap_partition.declared.value.Cell.{Cell}
+use Rattle.cover_law.specs.Below.mut_borrow.declared.mutable.MutRef.{MutRef}
+use Rattle.cover_law.specs.Below.thread_state.View.{ThreadState}
+use Rattle.cover_law.specs.Below.thread_state.declared.value.Value.TheVariants as value
+use Rattle.cover_law.specs.Below.server_model.Servers.{Cluster}
+use Rattle.cover_law.specs.Below.server_model.Places.{with_word}
+use Rattle.cover_law.specs.Below.heap_law.Names.{Among}
+use Rattle.cover_law.specs.Below.heap_law.Things.{Location, at_slot, at_temp, in_cell, lies, thread_things, things_of}
+use Rattle.cover_law.specs.Below.heap_law.Follow.{Ground, cell_of, slot_of, temp_of, value_in, value_of, value_behind, leads, locate}
+use Rattle.cover_law.specs.Below.heap_law.Stale.{Reference, references, holder_of, is_held_at, is_among, lent_places}
+use Rattle.cover_law.specs.Below.heap_law.Sight.{sight}
+use Rattle.cover_law.specs.Below.heap_law.Words.{IsStale}
+use Rattle.cover_law.specs.Below.heap_law.Coherent.{Holds, first_at_holder}
+use Rattle.cover_law.proofs.Below.path_law.Sole.{some_is}
+use Rattle.cover_law.specs.Below.word_law.Reworded.{HasPlaces, Renewed, a_box, a_reference, Reworded}
+use Rattle.cover_law.specs.Below.word_law.Soles.{SameOutlines}
+use Rattle.cover_law.specs.Below.word_law.Unmoved.{pointing, taking_by, takings}
+use Rattle.cover_law.proofs.Below.word_law.Grounds.{same_place}
+use Rattle.cover_law.proofs.Below.word_law.Outlines.{leads_outline, soles_stay}
+use Rattle.cover_law.proofs.Below.word_law.Put.{Split}
+use Rattle.cover_law.specs.Below.move_law.Ended.{its_word}
+use Rattle.cover_law.proofs.Below.carry_law.Replaced.{at_b, in_slots, in_temps, in_cells}
+use Rattle.cover_law.proofs.Below.carry_law.Passing.{Here, slot, temp, nowhere, located, here}
+use Rattle.cover_law.proofs.Below.carry_law.Hands.{RootedIn}
+use Rattle.return_law.specs.Below.refs_law.Unpassed.{IsUnpassed}
+use Rattle.return_law.proofs.Below.refs_law.Chains.{held_there}
 use Rattle.return_law.proofs.Below.finish_law.EndPlaces.{Without}
 use Rattle.return_law.proofs.CellEnds.{same_takings, taken_same}
 use Rattle.cover_law.proofs.Below.hidden_law.EndMarks.{Leaving}

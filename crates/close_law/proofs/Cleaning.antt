@@ -2,50 +2,50 @@
 use Rattle.std.proofs.Common.{◌≡◌, inl, ℕ, ◌+◌, ◌==◌, nat_lt, Bool, true, false, if◌then◌else◌, Option, Some, None, refl, sym, ap, subst, ◌∙◌, arith}
 use Rattle.std.specs.Prelude.{⊤, slice_get}
 use Rattle.std.proofs.lemmas.Bool.Decides.{nat_tests}
-use Rattle.fr_base.specs.declared.name.ObjNo.{ObjNo}
-use Rattle.fr_base.specs.declared.instruction.Instr.{Instr}
-use Rattle.global_addr.specs.Words.{colour_of, server_of, next_word}
-use Rattle.heap_partition.specs.declared.value.Cell.{Cell}
-use Rattle.mut_borrow.specs.Refs.{cleaned_answer}
-use Rattle.mut_borrow.specs.declared.mutable.Cleaned.TheVariants.{Same, Tinted, MustRenew}
-use Rattle.mut_borrow.specs.declared.mutable.MutRef.{MutRef}
-use Rattle.owner_box.specs.View.{PartitionState}
-use Rattle.thread_state.specs.View.{ThreadState}
-use Rattle.thread_state.specs.declared.value.Value.TheVariants as value
-use Rattle.server_msgs.specs.declared.message.Message.TheVariants as message
-use Rattle.server_model.specs.declared.event.What.TheVariants.{Step}
-use Rattle.server_model.specs.Servers.{Server, Cluster, server_at}
-use Rattle.server_model.specs.Work.{Hand, thread_in, then_some}
-use Rattle.server_model.specs.NewWords.{NewWord, issue_tint, issue_renewal}
-use Rattle.server_model.specs.Places.{Spot, put_word, value_at}
-use Rattle.server_model.specs.Prepare.{Prepared, ready, requested, nothing, ready_at, ask_object, box_of, cleaned_by, clean_value}
-use Rattle.server_model.specs.Events.{enabled, begin_work}
-use Rattle.heap_law.specs.Things.{Location, in_cell}
-use Rattle.heap_law.specs.Follow.{cell_of, value_in, value_of}
-use Rattle.heap_law.specs.Stale.{holder_of}
-use Rattle.heap_law.specs.Sight.{Pointer, is_object_among, sight, issued}
-use Rattle.heap_law.specs.Words.{IsStale}
-use Rattle.type_law.specs.ClusterTypes.{IsCoherent}
-use Rattle.path_law.proofs.Contained.{reference_there}
-use Rattle.word_law.specs.Reworded.{HasPlaces}
-use Rattle.word_law.specs.WordsAfter.{Rewrites}
-use Rattle.word_law.proofs.Only.{are_only}
-use Rattle.word_law.proofs.Standing.{told, told_standing}
-use Rattle.event_law.specs.Laws.{FewEvents}
-use Rattle.local_law.proofs.Mail.{mail_sent}
-use Rattle.local_law.proofs.Messages.{Light}
-use Rattle.read_law.specs.Reading.{LiesUnder}
-use Rattle.read_law.proofs.Homes.{fresh_word}
-use Rattle.result_law.proofs.Known.{Steps}
-use Rattle.result_law.proofs.Pointing.{Stands, leads_home}
-use Rattle.prepare_law.proofs.Hands.{put, places, first_hand}
+use Rattle.cover_law.specs.Below.fr_base.declared.name.ObjNo.{ObjNo}
+use Rattle.cover_law.specs.Below.fr_base.declared.instruction.Instr.{Instr}
+use Rattle.cover_law.specs.Below.global_addr.Words.{colour_of, server_of, next_word}
+use Rattle.cover_law.specs.Below.heap_partition.declared.value.Cell.{Cell}
+use Rattle.cover_law.specs.Below.mut_borrow.Refs.{cleaned_answer}
+use Rattle.cover_law.specs.Below.mut_borrow.declared.mutable.Cleaned.TheVariants.{Same, Tinted, MustRenew}
+use Rattle.cover_law.specs.Below.mut_borrow.declared.mutable.MutRef.{MutRef}
+use Rattle.cover_law.specs.Below.owner_box.View.{PartitionState}
+use Rattle.cover_law.specs.Below.thread_state.View.{ThreadState}
+use Rattle.cover_law.specs.Below.thread_state.declared.value.Value.TheVariants as value
+use Rattle.cover_law.specs.Below.server_msgs.declared.message.Message.TheVariants as message
+use Rattle.cover_law.specs.Below.server_model.declared.event.What.TheVariants.{Step}
+use Rattle.cover_law.specs.Below.server_model.Servers.{Server, Cluster, server_at}
+use Rattle.cover_law.specs.Below.server_model.Work.{Hand, thread_in, then_some}
+use Rattle.cover_law.specs.Below.server_model.NewWords.{NewWord, issue_tint, issue_renewal}
+use Rattle.cover_law.specs.Below.server_model.Places.{Spot, put_word, value_at}
+use Rattle.cover_law.specs.Below.server_model.Prepare.{Prepared, ready, requested, nothing, ready_at, ask_object, box_of, cleaned_by, clean_value}
+use Rattle.cover_law.specs.Below.server_model.Events.{enabled, begin_work}
+use Rattle.cover_law.specs.Below.heap_law.Things.{Location, in_cell}
+use Rattle.cover_law.specs.Below.heap_law.Follow.{cell_of, value_in, value_of}
+use Rattle.cover_law.specs.Below.heap_law.Stale.{holder_of}
+use Rattle.cover_law.specs.Below.heap_law.Sight.{Pointer, is_object_among, sight, issued}
+use Rattle.cover_law.specs.Below.heap_law.Words.{IsStale}
+use Rattle.cover_law.specs.Below.type_law.ClusterTypes.{IsCoherent}
+use Rattle.cover_law.proofs.Below.path_law.Contained.{reference_there}
+use Rattle.cover_law.specs.Below.word_law.Reworded.{HasPlaces}
+use Rattle.cover_law.specs.Below.word_law.WordsAfter.{Rewrites}
+use Rattle.cover_law.proofs.Below.word_law.Only.{are_only}
+use Rattle.cover_law.proofs.Below.word_law.Standing.{told, told_standing}
+use Rattle.cover_law.specs.Below.event_law.Laws.{FewEvents}
+use Rattle.cover_law.proofs.Below.local_law.Mail.{mail_sent}
+use Rattle.cover_law.proofs.Below.local_law.Messages.{Light}
+use Rattle.cover_law.specs.Below.read_law.Reading.{LiesUnder}
+use Rattle.cover_law.proofs.Below.read_law.Homes.{fresh_word}
+use Rattle.cover_law.proofs.Below.result_law.Known.{Steps}
+use Rattle.cover_law.proofs.Below.result_law.Pointing.{Stands, leads_home}
+use Rattle.cover_law.proofs.Below.prepare_law.Hands.{put, places, first_hand}
 use Rattle.return_law.proofs.Below.finish_law.DirtyEnds.{Worded, tint, renew}
-use Rattle.write_law.proofs.Memory.{Leads, looked}
-use Rattle.write_law.proofs.StepRoutes.{sane_there, roomy}
-use Rattle.rewrite_law.proofs.Onward.{Lies}
-use Rattle.rewrite_law.proofs.Passing.{State, first_state}
-use Rattle.rewrite_law.proofs.Later.{later_itself}
-use Rattle.rewrite_law.proofs.Hops.{Boxed}
+use Rattle.cover_law.proofs.Below.write_law.Memory.{Leads, looked}
+use Rattle.cover_law.proofs.Below.write_law.StepRoutes.{sane_there, roomy}
+use Rattle.cover_law.proofs.Below.rewrite_law.Onward.{Lies}
+use Rattle.cover_law.proofs.Below.rewrite_law.Passing.{State, first_state}
+use Rattle.cover_law.proofs.Below.rewrite_law.Later.{later_itself}
+use Rattle.cover_law.proofs.Below.rewrite_law.Hops.{Boxed}
 use Rattle.return_law.proofs.Cleaned.{steps, End, fresh, lies}
 use Rattle.cover_law.proofs.Below.clean_law.Asked.{asking}
 use Rattle.cover_law.proofs.Below.clean_law.Worded.{dirty_found}

@@ -1,40 +1,40 @@
 -- The plain step of an end: the reference goes, the pointer at its holder is back, and where it is assigned over the value comes then. Each object is what it was, or covered.
 use Rattle.std.proofs.Common.{◌≡◌, ℕ, nat_lt, Bool, true, false, if◌then◌else◌, List, Option, Some, None, option_map, refl, sym, ap, subst, ◌∙◌}
 use Rattle.std.specs.Prelude.{slice_get, slice_set, length}
-use Rattle.fr_base.specs.declared.place.Lval.{Lval}
-use Rattle.fr_base.specs.declared.instruction.Operand.{Operand}
-use Rattle.fr_base.specs.declared.instruction.Operand.TheVariants as operand
-use Rattle.fr_base.specs.declared.instruction.Instr.TheVariants as instr
-use Rattle.fr_base.specs.declared.step.Fresh.TheVariants as fresh
-use Rattle.heap_partition.specs.declared.value.Owned.TheVariants as owned
-use Rattle.mut_borrow.specs.declared.mutable.MutRef.{MutRef}
-use Rattle.thread_state.specs.View.{ThreadState}
-use Rattle.thread_state.specs.declared.value.Value.{Value}
-use Rattle.thread_state.specs.declared.value.Value.TheVariants as value
-use Rattle.server_model.specs.Servers.{Server, Cluster, server_at}
-use Rattle.server_model.specs.Work.{Hand, Popped, last_of, front_of, with_slots, with_temps, thread_in, then_some, pop, unit}
-use Rattle.server_model.specs.Places.{Spot, put_slot}
-use Rattle.server_model.specs.Drop.{drop_value, finish}
-use Rattle.server_model.specs.Commit.{goes_on, commit, label_dropped, assign, replace_slot, discard, drop_slot}
-use Rattle.server_model.specs.Events.{Stepped, committed}
-use Rattle.heap_law.specs.Coherent.{IsSound}
-use Rattle.word_law.proofs.Slots.{set_other}
-use Rattle.event_law.specs.Laws.{Gives}
-use Rattle.event_law.proofs.Results.{weaker}
-use Rattle.event_law.proofs.Values.{last_split}
-use Rattle.stay_law.proofs.Steps.{TakesNoneHere, owned_unseen}
-use Rattle.carry_law.proofs.Hands.{Ok, Moved, seen, moved_on, places as then_places}
-use Rattle.carry_law.proofs.Passing.{Here, slot, temp}
-use Rattle.carry_law.proofs.Places.{end_other}
-use Rattle.carry_law.proofs.Steps.{Does, goes_over}
-use Rattle.refs_law.proofs.Chains.{cluster}
-use Rattle.refs_law.proofs.RefSteps.{emptied as emptied_hand, plain_comes, top_comes}
+use Rattle.cover_law.specs.Below.fr_base.declared.place.Lval.{Lval}
+use Rattle.cover_law.specs.Below.fr_base.declared.instruction.Operand.{Operand}
+use Rattle.cover_law.specs.Below.fr_base.declared.instruction.Operand.TheVariants as operand
+use Rattle.cover_law.specs.Below.fr_base.declared.instruction.Instr.TheVariants as instr
+use Rattle.cover_law.specs.Below.fr_base.declared.step.Fresh.TheVariants as fresh
+use Rattle.cover_law.specs.Below.heap_partition.declared.value.Owned.TheVariants as owned
+use Rattle.cover_law.specs.Below.mut_borrow.declared.mutable.MutRef.{MutRef}
+use Rattle.cover_law.specs.Below.thread_state.View.{ThreadState}
+use Rattle.cover_law.specs.Below.thread_state.declared.value.Value.{Value}
+use Rattle.cover_law.specs.Below.thread_state.declared.value.Value.TheVariants as value
+use Rattle.cover_law.specs.Below.server_model.Servers.{Server, Cluster, server_at}
+use Rattle.cover_law.specs.Below.server_model.Work.{Hand, Popped, last_of, front_of, with_slots, with_temps, thread_in, then_some, pop, unit}
+use Rattle.cover_law.specs.Below.server_model.Places.{Spot, put_slot}
+use Rattle.cover_law.specs.Below.server_model.Drop.{drop_value, finish}
+use Rattle.cover_law.specs.Below.server_model.Commit.{goes_on, commit, label_dropped, assign, replace_slot, discard, drop_slot}
+use Rattle.cover_law.specs.Below.server_model.Events.{Stepped, committed}
+use Rattle.cover_law.specs.Below.heap_law.Coherent.{IsSound}
+use Rattle.cover_law.proofs.Below.word_law.Slots.{set_other}
+use Rattle.cover_law.specs.Below.event_law.Laws.{Gives}
+use Rattle.cover_law.proofs.Below.event_law.Results.{weaker}
+use Rattle.cover_law.proofs.Below.event_law.Values.{last_split}
+use Rattle.cover_law.proofs.Below.stay_law.Steps.{TakesNoneHere, owned_unseen}
+use Rattle.cover_law.proofs.Below.carry_law.Hands.{Ok, Moved, seen, moved_on, places as then_places}
+use Rattle.cover_law.proofs.Below.carry_law.Passing.{Here, slot, temp}
+use Rattle.cover_law.proofs.Below.carry_law.Places.{end_other}
+use Rattle.cover_law.proofs.Below.carry_law.Steps.{Does, goes_over}
+use Rattle.return_law.proofs.Below.refs_law.Chains.{cluster}
+use Rattle.return_law.proofs.Below.refs_law.RefSteps.{emptied as emptied_hand, plain_comes, top_comes}
 use Rattle.cover_law.proofs.Below.through_law.Marking.{together_by}
 use Rattle.return_law.proofs.Below.finish_law.EndHands.{Base, Goes}
 use Rattle.return_law.proofs.Returns.{Shape, newest, top, emptied, after}
-use Rattle.type_law.specs.ClusterTypes.{IsCoherent}
-use Rattle.carry_law.proofs.Hands.{moved_over}
-use Rattle.copy_law.proofs.Clean.{all_goes}
+use Rattle.cover_law.specs.Below.type_law.ClusterTypes.{IsCoherent}
+use Rattle.cover_law.proofs.Below.carry_law.Hands.{moved_over}
+use Rattle.cover_law.proofs.Below.copy_law.Clean.{all_goes}
 use Rattle.cover_law.proofs.Below.hidden_law.Settled.{settled_on}
 use Rattle.cover_law.proofs.Hops.{Now}
 use Rattle.close_law.proofs.Backs.{Back}

@@ -1,58 +1,58 @@
 -- Copies are right after each end of a mutable reference, wherever its holder's pointer stands.
 use Rattle.std.proofs.Common.{◌≡◌, inl, inr, ⊎_elim, ℕ, ◌+◌, ◌-◌, ◌==◌, true, false, List, [], ◌∷◌, ◌++◌, length, Option, Some, None, refl, sym, ap, subst, ◌∙◌, arith}
 use Rattle.std.specs.Prelude.{slice_get, slice_set}
-use Rattle.fr_base.specs.declared.place.Lval.{Lval}
-use Rattle.fr_base.specs.declared.instruction.Operand.{Operand}
-use Rattle.fr_base.specs.declared.instruction.Instr.{Instr}
-use Rattle.fr_base.specs.declared.instruction.Instr.TheVariants as instr
-use Rattle.fr_store.specs.Keys.{slot_k, temp_k}
-use Rattle.fr_store.specs.Typed.{KeyTypes, Unnamed}
-use Rattle.mut_borrow.specs.declared.mutable.MutRef.{MutRef}
-use Rattle.thread_state.specs.View.{ThreadState}
-use Rattle.thread_state.specs.declared.value.Value.{Value}
-use Rattle.thread_state.specs.declared.value.Value.TheVariants as value
-use Rattle.server_model.specs.declared.event.What.TheVariants.{Step}
-use Rattle.server_model.specs.Servers.{Server, Cluster, server_at}
-use Rattle.server_model.specs.Work.{Hand, last_of, front_of, with_slots, thread_in}
-use Rattle.server_model.specs.Places.{Spot, in_slot, on_top, in_cell, nowhere as no_spot}
-use Rattle.server_model.specs.Prepare.{EndRef, Prepared, ready, requested, nothing, and_then, clean_value, follow_ended, unlabelled, ending, assigned, prepare}
-use Rattle.server_model.specs.Commit.{commit}
-use Rattle.server_model.specs.Places.{value_at}
-use Rattle.server_model.specs.Events.{enabled, begin_work, Stepped, committed, prepared, step}
-use Rattle.heap_law.specs.Things.{Location, at_slot, at_temp, in_cell as in_object}
-use Rattle.heap_law.specs.Follow.{Standing, slot_of, temp_of, value_in}
-use Rattle.heap_law.specs.Paths.{ends, path_of, assigning, ending as path_ending}
-use Rattle.heap_law.specs.Sight.{sight}
-use Rattle.heap_law.specs.Walking.{path}
-use Rattle.type_law.specs.ClusterTypes.{IsCoherent}
-use Rattle.path_law.specs.HeapStore.{HasPaths, GoesOn}
-use Rattle.path_law.specs.Pointing.{assigns as assigns_to}
-use Rattle.path_law.proofs.FreshPaths.{slot_there, temp_there}
-use Rattle.path_law.proofs.Pointers.{temp_unnamed}
-use Rattle.path_law.proofs.Shown.{stands_there}
-use Rattle.path_law.proofs.Sole.{some_is}
-use Rattle.end_law.specs.Dropped.{written, dropped}
-use Rattle.end_law.proofs.Ends.{EndsAt, key_of}
-use Rattle.end_law.proofs.Given.{given_up_may_be}
-use Rattle.word_law.proofs.Slots.{set_other}
-use Rattle.word_law.proofs.Tints.{slot_stands}
-use Rattle.event_law.specs.Kinds.{instr_kind}
-use Rattle.event_law.specs.Laws.{Gives, FewEvents}
-use Rattle.event_law.proofs.Objects.{length_set}
-use Rattle.event_law.proofs.Proved.{IsProvedKind}
-use Rattle.event_law.proofs.Results.{weaker, both_give}
-use Rattle.event_law.proofs.Values.{last_split}
-use Rattle.stay_law.proofs.Steps.{TakesNoneHere}
-use Rattle.prepare_law.proofs.Hands.{put, places, stands}
-use Rattle.prepare_law.proofs.Asking.{found_number}
-use Rattle.carry_law.proofs.Hands.{Ok}
-use Rattle.carry_law.proofs.Passing.{Here, slot, temp, nowhere, located, here}
-use Rattle.result_law.proofs.Known.{Steps, standing, paths, goes}
-use Rattle.write_law.proofs.Holders.{route}
-use Rattle.rewrite_law.proofs.Onward.{Lies}
-use Rattle.rewrite_law.proofs.Passing.{State}
+use Rattle.cover_law.specs.Below.fr_base.declared.place.Lval.{Lval}
+use Rattle.cover_law.specs.Below.fr_base.declared.instruction.Operand.{Operand}
+use Rattle.cover_law.specs.Below.fr_base.declared.instruction.Instr.{Instr}
+use Rattle.cover_law.specs.Below.fr_base.declared.instruction.Instr.TheVariants as instr
+use Rattle.cover_law.specs.Below.fr_store.Keys.{slot_k, temp_k}
+use Rattle.cover_law.specs.Below.fr_store.Typed.{KeyTypes, Unnamed}
+use Rattle.cover_law.specs.Below.mut_borrow.declared.mutable.MutRef.{MutRef}
+use Rattle.cover_law.specs.Below.thread_state.View.{ThreadState}
+use Rattle.cover_law.specs.Below.thread_state.declared.value.Value.{Value}
+use Rattle.cover_law.specs.Below.thread_state.declared.value.Value.TheVariants as value
+use Rattle.cover_law.specs.Below.server_model.declared.event.What.TheVariants.{Step}
+use Rattle.cover_law.specs.Below.server_model.Servers.{Server, Cluster, server_at}
+use Rattle.cover_law.specs.Below.server_model.Work.{Hand, last_of, front_of, with_slots, thread_in}
+use Rattle.cover_law.specs.Below.server_model.Places.{Spot, in_slot, on_top, in_cell, nowhere as no_spot}
+use Rattle.cover_law.specs.Below.server_model.Prepare.{EndRef, Prepared, ready, requested, nothing, and_then, clean_value, follow_ended, unlabelled, ending, assigned, prepare}
+use Rattle.cover_law.specs.Below.server_model.Commit.{commit}
+use Rattle.cover_law.specs.Below.server_model.Places.{value_at}
+use Rattle.cover_law.specs.Below.server_model.Events.{enabled, begin_work, Stepped, committed, prepared, step}
+use Rattle.cover_law.specs.Below.heap_law.Things.{Location, at_slot, at_temp, in_cell as in_object}
+use Rattle.cover_law.specs.Below.heap_law.Follow.{Standing, slot_of, temp_of, value_in}
+use Rattle.cover_law.specs.Below.heap_law.Paths.{ends, path_of, assigning, ending as path_ending}
+use Rattle.cover_law.specs.Below.heap_law.Sight.{sight}
+use Rattle.cover_law.specs.Below.heap_law.Walking.{path}
+use Rattle.cover_law.specs.Below.type_law.ClusterTypes.{IsCoherent}
+use Rattle.cover_law.specs.Below.path_law.HeapStore.{HasPaths, GoesOn}
+use Rattle.cover_law.specs.Below.path_law.Pointing.{assigns as assigns_to}
+use Rattle.cover_law.proofs.Below.path_law.FreshPaths.{slot_there, temp_there}
+use Rattle.cover_law.proofs.Below.path_law.Pointers.{temp_unnamed}
+use Rattle.cover_law.proofs.Below.path_law.Shown.{stands_there}
+use Rattle.cover_law.proofs.Below.path_law.Sole.{some_is}
+use Rattle.cover_law.specs.Below.end_law.Dropped.{written, dropped}
+use Rattle.cover_law.proofs.Below.end_law.Ends.{EndsAt, key_of}
+use Rattle.cover_law.proofs.Below.end_law.Given.{given_up_may_be}
+use Rattle.cover_law.proofs.Below.word_law.Slots.{set_other}
+use Rattle.cover_law.proofs.Below.word_law.Tints.{slot_stands}
+use Rattle.cover_law.specs.Below.event_law.Kinds.{instr_kind}
+use Rattle.cover_law.specs.Below.event_law.Laws.{Gives, FewEvents}
+use Rattle.cover_law.proofs.Below.event_law.Objects.{length_set}
+use Rattle.cover_law.proofs.Below.event_law.Proved.{IsProvedKind}
+use Rattle.cover_law.proofs.Below.event_law.Results.{weaker, both_give}
+use Rattle.cover_law.proofs.Below.event_law.Values.{last_split}
+use Rattle.cover_law.proofs.Below.stay_law.Steps.{TakesNoneHere}
+use Rattle.cover_law.proofs.Below.prepare_law.Hands.{put, places, stands}
+use Rattle.cover_law.proofs.Below.prepare_law.Asking.{found_number}
+use Rattle.cover_law.proofs.Below.carry_law.Hands.{Ok}
+use Rattle.cover_law.proofs.Below.carry_law.Passing.{Here, slot, temp, nowhere, located, here}
+use Rattle.cover_law.proofs.Below.result_law.Known.{Steps, standing, paths, goes}
+use Rattle.cover_law.proofs.Below.write_law.Holders.{route}
+use Rattle.cover_law.proofs.Below.rewrite_law.Onward.{Lies}
+use Rattle.cover_law.proofs.Below.rewrite_law.Passing.{State}
 use Rattle.cover_law.proofs.Below.through_law.Marking.{mark_state}
-use Rattle.refs_law.specs.Unpassed.{IsUnpassed}
+use Rattle.return_law.specs.Below.refs_law.Unpassed.{IsUnpassed}
 use Rattle.return_law.specs.Below.finish_law.Ends.{EndsReference, drops, discards, assigns}
 use Rattle.return_law.proofs.Below.finish_law.EndHands.{length_end, newest_there, bare, Base, AtEnd}
 use Rattle.return_law.proofs.Below.finish_law.EndEvents.{drop_takes, discard_takes, assign_takes, given_unpassed, temp_unpassed, untaken_here, ok_steps}
@@ -61,8 +61,8 @@ use Rattle.return_law.proofs.Cleaned.{steps, End, lies}
 use Rattle.return_law.proofs.Following.{leads, AtHolder, holder_slot, holder_cell, Ready, EndFine, prepared_so}
 use Rattle.return_law.proofs.EndStates.{base, at_end}
 use Rattle.return_law.proofs.Returns.{marks, noted, marks_other}
-use Rattle.server_model.specs.Servers.{Rest}
-use Rattle.write_law.proofs.Holders.{TakesWord}
+use Rattle.cover_law.specs.Below.server_model.Servers.{Rest}
+use Rattle.cover_law.proofs.Below.write_law.Holders.{TakesWord}
 use Rattle.cover_law.proofs.Below.clean_law.Asked.{ready_asks}
 use Rattle.cover_law.specs.Below.fresh_law.Fresh.{LeavesRight}
 use Rattle.cover_law.proofs.Below.fresh_law.Turned.{none_or_idle}
@@ -254,8 +254,8 @@ module _ (k : Cluster) (coherent : IsCoherent k) (few : FewEvents k) (s : Server
                   (back_slot k coherent s here_it t y at H q bs st.untaken from e.it.at (at_slot y.number m) place is en rn.now m v u.0 word (ap (λ b. at_slot b m) (sym rd.number)) (not_from m away) there u.1);
             }
 
-        in_cells : (b : ℕ) (w : Option ℕ) (d : Rattle.heap_partition.specs.declared.value.Cell.Cell) (p : Rattle.heap_partition.specs.declared.value.BoxPtr.BoxPtr) → (q.word == q.first) ≡ false → end ≡ in_cell b w → place_of r.holder.depth ≡ Some (in_object d.object)
-            → Rattle.write_law.proofs.Memory.Leads h.work.rest.partition b d → d.value ≡ Rattle.heap_partition.specs.declared.value.Owned.TheVariants.Box p → Rattle.rewrite_law.proofs.Hops.Walk k coherent s here_it t y at h (in_cell b w) → ((m : ℕ) → w ≡ Some m → e.it.at ≡ at_slot y.number m → ⊥) → Ending h end q from
+        in_cells : (b : ℕ) (w : Option ℕ) (d : Rattle.cover_law.specs.Below.heap_partition.declared.value.Cell.Cell) (p : Rattle.cover_law.specs.Below.heap_partition.declared.value.BoxPtr.BoxPtr) → (q.word == q.first) ≡ false → end ≡ in_cell b w → place_of r.holder.depth ≡ Some (in_object d.object)
+            → Rattle.cover_law.proofs.Below.write_law.Memory.Leads h.work.rest.partition b d → d.value ≡ Rattle.cover_law.specs.Below.heap_partition.declared.value.Owned.TheVariants.Box p → Rattle.cover_law.proofs.Below.rewrite_law.Hops.Walk k coherent s here_it t y at h (in_cell b w) → ((m : ℕ) → w ≡ Some m → e.it.at ≡ at_slot y.number m → ⊥) → Ending h end q from
         in_cells b w d p word at_b final lead boxed walk away =
             record {
               hb = hb;

@@ -2,41 +2,41 @@
 use Rattle.std.proofs.Common.{◌≡◌, ◌≢◌, ℕ, ◌+◌, ◌==◌, nat_lt, Bool, true, false, if◌then◌else◌, length, Option, Some, None, refl, sym, ap, subst, ◌∙◌, arith}
 use Rattle.std.specs.Prelude.{slice_get, slice_set}
 use Rattle.std.proofs.lemmas.Bool.Decides.{nat_tests}
-use Rattle.mut_borrow.specs.declared.mutable.MutRef.{MutRef}
-use Rattle.thread_state.specs.View.{ThreadState}
-use Rattle.thread_state.specs.declared.value.Value.{Value}
-use Rattle.thread_state.specs.declared.value.Value.TheVariants as value
-use Rattle.server_model.specs.Servers.{Server, Cluster, server_at}
-use Rattle.server_model.specs.Work.{Hand, with_slots, thread_in, then_some}
-use Rattle.server_model.specs.Places.{in_slot as spot_slot, nowhere as no_spot, with_word, put_at, set_pointer}
-use Rattle.server_model.specs.Drop.{finish, finished_at}
-use Rattle.mut_borrow.specs.Refs.{finish_word}
-use Rattle.event_law.specs.Laws.{Gives}
-use Rattle.word_law.proofs.Slots.{set_other}
-use Rattle.heap_law.specs.Names.{Among, other}
-use Rattle.heap_law.specs.Things.{Location, at_slot, thread_things, things_of}
-use Rattle.heap_law.specs.Follow.{Ground, cells_in, value_in, value_behind}
-use Rattle.heap_law.specs.Stale.{Reference, references, holder_of}
-use Rattle.heap_law.specs.Sight.{sight}
-use Rattle.heap_law.specs.Placing.{is_first, other_first}
-use Rattle.heap_law.proofs.Words.{none_at}
-use Rattle.type_law.specs.ClusterTypes.{IsCoherent}
-use Rattle.path_law.proofs.Contained.{reference_there}
-use Rattle.word_law.proofs.Put.{Split, put_split}
-use Rattle.move_law.specs.Ended.{Ended}
-use Rattle.prepare_law.proofs.Hands.{put}
-use Rattle.carry_law.proofs.Hands.{stands_here}
-use Rattle.carry_law.proofs.Passing.{Here, slot, located, here}
-use Rattle.carry_law.proofs.Replaced.{cells_same}
+use Rattle.cover_law.specs.Below.mut_borrow.declared.mutable.MutRef.{MutRef}
+use Rattle.cover_law.specs.Below.thread_state.View.{ThreadState}
+use Rattle.cover_law.specs.Below.thread_state.declared.value.Value.{Value}
+use Rattle.cover_law.specs.Below.thread_state.declared.value.Value.TheVariants as value
+use Rattle.cover_law.specs.Below.server_model.Servers.{Server, Cluster, server_at}
+use Rattle.cover_law.specs.Below.server_model.Work.{Hand, with_slots, thread_in, then_some}
+use Rattle.cover_law.specs.Below.server_model.Places.{in_slot as spot_slot, nowhere as no_spot, with_word, put_at, set_pointer}
+use Rattle.cover_law.specs.Below.server_model.Drop.{finish, finished_at}
+use Rattle.cover_law.specs.Below.mut_borrow.Refs.{finish_word}
+use Rattle.cover_law.specs.Below.event_law.Laws.{Gives}
+use Rattle.cover_law.proofs.Below.word_law.Slots.{set_other}
+use Rattle.cover_law.specs.Below.heap_law.Names.{Among, other}
+use Rattle.cover_law.specs.Below.heap_law.Things.{Location, at_slot, thread_things, things_of}
+use Rattle.cover_law.specs.Below.heap_law.Follow.{Ground, cells_in, value_in, value_behind}
+use Rattle.cover_law.specs.Below.heap_law.Stale.{Reference, references, holder_of}
+use Rattle.cover_law.specs.Below.heap_law.Sight.{sight}
+use Rattle.cover_law.specs.Below.heap_law.Placing.{is_first, other_first}
+use Rattle.cover_law.proofs.Below.heap_law.Words.{none_at}
+use Rattle.cover_law.specs.Below.type_law.ClusterTypes.{IsCoherent}
+use Rattle.cover_law.proofs.Below.path_law.Contained.{reference_there}
+use Rattle.cover_law.proofs.Below.word_law.Put.{Split, put_split}
+use Rattle.cover_law.specs.Below.move_law.Ended.{Ended}
+use Rattle.cover_law.proofs.Below.prepare_law.Hands.{put}
+use Rattle.cover_law.proofs.Below.carry_law.Hands.{stands_here}
+use Rattle.cover_law.proofs.Below.carry_law.Passing.{Here, slot, located, here}
+use Rattle.cover_law.proofs.Below.carry_law.Replaced.{cells_same}
 use Rattle.return_law.proofs.Below.finish_law.EndHands.{set_apart, is_so, Base, AtEnd, Goes, finishes}
 use Rattle.return_law.proofs.Below.finish_law.EndSteps.{Finishes, is_end}
 use Rattle.return_law.proofs.Below.finish_law.EndPlaces.{Without, newest_without, emptied_without, top_without, first_finishes, word_finishes}
 use Rattle.return_law.proofs.Returns.{Shape, newest, top, emptied}
-use Rattle.stay_law.proofs.Steps.{TakesNoneHere}
+use Rattle.cover_law.proofs.Below.stay_law.Steps.{TakesNoneHere}
 use Rattle.cover_law.proofs.Below.hidden_law.EndMarks.{leaving_by, end_marks}
 use Rattle.cover_law.proofs.Hops.{Now}
 use Rattle.cover_law.proofs.Others.{settled_marks}
-use Rattle.server_model.specs.Places.{Spot}
+use Rattle.cover_law.specs.Below.server_model.Places.{Spot}
 use Rattle.close_law.proofs.Backs.{Back}
 
 same_word : (r : MutRef) → (r.word == r.first) ≡ true → r.word ≡ r.first

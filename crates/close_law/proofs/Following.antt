@@ -1,43 +1,43 @@
 -- The place of the holder of a reference that ends is followed: each object is what it was, or covered, all the way.
 use Rattle.std.proofs.Common.{◌≡◌, ℕ, zero, suc, ◌<◌, ◌≤◌, true, false, is_some, Option, Some, None, refl, sym, ap, ◌∙◌, arith}
 use Rattle.std.specs.Prelude.{slice_get}
-use Rattle.fr_base.specs.declared.name.ObjNo.{ObjNo}
-use Rattle.fr_base.specs.declared.instruction.Operand.{Operand}
-use Rattle.fr_base.specs.declared.instruction.Instr.{Instr}
-use Rattle.fr_base.specs.declared.instruction.Instr.TheVariants as instr
-use Rattle.fr_code.specs.CodeTypes.{Entry, Table, InstrTypes, i_par_end}
-use Rattle.heap_partition.specs.declared.value.BoxPtr.{BoxPtr}
-use Rattle.heap_partition.specs.declared.value.Cell.{Cell}
-use Rattle.mut_borrow.specs.declared.mutable.MutRef.{MutRef}
-use Rattle.owner_box.specs.View.{PartitionState}
-use Rattle.thread_state.specs.View.{ThreadState}
-use Rattle.thread_state.specs.declared.value.Value.TheVariants as value
-use Rattle.server_model.specs.declared.event.What.TheVariants.{Step}
-use Rattle.server_model.specs.Servers.{Rest, Server, Cluster, server_at}
-use Rattle.server_model.specs.Work.{Hand, thread_in}
-use Rattle.server_model.specs.Places.{Spot, in_slot}
-use Rattle.server_model.specs.Prepare.{Prepared, write_stars}
-use Rattle.server_model.specs.Events.{enabled}
-use Rattle.heap_law.specs.Things.{Location, at_slot, in_cell as in_object}
-use Rattle.heap_law.specs.Follow.{Standing}
-use Rattle.heap_law.specs.OneHeap.{two_in, pair_of}
-use Rattle.heap_law.specs.Paths.{written_place}
-use Rattle.heap_law.specs.Sight.{sight}
-use Rattle.heap_law.specs.Walking.{path}
-use Rattle.type_law.specs.ClusterTypes.{IsCoherent}
-use Rattle.path_law.specs.HeapStore.{HasPaths}
-use Rattle.path_law.proofs.Forms.{running_typed}
-use Rattle.path_law.proofs.Shown.{stands_there}
-use Rattle.event_law.specs.Laws.{FewEvents}
-use Rattle.result_law.proofs.Known.{Steps, standing, paths, goes, types, entry, typed}
-use Rattle.result_law.proofs.Readers.{to_entry}
+use Rattle.cover_law.specs.Below.fr_base.declared.name.ObjNo.{ObjNo}
+use Rattle.cover_law.specs.Below.fr_base.declared.instruction.Operand.{Operand}
+use Rattle.cover_law.specs.Below.fr_base.declared.instruction.Instr.{Instr}
+use Rattle.cover_law.specs.Below.fr_base.declared.instruction.Instr.TheVariants as instr
+use Rattle.cover_law.specs.Below.fr_code.CodeTypes.{Entry, Table, InstrTypes, i_par_end}
+use Rattle.cover_law.specs.Below.heap_partition.declared.value.BoxPtr.{BoxPtr}
+use Rattle.cover_law.specs.Below.heap_partition.declared.value.Cell.{Cell}
+use Rattle.cover_law.specs.Below.mut_borrow.declared.mutable.MutRef.{MutRef}
+use Rattle.cover_law.specs.Below.owner_box.View.{PartitionState}
+use Rattle.cover_law.specs.Below.thread_state.View.{ThreadState}
+use Rattle.cover_law.specs.Below.thread_state.declared.value.Value.TheVariants as value
+use Rattle.cover_law.specs.Below.server_model.declared.event.What.TheVariants.{Step}
+use Rattle.cover_law.specs.Below.server_model.Servers.{Rest, Server, Cluster, server_at}
+use Rattle.cover_law.specs.Below.server_model.Work.{Hand, thread_in}
+use Rattle.cover_law.specs.Below.server_model.Places.{Spot, in_slot}
+use Rattle.cover_law.specs.Below.server_model.Prepare.{Prepared, write_stars}
+use Rattle.cover_law.specs.Below.server_model.Events.{enabled}
+use Rattle.cover_law.specs.Below.heap_law.Things.{Location, at_slot, in_cell as in_object}
+use Rattle.cover_law.specs.Below.heap_law.Follow.{Standing}
+use Rattle.cover_law.specs.Below.heap_law.OneHeap.{two_in, pair_of}
+use Rattle.cover_law.specs.Below.heap_law.Paths.{written_place}
+use Rattle.cover_law.specs.Below.heap_law.Sight.{sight}
+use Rattle.cover_law.specs.Below.heap_law.Walking.{path}
+use Rattle.cover_law.specs.Below.type_law.ClusterTypes.{IsCoherent}
+use Rattle.cover_law.specs.Below.path_law.HeapStore.{HasPaths}
+use Rattle.cover_law.proofs.Below.path_law.Forms.{running_typed}
+use Rattle.cover_law.proofs.Below.path_law.Shown.{stands_there}
+use Rattle.cover_law.specs.Below.event_law.Laws.{FewEvents}
+use Rattle.cover_law.proofs.Below.result_law.Known.{Steps, standing, paths, goes, types, entry, typed}
+use Rattle.cover_law.proofs.Below.result_law.Readers.{to_entry}
 use Rattle.cover_law.proofs.Below.wait_law.Written.{InChain, chain_of_holder}
 use Rattle.return_law.specs.Below.finish_law.Ends.{EndsReference, drops, discards, assigns}
-use Rattle.write_law.proofs.Holders.{C, at as place_at, short_holder, route, object_away, slot_away}
-use Rattle.write_law.proofs.Route.{Route, begins, a_slot, rerouted}
-use Rattle.write_law.proofs.StepRoutes.{roomy}
-use Rattle.rewrite_law.proofs.Onward.{IsWritten}
-use Rattle.rewrite_law.proofs.Walks.{BoxAt, in_a_slot, in_a_cell}
+use Rattle.cover_law.proofs.Below.write_law.Holders.{C, at as place_at, short_holder, route, object_away, slot_away}
+use Rattle.cover_law.proofs.Below.write_law.Route.{Route, begins, a_slot, rerouted}
+use Rattle.cover_law.proofs.Below.write_law.StepRoutes.{roomy}
+use Rattle.cover_law.proofs.Below.rewrite_law.Onward.{IsWritten}
+use Rattle.cover_law.proofs.Below.rewrite_law.Walks.{BoxAt, in_a_slot, in_a_cell}
 use Rattle.return_law.proofs.Cleaned.{steps, End, Cleaned}
 use Rattle.return_law.proofs.HolderSoles.{written_there, words_there}
 use Rattle.cover_law.specs.Below.hidden_law.Hidden.{NoneUnder}

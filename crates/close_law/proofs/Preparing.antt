@@ -1,22 +1,22 @@
 -- A reference that ends is cleaned, and its holder's place followed where that gets a word: each object is what it was, or covered, and nothing is asked for but an object.
 use Rattle.std.proofs.Common.{◌≡◌, ℕ, ◌==◌, Bool, true, false, if◌then◌else◌, Option, Some, None, sym, subst, ◌∙◌, arith}
 use Rattle.std.specs.Prelude.{⊤, slice_get}
-use Rattle.fr_base.specs.declared.place.Lval.{Lval}
-use Rattle.fr_base.specs.declared.instruction.Instr.{Instr}
-use Rattle.heap_partition.specs.declared.value.Cell.{Cell}
-use Rattle.mut_borrow.specs.declared.mutable.MutRef.{MutRef}
-use Rattle.thread_state.specs.View.{ThreadState}
-use Rattle.server_model.specs.declared.event.What.TheVariants.{Step}
-use Rattle.server_model.specs.Servers.{Rest, Server, Cluster, server_at}
-use Rattle.server_model.specs.Work.{Hand, thread_in}
-use Rattle.server_model.specs.Places.{Spot, in_slot, in_cell, nowhere, value_at, note_write}
-use Rattle.server_model.specs.Prepare.{Prepared, ready, requested, nothing, and_then, clean_value, follow_holder, follow_ended, write_stars}
-use Rattle.server_model.specs.Events.{enabled, begin_work}
-use Rattle.heap_law.specs.Things.{Location, in_cell as in_object}
-use Rattle.type_law.specs.ClusterTypes.{IsCoherent}
-use Rattle.path_law.proofs.Sole.{some_is}
-use Rattle.event_law.specs.Laws.{FewEvents}
-use Rattle.rewrite_law.proofs.Hops.{Walk}
+use Rattle.cover_law.specs.Below.fr_base.declared.place.Lval.{Lval}
+use Rattle.cover_law.specs.Below.fr_base.declared.instruction.Instr.{Instr}
+use Rattle.cover_law.specs.Below.heap_partition.declared.value.Cell.{Cell}
+use Rattle.cover_law.specs.Below.mut_borrow.declared.mutable.MutRef.{MutRef}
+use Rattle.cover_law.specs.Below.thread_state.View.{ThreadState}
+use Rattle.cover_law.specs.Below.server_model.declared.event.What.TheVariants.{Step}
+use Rattle.cover_law.specs.Below.server_model.Servers.{Rest, Server, Cluster, server_at}
+use Rattle.cover_law.specs.Below.server_model.Work.{Hand, thread_in}
+use Rattle.cover_law.specs.Below.server_model.Places.{Spot, in_slot, in_cell, nowhere, value_at, note_write}
+use Rattle.cover_law.specs.Below.server_model.Prepare.{Prepared, ready, requested, nothing, and_then, clean_value, follow_holder, follow_ended, write_stars}
+use Rattle.cover_law.specs.Below.server_model.Events.{enabled, begin_work}
+use Rattle.cover_law.specs.Below.heap_law.Things.{Location, in_cell as in_object}
+use Rattle.cover_law.specs.Below.type_law.ClusterTypes.{IsCoherent}
+use Rattle.cover_law.proofs.Below.path_law.Sole.{some_is}
+use Rattle.cover_law.specs.Below.event_law.Laws.{FewEvents}
+use Rattle.cover_law.proofs.Below.rewrite_law.Hops.{Walk}
 use Rattle.return_law.proofs.Cleaned.{End, Cleaned, CleanFine, cleans}
 use Rattle.cover_law.proofs.Hops.{Now, SentBy, Fair}
 use Rattle.cover_law.proofs.Walks.{ready_fair, asks_fair, no_fair}

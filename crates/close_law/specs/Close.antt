@@ -1,9 +1,9 @@
 -- COPIES STAY PRESENT CELLS where a mutable reference ends (this project's rules), wherever the pointer stands that it was made from.
 use Rattle.std.specs.Prelude.{ℕ}
-use Rattle.fr_base.specs.declared.instruction.Instr.{Instr}
-use Rattle.mut_borrow.specs.declared.mutable.MutRef.{MutRef}
-use Rattle.thread_state.specs.View.{ThreadState}
-use Rattle.server_model.specs.Servers.{Server, Cluster}
+use Rattle.cover_law.specs.Below.fr_base.declared.instruction.Instr.{Instr}
+use Rattle.cover_law.specs.Below.mut_borrow.declared.mutable.MutRef.{MutRef}
+use Rattle.cover_law.specs.Below.thread_state.View.{ThreadState}
+use Rattle.cover_law.specs.Below.server_model.Servers.{Server, Cluster}
 use Rattle.return_law.specs.Below.finish_law.Ends.{EndsReference}
 use Rattle.cover_law.specs.Below.fresh_law.Fresh.{StepLeavesRight}
 

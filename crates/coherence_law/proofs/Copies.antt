@@ -1,40 +1,40 @@
 -- Copies are right after each event, kind by kind.
 use Rattle.std.proofs.Common.{◌≡◌, ℕ, true, false, Option, Some, None, option_map, refl, sym, ap, subst, ◌∙◌}
 use Rattle.std.specs.Prelude.{slice_get, length}
-use Rattle.fr_base.specs.declared.instruction.Instr.{Instr}
-use Rattle.fr_base.specs.declared.instruction.Instr.TheVariants as instr
-use Rattle.journal.specs.View.{EntryView}
-use Rattle.thread_state.specs.View.{ThreadState}
-use Rattle.server_msgs.specs.declared.message.Message.{Message}
-use Rattle.server_msgs.specs.declared.message.Message.TheVariants as message
-use Rattle.server_model.specs.declared.event.What.{What}
-use Rattle.server_model.specs.declared.event.What.TheVariants.{Step, Deliver, Evict, Migrate}
-use Rattle.server_model.specs.Servers.{Server, Cluster, server_at}
-use Rattle.server_model.specs.Work.{then_some, thread_in}
-use Rattle.server_model.specs.Clusters.{hand_over_newer, done_at, apply}
-use Rattle.server_model.specs.Events.{begin_work, left_by, received, deliver_message, stepped, step, step_in}
-use Rattle.type_law.specs.ClusterTypes.{IsCoherent}
+use Rattle.heap_law.specs.Below.fr_base.declared.instruction.Instr.{Instr}
+use Rattle.heap_law.specs.Below.fr_base.declared.instruction.Instr.TheVariants as instr
+use Rattle.heap_law.specs.Below.journal.View.{EntryView}
+use Rattle.heap_law.specs.Below.thread_state.View.{ThreadState}
+use Rattle.heap_law.specs.Below.server_msgs.declared.message.Message.{Message}
+use Rattle.heap_law.specs.Below.server_msgs.declared.message.Message.TheVariants as message
+use Rattle.heap_law.specs.Below.server_model.declared.event.What.{What}
+use Rattle.heap_law.specs.Below.server_model.declared.event.What.TheVariants.{Step, Deliver, Evict, Migrate}
+use Rattle.heap_law.specs.Below.server_model.Servers.{Server, Cluster, server_at}
+use Rattle.heap_law.specs.Below.server_model.Work.{then_some, thread_in}
+use Rattle.heap_law.specs.Below.server_model.Clusters.{hand_over_newer, done_at, apply}
+use Rattle.heap_law.specs.Below.server_model.Events.{begin_work, left_by, received, deliver_message, stepped, step, step_in}
+use Rattle.local_law.specs.Below.type_law.ClusterTypes.{IsCoherent}
 use Rattle.event_law.specs.Kinds.{Kind, fetch, fetched, asks_lock, granted, unlocked, asks_dup, dupped, released, starts, asks_join, joined, finished, arrives, step_arith, step_print, step_par_end, evicts, migrates, message_kind, instr_kind, kind_at}
 use Rattle.event_law.specs.Laws.{Gives, FewEvents}
 use Rattle.event_law.proofs.Results.{weaker}
-use Rattle.refs_law.specs.Starts.{a_thread, a_pair}
+use Rattle.bare_law.specs.Below.refs_law.Starts.{a_thread, a_pair}
 use Rattle.heap_law.specs.Coherent.{Copies}
-use Rattle.server_model.specs.declared.event.Event.{Event}
-use Rattle.word_law.specs.Unmoved.{Delivers}
-use Rattle.carry_law.specs.Steps.{a_let, a_mutex, a_join, an_end}
-use Rattle.refs_law.specs.Starts.{a_thread, a_pair}
+use Rattle.heap_law.specs.Below.server_model.declared.event.Event.{Event}
+use Rattle.end_law.specs.Below.word_law.Unmoved.{Delivers}
+use Rattle.ever_issued_law.specs.Below.carry_law.Steps.{a_let, a_mutex, a_join, an_end}
+use Rattle.bare_law.specs.Below.refs_law.Starts.{a_thread, a_pair}
 use Rattle.regain_law.proofs.Arrivals.{none_done}
-use Rattle.copy_law.specs.Copies.{CopiesAreRight, KeepCopies, puts_back}
-use Rattle.copy_law.proofs.KeptCopies.{keep_copies, carried_copies, dropped_copies}
-use Rattle.clean_law.specs.Clean.{a_copy, a_dup, a_lock}
-use Rattle.clean_law.proofs.ReadCopies.{reads_keep}
-use Rattle.landed_law.specs.Below.fresh_law.Fresh.{LeavesRight}
-use Rattle.landed_law.proofs.Below.fresh_law.Moves.{moves_keep as object_moves}
-use Rattle.landed_law.proofs.Below.fresh_law.Drops.{drops_keep as object_drops}
-use Rattle.landed_law.proofs.Below.fresh_law.Boxes.{boxes_keep}
-use Rattle.landed_law.proofs.Below.fresh_law.Starts.{starts_keep}
-use Rattle.landed_law.proofs.Below.fresh_law.SharedBorrows.{shared_borrows_keep}
-use Rattle.landed_law.proofs.Below.fresh_law.MutableBorrows.{mutable_borrows_keep}
+use Rattle.ever_issued_law.specs.Below.copy_law.Copies.{CopiesAreRight, KeepCopies, puts_back}
+use Rattle.ever_issued_law.proofs.Below.copy_law.KeptCopies.{keep_copies, carried_copies, dropped_copies}
+use Rattle.bare_law.specs.Below.clean_law.Clean.{a_copy, a_dup, a_lock}
+use Rattle.bare_law.proofs.Below.clean_law.ReadCopies.{reads_keep}
+use Rattle.bare_law.specs.Below.fresh_law.Fresh.{LeavesRight}
+use Rattle.bare_law.proofs.Below.fresh_law.Moves.{moves_keep as object_moves}
+use Rattle.bare_law.proofs.Below.fresh_law.Drops.{drops_keep as object_drops}
+use Rattle.bare_law.proofs.Below.fresh_law.Boxes.{boxes_keep}
+use Rattle.bare_law.proofs.Below.fresh_law.Starts.{starts_keep}
+use Rattle.bare_law.proofs.Below.fresh_law.SharedBorrows.{shared_borrows_keep}
+use Rattle.bare_law.proofs.Below.fresh_law.MutableBorrows.{mutable_borrows_keep}
 use Rattle.landed_law.proofs.Arrivals.{arrivals_keep}
 use Rattle.coherence_law.specs.Copies.{EventsKeepCopies}
 use Rattle.coherence_law.proofs.CopyKinds.{discards_by, drops_by, assigns_by, moves_by}

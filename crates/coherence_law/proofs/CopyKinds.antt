@@ -1,40 +1,40 @@
 -- Copies are right after each discard, drop of a slot, assignment and move: by what stands there.
 use Rattle.std.proofs.Common.{◌≡◌, ℕ, zero, suc, ◌-◌, true, List, length, Option, Some, None, option_map, refl, sym, subst}
 use Rattle.std.specs.Prelude.{slice_get}
-use Rattle.fr_base.specs.declared.place.Lval.{Lval}
-use Rattle.fr_base.specs.declared.instruction.Operand.{Operand}
-use Rattle.fr_base.specs.declared.instruction.Operand.TheVariants as operand
-use Rattle.fr_base.specs.declared.instruction.Instr.{Instr}
-use Rattle.fr_base.specs.declared.instruction.Instr.TheVariants as instr
-use Rattle.thread_state.specs.View.{ThreadState}
-use Rattle.thread_state.specs.declared.value.Value.{Value}
-use Rattle.thread_state.specs.declared.value.Value.TheVariants as value
-use Rattle.server_model.specs.declared.event.What.TheVariants.{Step}
-use Rattle.server_model.specs.Servers.{Server, Cluster, server_at}
-use Rattle.server_model.specs.Work.{Hand, Popped, last_of, front_of, with_slots, with_temps, thread_in, then_some, pop}
-use Rattle.server_model.specs.Places.{in_slot, on_top, nowhere as no_spot, put_slot, load_at}
-use Rattle.server_model.specs.Prepare.{ending, assigned, read_or_taken, prepare, read_stars}
-use Rattle.server_model.specs.Drop.{drop_value}
-use Rattle.server_model.specs.Commit.{goes_on, label_dropped, assign, replace_slot, read_as}
-use Rattle.server_model.specs.Events.{enabled, begin_work, Stepped, committed, prepared, step}
-use Rattle.type_law.specs.ClusterTypes.{IsCoherent}
-use Rattle.path_law.specs.Pointing.{assigns as assigns_to}
+use Rattle.heap_law.specs.Below.fr_base.declared.place.Lval.{Lval}
+use Rattle.heap_law.specs.Below.fr_base.declared.instruction.Operand.{Operand}
+use Rattle.heap_law.specs.Below.fr_base.declared.instruction.Operand.TheVariants as operand
+use Rattle.heap_law.specs.Below.fr_base.declared.instruction.Instr.{Instr}
+use Rattle.heap_law.specs.Below.fr_base.declared.instruction.Instr.TheVariants as instr
+use Rattle.heap_law.specs.Below.thread_state.View.{ThreadState}
+use Rattle.heap_law.specs.Below.thread_state.declared.value.Value.{Value}
+use Rattle.heap_law.specs.Below.thread_state.declared.value.Value.TheVariants as value
+use Rattle.heap_law.specs.Below.server_model.declared.event.What.TheVariants.{Step}
+use Rattle.heap_law.specs.Below.server_model.Servers.{Server, Cluster, server_at}
+use Rattle.heap_law.specs.Below.server_model.Work.{Hand, Popped, last_of, front_of, with_slots, with_temps, thread_in, then_some, pop}
+use Rattle.heap_law.specs.Below.server_model.Places.{in_slot, on_top, nowhere as no_spot, put_slot, load_at}
+use Rattle.heap_law.specs.Below.server_model.Prepare.{ending, assigned, read_or_taken, prepare, read_stars}
+use Rattle.heap_law.specs.Below.server_model.Drop.{drop_value}
+use Rattle.heap_law.specs.Below.server_model.Commit.{goes_on, label_dropped, assign, replace_slot, read_as}
+use Rattle.heap_law.specs.Below.server_model.Events.{enabled, begin_work, Stepped, committed, prepared, step}
+use Rattle.local_law.specs.Below.type_law.ClusterTypes.{IsCoherent}
+use Rattle.value_law.specs.Below.path_law.Pointing.{assigns as assigns_to}
 use Rattle.end_law.specs.Dropped.{written, dropped}
 use Rattle.end_law.proofs.Given.{given_up_may_be}
 use Rattle.event_law.specs.Laws.{Gives, FewEvents}
 use Rattle.event_law.proofs.Results.{weaker}
-use Rattle.prepare_law.proofs.Asking.{found_number}
-use Rattle.refs_law.specs.Gone.{to_slot, to_slot_mutably, shared_to, moves as moves_any, drops as drops_light, discards as discards_light, assigns as assigns_light}
-use Rattle.regain_law.specs.Below.finish_law.Ends.{drops, discards, assigns}
-use Rattle.regain_law.proofs.Below.finish_law.EndHands.{newest_there}
-use Rattle.regain_law.proofs.Below.finish_law.EndEvents.{me, going, paths}
+use Rattle.wait_law.proofs.Below.prepare_law.Asking.{found_number}
+use Rattle.bare_law.specs.Below.refs_law.Gone.{to_slot, to_slot_mutably, shared_to, moves as moves_any, drops as drops_light, discards as discards_light, assigns as assigns_light}
+use Rattle.close_law.specs.Below.finish_law.Ends.{drops, discards, assigns}
+use Rattle.close_law.proofs.Below.finish_law.EndHands.{newest_there}
+use Rattle.close_law.proofs.Below.finish_law.EndEvents.{me, going, paths}
 use Rattle.event_law.proofs.Results.{weaker}
-use Rattle.carry_law.specs.Steps.{owns, gone}
-use Rattle.prepare_law.proofs.Asking.{found_number}
-use Rattle.copy_law.specs.Copies.{drops as drops_let, drops_none as none_let}
-use Rattle.copy_law.proofs.KeptCopies.{discarded_copies, dropped_copies, assigned_copies}
-use Rattle.clean_law.proofs.ReferenceCopies.{references_keep}
-use Rattle.landed_law.specs.Below.fresh_law.Fresh.{LeavesRight}
+use Rattle.ever_issued_law.specs.Below.carry_law.Steps.{owns, gone}
+use Rattle.wait_law.proofs.Below.prepare_law.Asking.{found_number}
+use Rattle.ever_issued_law.specs.Below.copy_law.Copies.{drops as drops_let, drops_none as none_let}
+use Rattle.ever_issued_law.proofs.Below.copy_law.KeptCopies.{discarded_copies, dropped_copies, assigned_copies}
+use Rattle.bare_law.proofs.Below.clean_law.ReferenceCopies.{references_keep}
+use Rattle.bare_law.specs.Below.fresh_law.Fresh.{LeavesRight}
 use Rattle.landed_law.proofs.Below.hidden_law.Handed.{Left as Left_at, Sends, settled_by}
 use Rattle.close_law.proofs.Below.cover_law.Written.{assignments_keep, moves_keep}
 use Rattle.close_law.proofs.Ends.{ends_keep}

@@ -1,33 +1,33 @@
 -- Each event leaves a cluster that has types.
 use Rattle.std.proofs.Common.{◌≡◌, Option, Some, None, refl}
-use Rattle.fr_base.specs.declared.name.ObjNo.{ObjNo}
-use Rattle.fr_base.specs.declared.step.Fresh.{Fresh}
-use Rattle.fr_typing.specs.Kinds.{Owned as OwnedType}
-use Rattle.fr_sound.specs.Seen.{Gives as NamesGive}
-use Rattle.fr_sound.specs.States.{Typing}
-use Rattle.fr_code.specs.CodeTypes.{Table}
-use Rattle.plain_types.specs.Keeps.{KeepsNames}
-use Rattle.journal.specs.View.{EntryView}
-use Rattle.server_model.specs.declared.event.Event.{Event}
-use Rattle.server_model.specs.Servers.{Cluster}
-use Rattle.server_model.specs.Clusters.{apply}
+use Rattle.heap_law.specs.Below.fr_base.declared.name.ObjNo.{ObjNo}
+use Rattle.heap_law.specs.Below.fr_base.declared.step.Fresh.{Fresh}
+use Rattle.heap_law.specs.Below.fr_typing.Kinds.{Owned as OwnedType}
+use Rattle.local_law.specs.Below.fr_sound.Seen.{Gives as NamesGive}
+use Rattle.local_law.specs.Below.fr_sound.States.{Typing}
+use Rattle.heap_law.specs.Below.fr_code.CodeTypes.{Table}
+use Rattle.outside_law.specs.Below.plain_types.Keeps.{KeepsNames}
+use Rattle.heap_law.specs.Below.journal.View.{EntryView}
+use Rattle.heap_law.specs.Below.server_model.declared.event.Event.{Event}
+use Rattle.heap_law.specs.Below.server_model.Servers.{Cluster}
+use Rattle.heap_law.specs.Below.server_model.Clusters.{apply}
 use Rattle.heap_law.specs.Sight.{sight}
 use Rattle.heap_law.specs.OneHeap.{one_heap}
-use Rattle.type_law.specs.Names.{names_of}
-use Rattle.type_law.specs.ClusterTypes.{Types, IsCoherent, views_wrong}
+use Rattle.local_law.specs.Below.type_law.Names.{names_of}
+use Rattle.local_law.specs.Below.type_law.ClusterTypes.{Types, IsCoherent, views_wrong}
 use Rattle.event_law.specs.Laws.{Gives, FewEvents}
 use Rattle.event_law.proofs.Results.{both_give}
-use Rattle.agree_law.proofs.Undone.{undone_types}
-use Rattle.typed_law.specs.Counted.{holders_off, over_ends_wrong, sorts_wrong}
-use Rattle.typed_law.proofs.Counts.{types_follow}
-use Rattle.outside_law.specs.Below.state_law.States.{HeapKept}
-use Rattle.outside_law.proofs.Below.state_law.States.{events_keep_names}
+use Rattle.holder_law.proofs.Below.agree_law.Undone.{undone_types}
+use Rattle.outside_law.specs.Below.typed_law.Counted.{holders_off, over_ends_wrong, sorts_wrong}
+use Rattle.outside_law.proofs.Below.typed_law.Counts.{types_follow}
+use Rattle.holder_law.specs.Below.state_law.States.{HeapKept}
+use Rattle.holder_law.proofs.Below.state_law.States.{events_keep_names}
 use Rattle.coherence_law.proofs.Ends.{ends_stay}
-use Rattle.outside_law.proofs.Below.sorts_law.Each.{also, events_keep_sorts}
-use Rattle.outside_law.proofs.Below.sorts_law.Views.{events_keep_views}
-use Rattle.fit_law.specs.Fits.{StandsOnce, HeapFits, outside_misfits, WholeAgrees}
-use Rattle.fit_law.proofs.Fits.{typed_heaps_fit}
-use Rattle.fit_law.proofs.Outside.{misfits_follow}
+use Rattle.holder_law.proofs.Below.sorts_law.Each.{also, events_keep_sorts}
+use Rattle.holder_law.proofs.Below.sorts_law.Views.{events_keep_views}
+use Rattle.outside_law.specs.Below.fit_law.Fits.{StandsOnce, HeapFits, outside_misfits, WholeAgrees}
+use Rattle.outside_law.proofs.Below.fit_law.Fits.{typed_heaps_fit}
+use Rattle.outside_law.proofs.Below.fit_law.Outside.{misfits_follow}
 use Rattle.outside_law.proofs.Outside.{steps_fit_outside}
 use Rattle.holder_law.proofs.Each.{events_keep_holders}
 use Rattle.coherence_law.specs.Types.{EventsKeepTypes, EventsStandOnce}

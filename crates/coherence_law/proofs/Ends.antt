@@ -1,37 +1,37 @@
 -- A thread that is over ended with the type that its task has, by types that names keep: it was over, or it has just ended.
 use Rattle.std.proofs.Common.{◌≡◌, ℕ, ◌==◌, ◌&&◌, ◌||◌, not, Bool, true, false, List, [], ◌∷◌, inl, inr, Option, Some, None, refl, sym, ap, subst, ◌∙◌, arith}
 use Rattle.std.specs.Prelude.{◌%◌, ◌^◌}
-use Rattle.fr_base.specs.declared.name.ObjNo.{ObjNo}
-use Rattle.fr_base.specs.declared.instruction.Instr.{Instr}
-use Rattle.fr_base.specs.declared.instruction.Instr.TheVariants as instr
-use Rattle.fr_base.specs.Names.{home_of}
-use Rattle.fr_typing.specs.Kinds.{Owned as OwnedType, same_owned}
-use Rattle.fr_sound.specs.Seen.{Gives as NamesGive}
-use Rattle.plain_types.specs.Keeps.{KeepsNames}
-use Rattle.thread_state.specs.View.{ThreadState, is_over}
-use Rattle.thread_state.specs.declared.phase.Phase.{Phase}
-use Rattle.thread_state.specs.declared.phase.Phase.TheVariants as phase
-use Rattle.journal.specs.View.{EntryView}
-use Rattle.server_model.specs.declared.event.Event.{Event}
-use Rattle.server_model.specs.Servers.{Server, Cluster, server_at}
-use Rattle.server_model.specs.Work.{thread_in}
-use Rattle.server_model.specs.Events.{is_ready}
-use Rattle.server_model.specs.Clusters.{apply}
+use Rattle.heap_law.specs.Below.fr_base.declared.name.ObjNo.{ObjNo}
+use Rattle.heap_law.specs.Below.fr_base.declared.instruction.Instr.{Instr}
+use Rattle.heap_law.specs.Below.fr_base.declared.instruction.Instr.TheVariants as instr
+use Rattle.heap_law.specs.Below.fr_base.Names.{home_of}
+use Rattle.heap_law.specs.Below.fr_typing.Kinds.{Owned as OwnedType, same_owned}
+use Rattle.local_law.specs.Below.fr_sound.Seen.{Gives as NamesGive}
+use Rattle.outside_law.specs.Below.plain_types.Keeps.{KeepsNames}
+use Rattle.heap_law.specs.Below.thread_state.View.{ThreadState, is_over}
+use Rattle.heap_law.specs.Below.thread_state.declared.phase.Phase.{Phase}
+use Rattle.heap_law.specs.Below.thread_state.declared.phase.Phase.TheVariants as phase
+use Rattle.heap_law.specs.Below.journal.View.{EntryView}
+use Rattle.heap_law.specs.Below.server_model.declared.event.Event.{Event}
+use Rattle.heap_law.specs.Below.server_model.Servers.{Server, Cluster, server_at}
+use Rattle.heap_law.specs.Below.server_model.Work.{thread_in}
+use Rattle.heap_law.specs.Below.server_model.Events.{is_ready}
+use Rattle.heap_law.specs.Below.server_model.Clusters.{apply}
 use Rattle.heap_law.specs.Names.{tot, one, other, some, if_so, Among}
 use Rattle.heap_law.specs.Things.{Thing, stands, things_of}
 use Rattle.heap_law.specs.Follow.{Standing, threads_in, thread_at}
 use Rattle.heap_law.specs.Sight.{sight}
 use Rattle.heap_law.specs.OneHeap.{one_heap, if_given, is_given_thread, life_at}
 use Rattle.heap_law.specs.Naming.{started_at, uncounted_thread, zeroth_thread, threads}
-use Rattle.type_law.specs.Names.{NameTypes, names_of}
-use Rattle.type_law.specs.ClusterTypes.{IsCoherent, Types, entry_wrong, gives_other}
+use Rattle.local_law.specs.Below.type_law.Names.{NameTypes, names_of}
+use Rattle.local_law.specs.Below.type_law.ClusterTypes.{IsCoherent, Types, entry_wrong, gives_other}
 use Rattle.event_law.specs.Laws.{Gives, FewEvents}
-use Rattle.path_law.proofs.Shown.{none_else}
+use Rattle.value_law.proofs.Below.path_law.Shown.{none_else}
 use Rattle.local_law.proofs.Goes.{Goes, AsksHome, HasCell, on, waits_pair, is_over as goes_over, asks_cell, asks_home, gets_cell, gets_gift, goes_pair}
 use Rattle.local_law.proofs.Threads.{Control, ways}
 use Rattle.local_law.proofs.Handed.{Stood, InParcel, threads_go, known}
-use Rattle.typed_law.specs.Counted.{over_ends_wrong}
-use Rattle.typed_law.proofs.Leads.{each_none}
+use Rattle.outside_law.specs.Below.typed_law.Counted.{over_ends_wrong}
+use Rattle.outside_law.proofs.Below.typed_law.Leads.{each_none}
 use Rattle.coherence_law.specs.Ends.{EndsStay}
 
 -- WHO STANDS WAS GIVEN

@@ -1,9 +1,9 @@
 -- Each event leaves a coherent cluster: every sentence is kept by a law, and so are types.
 use Rattle.std.proofs.Common.{◌≡◌, Option, Some, None, refl, subst}
-use Rattle.journal.specs.View.{EntryView}
-use Rattle.server_model.specs.declared.event.Event.{Event}
-use Rattle.server_model.specs.Servers.{Cluster}
-use Rattle.server_model.specs.Clusters.{apply}
+use Rattle.heap_law.specs.Below.journal.View.{EntryView}
+use Rattle.heap_law.specs.Below.server_model.declared.event.Event.{Event}
+use Rattle.heap_law.specs.Below.server_model.Servers.{Cluster}
+use Rattle.heap_law.specs.Below.server_model.Clusters.{apply}
 use Rattle.heap_law.specs.Coherent.{Sentence, Holds, are_issued, objects_there, different_words, passed_lie_here, passed_not_copied, place_followed, waits_in_turn, none_owns_itself, walk_empty, join_walks_nothing, passed_in_a_walk, passed_within, parcels_ready, thread_homes, go_right, asks_others, options_in_range, at_their_home, queue_while_out, content_without_shares, par_ends, over_are_bare, below_limit, names_counted, counts_from_one, few_names, objects_made, askers_stand, return_right, marks_in_slots, holders_short, counts_bounded, parts_are_typed, carry_what_is_asked, pairs_go_on, branches_give_unit, parents_end, gifts_got, phases_stand, gifts_fit, taken_stands, taken_is_new, OneHome, OneOwner, Copies, Users, IsSound}
 use Rattle.heap_law.specs.Following.{TasksNoted, MutexesNoted, FollowLaw}
 use Rattle.heap_law.specs.Rooted.{ownings, parents}
@@ -15,19 +15,19 @@ use Rattle.heap_law.proofs.Passing.{passed_law}
 use Rattle.heap_law.proofs.Turn.{turn_law}
 use Rattle.heap_law.proofs.Ranks.{node_ends, number_ends}
 use Rattle.event_law.specs.Laws.{FewEvents, Gives, EachEventHandedOver, OneState, SharesCounted, OneTaskValue, TaskValuesOwed, NumbersDiffer, OneAnswer, PairsNoted, NotedGoOn, NotedAtHome, OneResult}
-use Rattle.type_law.specs.Names.{names_of}
-use Rattle.type_law.specs.ClusterTypes.{Types, IsCoherent}
-use Rattle.path_law.specs.HeapStore.{HasPaths}
-use Rattle.read_law.specs.Answering.{AnswersTold}
+use Rattle.local_law.specs.Below.type_law.Names.{names_of}
+use Rattle.local_law.specs.Below.type_law.ClusterTypes.{Types, IsCoherent}
+use Rattle.value_law.specs.Below.path_law.HeapStore.{HasPaths}
+use Rattle.end_law.specs.Below.read_law.Answering.{AnswersTold}
 use Rattle.end_law.specs.Objects.{ObjectsFollow}
 use Rattle.end_law.proofs.Passed.{passed_follows}
 use Rattle.local_law.specs.Laws.{EachEventKeeps, EachCoherentEventKeeps}
-use Rattle.prepare_law.specs.Requests.{WordsHold}
+use Rattle.wait_law.specs.Below.prepare_law.Requests.{WordsHold}
 use Rattle.content_law.specs.Contents.{OneContent, EachEventLeavesOneContent}
 use Rattle.regain_law.specs.Events.{EventsKeepWords}
 use Rattle.apart_law.specs.Words.{ObjectsStayApart}
 use Rattle.coherence_law.specs.Copies.{EventsKeepCopies}
-use Rattle.ever_issued_law.specs.Below.ever_issued_law.Standing.{Settled}
+use Rattle.ever_issued_law.specs.Standing.{Settled}
 use Rattle.ever_issued_law.specs.Issued.{EachEventIssues}
 use Rattle.coherence_law.specs.Owning.{Agrees, EventsThatAgreeEnd}
 use Rattle.coherence_law.specs.Types.{EventsKeepTypes}

@@ -1,14 +1,14 @@
 -- What an owned value names has a type of fewer levels.
 use Rattle.std.proofs.Common.{◌≡◌, ℕ, suc, ◌<◌, true, List, [], ◌∷◌, refl, ap, arith}
-use Rattle.fr_base.specs.declared.name.MutexNo.{MutexNo}
-use Rattle.fr_typing.specs.Kinds.{Owned, unit, int, box, mutex, task, same_owned}
-use Rattle.fr_typing.specs.Checks.{owned_levels}
-use Rattle.heap_partition.specs.declared.value.BoxPtr.{BoxPtr}
-use Rattle.heap_partition.specs.declared.value.Owned.{Owned as Value}
-use Rattle.heap_partition.specs.declared.value.Owned.TheVariants as owned
+use Rattle.heap_law.specs.Below.fr_base.declared.name.MutexNo.{MutexNo}
+use Rattle.heap_law.specs.Below.fr_typing.Kinds.{Owned, unit, int, box, mutex, task, same_owned}
+use Rattle.heap_law.specs.Below.fr_typing.Checks.{owned_levels}
+use Rattle.heap_law.specs.Below.heap_partition.declared.value.BoxPtr.{BoxPtr}
+use Rattle.heap_law.specs.Below.heap_partition.declared.value.Owned.{Owned as Value}
+use Rattle.heap_law.specs.Below.heap_partition.declared.value.Owned.TheVariants as owned
 use Rattle.heap_law.specs.OneHeap.{Node, object_n, mutex_n, task_n, Owner, inside}
 use Rattle.heap_law.specs.Ranks.{Step, Falls}
-use Rattle.type_law.specs.Names.{NameTypes, fits}
+use Rattle.local_law.specs.Below.type_law.Names.{NameTypes, fits}
 
 abbrev pub type_of : NameTypes → Node → Owned
 type_of n (object_n o) = n.object o

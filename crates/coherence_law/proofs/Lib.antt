@@ -1,3 +1,4 @@
+pub mod Below
 pub mod Ends
 pub mod Once
 pub mod Each

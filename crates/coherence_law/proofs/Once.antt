@@ -1,7 +1,7 @@
 -- Each event leaves each thing standing once: by sentences of which each is kept without types.
-use Rattle.journal.specs.View.{EntryView}
-use Rattle.server_model.specs.Servers.{Cluster}
-use Rattle.server_model.specs.Clusters.{apply}
+use Rattle.heap_law.specs.Below.journal.View.{EntryView}
+use Rattle.heap_law.specs.Below.server_model.Servers.{Cluster}
+use Rattle.heap_law.specs.Below.server_model.Clusters.{apply}
 use Rattle.heap_law.specs.Things.{things_of}
 use Rattle.heap_law.specs.Coherent.{Holds, at_their_home, parts_are_typed}
 use Rattle.event_law.specs.Laws.{OneResult}
@@ -13,9 +13,9 @@ use Rattle.local_law.specs.Laws.{EachEventKeeps}
 use Rattle.local_law.proofs.Homes.{homes_stay}
 use Rattle.content_law.specs.Contents.{OneContent}
 use Rattle.content_law.proofs.Contents.{each_leaves}
-use Rattle.typed_law.specs.Counted.{HasNumbers}
-use Rattle.outside_law.proofs.Below.sorts_law.Each.{also, numbers_kept}
-use Rattle.fit_law.specs.Fits.{StandsOnce}
+use Rattle.outside_law.specs.Below.typed_law.Counted.{HasNumbers}
+use Rattle.holder_law.proofs.Below.sorts_law.Each.{also, numbers_kept}
+use Rattle.outside_law.specs.Below.fit_law.Fits.{StandsOnce}
 use Rattle.coherence_law.specs.Types.{EventsStandOnce}
 
 abbrev D : Type 0

@@ -1,14 +1,14 @@
 -- Where the types of names agree with what stands for them, going from owners to what they own comes to an end.
 use Rattle.std.proofs.Common.{◌≡◌, inl, inr, ℕ, ◌<◌, ◌&&◌, Bool, true, false, nat_lt, List, [], ◌∷◌, ◌++◌, Option, Some, None, refl, sym, ap, subst, ◌∙◌, arith}
 use Rattle.std.proofs.lemmas.Bool.Decides.{nat_tests}
-use Rattle.fr_base.specs.declared.name.MutexNo.{MutexNo}
-use Rattle.fr_base.specs.declared.instruction.Instr.{Instr}
-use Rattle.fr_base.specs.declared.instruction.Instr.TheVariants as instr
-use Rattle.heap_partition.specs.declared.value.Owned.{Owned}
-use Rattle.heap_partition.specs.declared.value.Owned.TheVariants as owned
-use Rattle.journal.specs.View.{EntryView}
-use Rattle.server_model.specs.Servers.{Cluster}
-use Rattle.server_model.specs.Clusters.{apply}
+use Rattle.heap_law.specs.Below.fr_base.declared.name.MutexNo.{MutexNo}
+use Rattle.heap_law.specs.Below.fr_base.declared.instruction.Instr.{Instr}
+use Rattle.heap_law.specs.Below.fr_base.declared.instruction.Instr.TheVariants as instr
+use Rattle.heap_law.specs.Below.heap_partition.declared.value.Owned.{Owned}
+use Rattle.heap_law.specs.Below.heap_partition.declared.value.Owned.TheVariants as owned
+use Rattle.heap_law.specs.Below.journal.View.{EntryView}
+use Rattle.heap_law.specs.Below.server_model.Servers.{Cluster}
+use Rattle.heap_law.specs.Below.server_model.Clusters.{apply}
 use Rattle.heap_law.specs.Names.{tot, other, Among}
 use Rattle.heap_law.specs.Things.{Thing, in_slot, in_temp, as_gift, as_content, as_result, in_hand, holds, lies, flies, stands, things_of}
 use Rattle.heap_law.specs.Follow.{Standing, threads_in, thread_at}
@@ -26,11 +26,11 @@ use Rattle.event_law.specs.Laws.{NumbersDiffer}
 use Rattle.event_law.proofs.Results.{weaker}
 use Rattle.event_law.proofs.Applied.{handed_part}
 use Rattle.event_law.proofs.Sending.{each_event_sends}
-use Rattle.type_law.specs.Names.{NameTypes, fits, is_there}
-use Rattle.type_law.specs.ClusterTypes.{misfit, content_gift, result_gift, gift_misfit}
-use Rattle.type_law.proofs.Branches.{found}
+use Rattle.local_law.specs.Below.type_law.Names.{NameTypes, fits, is_there}
+use Rattle.local_law.specs.Below.type_law.ClusterTypes.{misfit, content_gift, result_gift, gift_misfit}
+use Rattle.local_law.proofs.Below.type_law.Branches.{found}
 use Rattle.coherence_law.specs.Owning.{Agrees, AgreeingEnd, EventsThatAgreeEnd}
-use Rattle.drop_law.proofs.GiftValues.{placed, telling, gifts_told}
+use Rattle.holder_law.proofs.Below.drop_law.GiftValues.{placed, telling, gifts_told}
 use Rattle.coherence_law.proofs.Levels.{level, own_steps, inside_falls}
 
 is_so : (b : Bool) → other b ≡ 0 → b ≡ true

@@ -1,10 +1,10 @@
 -- EACH EVENT KEEPS COPIES (DRust's read caches; this project's rules), whatever it is.
-use Rattle.journal.specs.View.{EntryView}
-use Rattle.server_model.specs.declared.event.Event.{Event}
-use Rattle.server_model.specs.Servers.{Cluster}
-use Rattle.server_model.specs.Clusters.{apply}
+use Rattle.heap_law.specs.Below.journal.View.{EntryView}
+use Rattle.heap_law.specs.Below.server_model.declared.event.Event.{Event}
+use Rattle.heap_law.specs.Below.server_model.Servers.{Cluster}
+use Rattle.heap_law.specs.Below.server_model.Clusters.{apply}
 use Rattle.heap_law.specs.Coherent.{Copies}
-use Rattle.type_law.specs.ClusterTypes.{IsCoherent}
+use Rattle.local_law.specs.Below.type_law.ClusterTypes.{IsCoherent}
 use Rattle.event_law.specs.Laws.{Gives, FewEvents}
 
 -- from a coherent cluster in which few events were done, with the messages handed over: copies are present cells, and each that is asked for is one of a live object that isn't changed through a

@@ -1,18 +1,18 @@
 -- THE ENDS OF THREADS by the types that names have after an event (this project's rule).
 use Rattle.std.specs.Prelude.{◌≡◌}
-use Rattle.fr_base.specs.declared.name.ObjNo.{ObjNo}
-use Rattle.fr_typing.specs.Kinds.{Owned as OwnedType}
-use Rattle.fr_sound.specs.Seen.{Gives as NamesGive}
-use Rattle.plain_types.specs.Keeps.{KeepsNames}
-use Rattle.journal.specs.View.{EntryView}
-use Rattle.server_model.specs.declared.event.Event.{Event}
-use Rattle.server_model.specs.Servers.{Cluster}
-use Rattle.server_model.specs.Clusters.{apply}
+use Rattle.heap_law.specs.Below.fr_base.declared.name.ObjNo.{ObjNo}
+use Rattle.heap_law.specs.Below.fr_typing.Kinds.{Owned as OwnedType}
+use Rattle.local_law.specs.Below.fr_sound.Seen.{Gives as NamesGive}
+use Rattle.outside_law.specs.Below.plain_types.Keeps.{KeepsNames}
+use Rattle.heap_law.specs.Below.journal.View.{EntryView}
+use Rattle.heap_law.specs.Below.server_model.declared.event.Event.{Event}
+use Rattle.heap_law.specs.Below.server_model.Servers.{Cluster}
+use Rattle.heap_law.specs.Below.server_model.Clusters.{apply}
 use Rattle.heap_law.specs.Sight.{sight}
 use Rattle.heap_law.specs.OneHeap.{one_heap}
-use Rattle.type_law.specs.Names.{names_of}
-use Rattle.type_law.specs.ClusterTypes.{IsCoherent}
-use Rattle.typed_law.specs.Counted.{over_ends_wrong}
+use Rattle.local_law.specs.Below.type_law.Names.{names_of}
+use Rattle.local_law.specs.Below.type_law.ClusterTypes.{IsCoherent}
+use Rattle.outside_law.specs.Below.typed_law.Counted.{over_ends_wrong}
 use Rattle.event_law.specs.Laws.{Gives, FewEvents}
 
 -- each event of a coherent cluster, in which few were done, leaves one in which the code of each thread that is over ends with the type that its task has: by the same

@@ -1,14 +1,14 @@
 -- WHERE THE TYPES OF NAMES AGREE WITH WHAT STANDS FOR THEM, none owns itself (this project's rule): what a value owns has a type of fewer levels.
 use Rattle.std.specs.Prelude.{◌≡◌}
-use Rattle.journal.specs.View.{EntryView}
-use Rattle.server_model.specs.declared.event.Event.{Event}
-use Rattle.server_model.specs.Servers.{Cluster}
-use Rattle.server_model.specs.Clusters.{apply}
+use Rattle.heap_law.specs.Below.journal.View.{EntryView}
+use Rattle.heap_law.specs.Below.server_model.declared.event.Event.{Event}
+use Rattle.heap_law.specs.Below.server_model.Servers.{Cluster}
+use Rattle.heap_law.specs.Below.server_model.Clusters.{apply}
 use Rattle.heap_law.specs.Sight.{sight}
 use Rattle.heap_law.specs.Coherent.{Holds, IsSound, none_owns_itself}
 use Rattle.event_law.specs.Laws.{Gives, FewEvents, NumbersDiffer}
-use Rattle.type_law.specs.Names.{NameTypes}
-use Rattle.type_law.specs.ClusterTypes.{misfits}
+use Rattle.local_law.specs.Below.type_law.Names.{NameTypes}
+use Rattle.local_law.specs.Below.type_law.ClusterTypes.{misfits}
 
 -- each cell, content and result agrees with the type of its name, by some types of names
 pub record Agrees (k : Cluster) : Type 0 where

@@ -1,11 +1,11 @@
 -- TYPES AFTER EACH EVENT, whatever it is (this project's rule).
-use Rattle.journal.specs.View.{EntryView}
-use Rattle.server_model.specs.declared.event.Event.{Event}
-use Rattle.server_model.specs.Servers.{Cluster}
-use Rattle.server_model.specs.Clusters.{apply}
-use Rattle.type_law.specs.ClusterTypes.{Types, IsCoherent}
+use Rattle.heap_law.specs.Below.journal.View.{EntryView}
+use Rattle.heap_law.specs.Below.server_model.declared.event.Event.{Event}
+use Rattle.heap_law.specs.Below.server_model.Servers.{Cluster}
+use Rattle.heap_law.specs.Below.server_model.Clusters.{apply}
+use Rattle.local_law.specs.Below.type_law.ClusterTypes.{Types, IsCoherent}
 use Rattle.event_law.specs.Laws.{Gives, FewEvents}
-use Rattle.fit_law.specs.Fits.{StandsOnce}
+use Rattle.outside_law.specs.Below.fit_law.Fits.{StandsOnce}
 
 -- each event of a coherent cluster, in which few were done, leaves one in which each thing stands once
 abbrev pub EventsStandOnce : Type 0

@@ -2,6 +2,10 @@
 
 ghost use Rattle.coherence_law.specs.Coherence.{EventsKeepCoherence};
 ghost use Rattle.coherence_law.specs.Copies.{EventsKeepCopies};
+ghost use Rattle.coherence_law.specs.Owning.{AgreeingEnd, EventsThatAgreeEnd};
+ghost use Rattle.coherence_law.specs.Types.{EventsKeepTypes, EventsStandOnce};
+ghost use Rattle.coherence_law.specs.Ends.{EndsStay};
+
 use apart_law::objects_stay_apart;
 use ask_law::{answers_keep, gifts_keep, pairs_keep};
 use bare_law::each_event_uncopied;
@@ -13,17 +17,12 @@ use ever_issued_law::each_event_issues;
 use heap_law::laws::some_follow;
 use land_law::all_land;
 use local_law::{messages_keep, servers_keep, threads_keep, threads_keep_to_code};
-use crate::laws::owners_end;
 use regain_law::events_keep_words;
 use taken_law::taken_stays;
 use typed_parts_law::parts_keep;
-use crate::laws::events_keep_types;
 use value_law::{askers_keep, names_keep, values_keep_to_code};
 use wait_law::waits_keep;
 use way_law::steps_keep_walks;
-ghost use Rattle.coherence_law.specs.Owning.{AgreeingEnd, EventsThatAgreeEnd};
-ghost use Rattle.coherence_law.specs.Types.{EventsKeepTypes, EventsStandOnce};
-ghost use Rattle.coherence_law.specs.Ends.{EndsStay};
 
 /// From a coherent cluster in which few events were done, each event that has a result, its messages handed over, leaves a cluster in which the code of each thread that is
 /// over ends with the type that its task has afterwards, by whatever types of names by which those that were given before have the types that they had: the thread was over,

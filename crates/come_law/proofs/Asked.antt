@@ -1,38 +1,38 @@
 -- What asks for something for a thread is there still after each event that is no step, but for the delivery of what brings it.
 use Rattle.std.proofs.Common.{◌≡◌, ℕ, ◌+◌, ◌≤◌, ◌==◌, ◌&&◌, true, false, List, Option, Some, None, refl, ap, subst, arith}
 use Rattle.std.specs.Prelude.{slice_get, option_map}
-use Rattle.fr_base.specs.declared.name.ObjNo.{ObjNo}
-use Rattle.fr_base.specs.Names.{same_object}
-use Rattle.heap_partition.specs.declared.value.Cell.{Cell}
-use Rattle.read_cache.specs.Cache.{Copy, can_evict}
-use Rattle.migration.specs.Packing.{unpin_all, used_words, packed}
-use Rattle.thread_state.specs.View.{ThreadState}
-use Rattle.server_msgs.specs.declared.message.Message.{Message}
-use Rattle.server_msgs.specs.declared.message.Message.TheVariants as message
-use Rattle.journal.specs.View.{EntryView}
-use Rattle.server_model.specs.declared.event.Event.{Event}
-use Rattle.server_model.specs.declared.event.What.{What}
-use Rattle.server_model.specs.declared.event.What.TheVariants.{Step, Deliver, Evict, Migrate}
-use Rattle.server_model.specs.Servers.{Server, Cluster, server_at}
-use Rattle.server_model.specs.Work.{Work, Site, receive, look_object, then_some, thread_in, without_thread, beside_threads}
-use Rattle.server_model.specs.Objects.{deliver_fetch, deliver_move}
-use Rattle.server_model.specs.Moving.{depart}
-use Rattle.server_model.specs.Events.{begin_work, begin_at, enabled, received, left_by, deliver_message, evict_copy, does}
-use Rattle.server_model.specs.Clusters.{done_at, act_at, apply}
-use Rattle.owner_box.specs.Partition.{freed}
-use Rattle.heap_law.specs.Names.{tot, one}
-use Rattle.heap_law.specs.Things.{Thing, standing_things, message_things, server_things, things_of}
-use Rattle.heap_law.specs.Paths.{Awaited}
-use Rattle.heap_law.specs.Walking.{asks_for, asked_for}
-use Rattle.heap_law.specs.Coherent.{IsSound}
-use Rattle.event_law.specs.Laws.{Gives, FewEvents}
-use Rattle.event_law.proofs.Results.{then_gives, map_gives, over_gives, test_gives}
-use Rattle.event_law.proofs.Trades.{tot-remove}
-use Rattle.event_law.proofs.Unseen.{Unseen, Unnoted, none_at, thread_alone, seen_of}
-use Rattle.event_law.proofs.ObjectMessages.{looked_object}
-use Rattle.event_law.proofs.Events.{tot-server}
-use Rattle.event_law.proofs.Applied.{handed_on}
-use Rattle.event_law.proofs.Sending.{each_event_sends}
+use Rattle.walk_law.specs.Below.fr_base.declared.name.ObjNo.{ObjNo}
+use Rattle.walk_law.specs.Below.fr_base.Names.{same_object}
+use Rattle.walk_law.specs.Below.heap_partition.declared.value.Cell.{Cell}
+use Rattle.walk_law.specs.Below.read_cache.Cache.{Copy, can_evict}
+use Rattle.walk_law.specs.Below.migration.Packing.{unpin_all, used_words, packed}
+use Rattle.walk_law.specs.Below.thread_state.View.{ThreadState}
+use Rattle.walk_law.specs.Below.server_msgs.declared.message.Message.{Message}
+use Rattle.walk_law.specs.Below.server_msgs.declared.message.Message.TheVariants as message
+use Rattle.walk_law.specs.Below.journal.View.{EntryView}
+use Rattle.walk_law.specs.Below.server_model.declared.event.Event.{Event}
+use Rattle.walk_law.specs.Below.server_model.declared.event.What.{What}
+use Rattle.walk_law.specs.Below.server_model.declared.event.What.TheVariants.{Step, Deliver, Evict, Migrate}
+use Rattle.walk_law.specs.Below.server_model.Servers.{Server, Cluster, server_at}
+use Rattle.walk_law.specs.Below.server_model.Work.{Work, Site, receive, look_object, then_some, thread_in, without_thread, beside_threads}
+use Rattle.walk_law.specs.Below.server_model.Objects.{deliver_fetch, deliver_move}
+use Rattle.walk_law.specs.Below.server_model.Moving.{depart}
+use Rattle.walk_law.specs.Below.server_model.Events.{begin_work, begin_at, enabled, received, left_by, deliver_message, evict_copy, does}
+use Rattle.walk_law.specs.Below.server_model.Clusters.{done_at, act_at, apply}
+use Rattle.walk_law.specs.Below.owner_box.Partition.{freed}
+use Rattle.walk_law.specs.Below.heap_law.Names.{tot, one}
+use Rattle.walk_law.specs.Below.heap_law.Things.{Thing, standing_things, message_things, server_things, things_of}
+use Rattle.walk_law.specs.Below.heap_law.Paths.{Awaited}
+use Rattle.walk_law.specs.Below.heap_law.Walking.{asks_for, asked_for}
+use Rattle.walk_law.specs.Below.heap_law.Coherent.{IsSound}
+use Rattle.walk_law.specs.Below.event_law.Laws.{Gives, FewEvents}
+use Rattle.walk_law.proofs.Below.event_law.Results.{then_gives, map_gives, over_gives, test_gives}
+use Rattle.walk_law.proofs.Below.event_law.Trades.{tot-remove}
+use Rattle.walk_law.proofs.Below.event_law.Unseen.{Unseen, Unnoted, none_at, thread_alone, seen_of}
+use Rattle.walk_law.proofs.Below.event_law.ObjectMessages.{looked_object}
+use Rattle.walk_law.proofs.Below.event_law.Events.{tot-server}
+use Rattle.walk_law.proofs.Below.event_law.Applied.{handed_on}
+use Rattle.walk_law.proofs.Below.event_law.Sending.{each_event_sends}
 use Rattle.come_law.proofs.Mail.{mail, Has, sent_more, message_leaves}
 
 -- what is asked for or brought goes where it is brought
@@ -121,7 +121,7 @@ module _ (t : ℕ) (b : Awaited) where
     same_moves w o c r u e = ap (λ q. one ((u == t && b.comes) && (b.word == w && same_object q b.object))) e
 
     -- another message
-    others : (i : ℕ) (m : Message) (q : slice_get s.rest.inbox i ≡ Some m) → one (asks_for t b m) ≤ lost t b m → (code : List Rattle.fr_base.specs.declared.instruction.Instr.Instr) → Gives (Less (lost t b m)) (option_map (left_by s.events None None) (deliver_message code m (received i s)))
+    others : (i : ℕ) (m : Message) (q : slice_get s.rest.inbox i ≡ Some m) → one (asks_for t b m) ≤ lost t b m → (code : List Rattle.walk_law.specs.Below.fr_base.declared.instruction.Instr.Instr) → Gives (Less (lost t b m)) (option_map (left_by s.events None None) (deliver_message code m (received i s)))
     others i m q le code = ends (left i) (lost t b m) None (deliver_message code m (received i s)) (omega (arith, taken_out i m q, le)) (message_leaves n f (left i) code m (received i s) (refl, omega arith))
 
     -- a request is answered
@@ -143,7 +143,7 @@ module _ (t : ℕ) (b : Awaited) where
         let a = sent_more n f (left i) r (message.Moved w c u) (record (receive s.rest i) { partition = freed s.rest.partition w }) (refl, omega arith) in
         (a.0, omega (arith, a.1, weigh r (message.Moved w c u), same_moves w o c r u (looked_object s.rest.partition w o c g).1)))) (λ x a. a))
 
-    delivers : (code : List Rattle.fr_base.specs.declared.instruction.Instr.Instr) (i : ℕ) (m : Message) (q : slice_get s.rest.inbox i ≡ Some m) → Gives (Less (lost t b m)) (option_map (left_by s.events None None) (deliver_message code m (received i s)))
+    delivers : (code : List Rattle.walk_law.specs.Below.fr_base.declared.instruction.Instr.Instr) (i : ℕ) (m : Message) (q : slice_get s.rest.inbox i ≡ Some m) → Gives (Less (lost t b m)) (option_map (left_by s.events None None) (deliver_message code m (received i s)))
     delivers code i (message.Fetch w o r u) q = fetches i w o r u q
     delivers code i (message.Move w o r u) q = moves i w o r u q
     delivers code i (message.Fetched w c u) q = others i (message.Fetched w c u) q (omega arith) code
@@ -164,7 +164,7 @@ module _ (t : ℕ) (b : Awaited) where
     abbrev all : ℕ
     all = mail n f s.rest.inbox s.rest.outbox
 
-    goes : (code : List Rattle.fr_base.specs.declared.instruction.Instr.Instr) (o : Rattle.fr_base.specs.declared.settings.Options.Options) (w : What) → NoStep w → Gives (Less (lost_by t b w s)) (does code o s w)
+    goes : (code : List Rattle.walk_law.specs.Below.fr_base.declared.instruction.Instr.Instr) (o : Rattle.walk_law.specs.Below.fr_base.declared.settings.Options.Options) (w : What) → NoStep w → Gives (Less (lost_by t b w s)) (does code o s w)
     goes code o (Step u) still = absurd still
     goes code o (Deliver i) still = by (slice_get s.rest.inbox i) refl
       where
@@ -175,7 +175,7 @@ module _ (t : ℕ) (b : Awaited) where
         ends all 0 None (beside_threads (evict_copy w) (begin_at s)) (omega arith)
         (over_gives (λ (x : Work). Has n f all x.rest) (SiteHas all) (evict_copy w (begin_work s.rest)) _ (test_gives (λ (x : Work). Has n f all x.rest) (can_evict s.rest.cache w) _ (λ q. (refl, omega arith))) (λ x a. a))
     goes code o (Migrate u target) still =
-        ends all 0 (Some u) (Rattle.server_model.specs.Moving.migrate u target (begin_at s)) (omega arith) (then_gives (SiteHas all) (thread_in s.threads u) _ (λ y q. by y (unpin_all (used_words y) s.rest.cache)))
+        ends all 0 (Some u) (Rattle.walk_law.specs.Below.server_model.Moving.migrate u target (begin_at s)) (omega arith) (then_gives (SiteHas all) (thread_in s.threads u) _ (λ y q. by y (unpin_all (used_words y) s.rest.cache)))
       where
         by : (y : ThreadState) (l : Option (List Copy)) → Gives (SiteHas all) (option_map (λ p. record { work = depart target (begin_work s.rest) p; threads = without_thread s.threads u }) (option_map (λ cs. (packed (record y { moved_since_step = true }), cs)) l))
         by y None = tt

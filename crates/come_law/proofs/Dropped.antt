@@ -1,23 +1,23 @@
 -- No place leads to an object that is dropped, and a delivery of a `move` or a `drop` brings nothing to a thread.
 use Rattle.std.proofs.Common.{◌≡◌, ◌⊎◌, inl, inr, ℕ, zero, suc, ◌≤◌, Bool, true, false, Option, Some, None, refl, sym, ap, subst, ◌∙◌, arith}
 use Rattle.std.specs.Prelude.{slice_get}
-use Rattle.fr_base.specs.declared.name.ObjNo.{ObjNo}
-use Rattle.fr_base.specs.Names.{same_object}
-use Rattle.heap_partition.specs.declared.value.Cell.{Cell}
-use Rattle.server_msgs.specs.declared.message.Message.{Message}
-use Rattle.server_msgs.specs.declared.message.Message.TheVariants as message
-use Rattle.server_model.specs.declared.event.Event.{Event}
-use Rattle.server_model.specs.declared.event.What.TheVariants.{Deliver}
-use Rattle.server_model.specs.Servers.{Server, Cluster, server_at}
-use Rattle.heap_law.specs.Names.{tot, one, Among}
-use Rattle.heap_law.specs.Things.{Location, in_cell, Thing, sent, things_of}
-use Rattle.heap_law.specs.Follow.{value_behind, leads, locate}
-use Rattle.heap_law.specs.Sight.{sight}
-use Rattle.heap_law.specs.Coherent.{IsSound}
-use Rattle.heap_law.proofs.Words.{itself, named}
-use Rattle.type_law.specs.ClusterTypes.{IsCoherent}
-use Rattle.word_law.specs.Unmoved.{Delivers}
-use Rattle.event_law.proofs.MutexResults.{has}
+use Rattle.walk_law.specs.Below.fr_base.declared.name.ObjNo.{ObjNo}
+use Rattle.walk_law.specs.Below.fr_base.Names.{same_object}
+use Rattle.walk_law.specs.Below.heap_partition.declared.value.Cell.{Cell}
+use Rattle.walk_law.specs.Below.server_msgs.declared.message.Message.{Message}
+use Rattle.walk_law.specs.Below.server_msgs.declared.message.Message.TheVariants as message
+use Rattle.walk_law.specs.Below.server_model.declared.event.Event.{Event}
+use Rattle.walk_law.specs.Below.server_model.declared.event.What.TheVariants.{Deliver}
+use Rattle.walk_law.specs.Below.server_model.Servers.{Server, Cluster, server_at}
+use Rattle.walk_law.specs.Below.heap_law.Names.{tot, one, Among}
+use Rattle.walk_law.specs.Below.heap_law.Things.{Location, in_cell, Thing, sent, things_of}
+use Rattle.walk_law.specs.Below.heap_law.Follow.{value_behind, leads, locate}
+use Rattle.walk_law.specs.Below.heap_law.Sight.{sight}
+use Rattle.walk_law.specs.Below.heap_law.Coherent.{IsSound}
+use Rattle.walk_law.proofs.Below.heap_law.Words.{itself, named}
+use Rattle.walk_law.specs.Below.type_law.ClusterTypes.{IsCoherent}
+use Rattle.walk_law.specs.Below.word_law.Unmoved.{Delivers}
+use Rattle.walk_law.proofs.Below.event_law.MutexResults.{has}
 use Rattle.walk_law.proofs.Below.free_law.Unled.{none_leads}
 use Rattle.walk_law.proofs.Below.wait_law.Found.{Weighing, weighing}
 use Rattle.walk_law.proofs.New.{IsQuiet}

@@ -2,37 +2,37 @@
 use Rattle.std.proofs.Common.{◌≡◌, ℕ, ◌+◌, ◌≤◌, ◌==◌, ◌&&◌, Bool, true, false, List, [], ◌∷◌, ◌++◌, Option, Some, None, refl, sym, ap, subst, ◌∙◌, arith}
 use Rattle.std.specs.Prelude.{slice_get, option_map, remove}
 use Rattle.std.proofs.lemmas.Bool.Decides.{nat_tests}
-use Rattle.fr_base.specs.Lists.{is_in}
-use Rattle.heap_partition.specs.declared.value.Cell.{Cell}
-use Rattle.read_cache.specs.Cache.{can_fill, can_pin}
-use Rattle.thread_state.specs.View.{ThreadState}
-use Rattle.thread_state.specs.declared.phase.Phase.{Phase}
-use Rattle.thread_state.specs.declared.phase.Phase.TheVariants as phase
-use Rattle.server_msgs.specs.declared.message.Message.TheVariants as message
-use Rattle.journal.specs.View.{EntryView}
-use Rattle.server_model.specs.declared.event.Event.{Event}
-use Rattle.server_model.specs.declared.event.What.TheVariants.{Deliver}
-use Rattle.server_model.specs.Servers.{Server, Cluster, server_at}
-use Rattle.server_model.specs.Work.{Hand, Site, receive, then_some, thread_in, set_thread, put_back, at_thread, used_once}
-use Rattle.server_model.specs.Objects.{waits_for_cell, filled, deliver_fetched}
-use Rattle.server_model.specs.Events.{begin_work, enabled, received, left_by, deliver_message, does}
-use Rattle.server_model.specs.Clusters.{done_at, act_at, apply}
-use Rattle.heap_law.specs.Names.{tot, one, Among}
-use Rattle.heap_law.specs.Things.{Thing, stands, things_at, message_things, waiting_things, leaving_things, server_things, things_of}
-use Rattle.heap_law.specs.Follow.{Standing, threads_in}
-use Rattle.heap_law.specs.Weights.{is_thread}
-use Rattle.heap_law.specs.Coherent.{IsSound}
-use Rattle.heap_law.proofs.Words.{none_at}
-use Rattle.event_law.specs.Laws.{Gives, FewEvents}
-use Rattle.event_law.proofs.Results.{then_gives, over_gives, test_gives, weaker}
-use Rattle.event_law.proofs.Trades.{tot-remove}
-use Rattle.event_law.proofs.Bags.{all_standing, tot-without, tot-set, thread_number}
-use Rattle.event_law.proofs.Unseen.{Unseen, Unnoted, thread_alone, seen_of}
-use Rattle.event_law.proofs.KnownSound.{on_standing, sum_standing}
-use Rattle.event_law.proofs.Events.{tot-server}
-use Rattle.event_law.proofs.Applied.{handed_on}
-use Rattle.event_law.proofs.Sending.{each_event_sends}
-use Rattle.word_law.specs.Unmoved.{Delivers}
+use Rattle.walk_law.specs.Below.fr_base.Lists.{is_in}
+use Rattle.walk_law.specs.Below.heap_partition.declared.value.Cell.{Cell}
+use Rattle.walk_law.specs.Below.read_cache.Cache.{can_fill, can_pin}
+use Rattle.walk_law.specs.Below.thread_state.View.{ThreadState}
+use Rattle.walk_law.specs.Below.thread_state.declared.phase.Phase.{Phase}
+use Rattle.walk_law.specs.Below.thread_state.declared.phase.Phase.TheVariants as phase
+use Rattle.walk_law.specs.Below.server_msgs.declared.message.Message.TheVariants as message
+use Rattle.walk_law.specs.Below.journal.View.{EntryView}
+use Rattle.walk_law.specs.Below.server_model.declared.event.Event.{Event}
+use Rattle.walk_law.specs.Below.server_model.declared.event.What.TheVariants.{Deliver}
+use Rattle.walk_law.specs.Below.server_model.Servers.{Server, Cluster, server_at}
+use Rattle.walk_law.specs.Below.server_model.Work.{Hand, Site, receive, then_some, thread_in, set_thread, put_back, at_thread, used_once}
+use Rattle.walk_law.specs.Below.server_model.Objects.{waits_for_cell, filled, deliver_fetched}
+use Rattle.walk_law.specs.Below.server_model.Events.{begin_work, enabled, received, left_by, deliver_message, does}
+use Rattle.walk_law.specs.Below.server_model.Clusters.{done_at, act_at, apply}
+use Rattle.walk_law.specs.Below.heap_law.Names.{tot, one, Among}
+use Rattle.walk_law.specs.Below.heap_law.Things.{Thing, stands, things_at, message_things, waiting_things, leaving_things, server_things, things_of}
+use Rattle.walk_law.specs.Below.heap_law.Follow.{Standing, threads_in}
+use Rattle.walk_law.specs.Below.heap_law.Weights.{is_thread}
+use Rattle.walk_law.specs.Below.heap_law.Coherent.{IsSound}
+use Rattle.walk_law.proofs.Below.heap_law.Words.{none_at}
+use Rattle.walk_law.specs.Below.event_law.Laws.{Gives, FewEvents}
+use Rattle.walk_law.proofs.Below.event_law.Results.{then_gives, over_gives, test_gives, weaker}
+use Rattle.walk_law.proofs.Below.event_law.Trades.{tot-remove}
+use Rattle.walk_law.proofs.Below.event_law.Bags.{all_standing, tot-without, tot-set, thread_number}
+use Rattle.walk_law.proofs.Below.event_law.Unseen.{Unseen, Unnoted, thread_alone, seen_of}
+use Rattle.walk_law.proofs.Below.event_law.KnownSound.{on_standing, sum_standing}
+use Rattle.walk_law.proofs.Below.event_law.Events.{tot-server}
+use Rattle.walk_law.proofs.Below.event_law.Applied.{handed_on}
+use Rattle.walk_law.proofs.Below.event_law.Sending.{each_event_sends}
+use Rattle.walk_law.specs.Below.word_law.Unmoved.{Delivers}
 
 -- it waits for an object or a copy
 abbrev pub waits_cell : Phase → Bool
@@ -159,9 +159,9 @@ module _ (t : ℕ) where
             over_gives (λ (h : Hand). Good (put_back s.threads h)) Good (deliver_fetched w c (record { work = begin_work (receive s.rest i); thread = y })) (put_back s.threads)
             (test_gives (λ (h : Hand). Good (put_back s.threads h)) (waits_for_cell y.phase w) _ (λ z.
             over_gives (Left y) (λ (h : Hand). Good (put_back s.threads h)) (filled w c (record { work = begin_work (receive s.rest i); thread = y })) _ (fills y) (λ h g.
-            gets y e z (record h { work = record h.work { acts = h.work.acts ++ Rattle.journal.specs.declared.act.Act.TheVariants.Fill c.object w ∷ [] } }) (record { number = g.number; inbox = g.inbox; outbox = g.outbox; thread = g.thread })))) (λ h a. a)
+            gets y e z (record h { work = record h.work { acts = h.work.acts ++ Rattle.walk_law.specs.Below.journal.declared.act.Act.TheVariants.Fill c.object w ∷ [] } }) (record { number = g.number; inbox = g.inbox; outbox = g.outbox; thread = g.thread })))) (λ h a. a)
 
-    goes : (code : List Rattle.fr_base.specs.declared.instruction.Instr.Instr) (o : Rattle.fr_base.specs.declared.settings.Options.Options) → Gives Less (does code o s (Deliver i))
+    goes : (code : List Rattle.walk_law.specs.Below.fr_base.declared.instruction.Instr.Instr) (o : Rattle.walk_law.specs.Below.fr_base.declared.settings.Options.Options) → Gives Less (does code o s (Deliver i))
     goes code o =
         subst (λ m. Gives Less (option_map (left_by s.events None None) (then_some m (λ x. deliver_message code x (received i s))))) (sym q)
         (over_gives Good Less (at_thread t (deliver_fetched w c) (received i s)) (left_by s.events None None) comes (λ x a. a))

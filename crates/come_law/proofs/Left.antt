@@ -1,40 +1,40 @@
 -- What a thread has passed for a write lies at its server after the delivery of a `move` or a `drop`: no object is fetched away that a write has passed.
 use Rattle.std.proofs.Common.{◌≡◌, ◌⊎◌, inl, inr, ℕ, suc, ◌≤◌, ◌<◌, ◌==◌, ◌&&◌, not, nat_le, Bool, true, false, Option, Some, None, refl, sym, ap, subst, ◌∙◌, arith}
 use Rattle.std.proofs.lemmas.Bool.Decides.{nat_tests}
-use Rattle.fr_base.specs.declared.name.ObjNo.{ObjNo}
-use Rattle.fr_base.specs.declared.place.Lval.{Lval}
-use Rattle.fr_base.specs.Names.{same_object}
-use Rattle.thread_state.specs.declared.phase.Phase.{Phase}
-use Rattle.thread_state.specs.declared.phase.Phase.TheVariants as phase
-use Rattle.server_msgs.specs.declared.message.Message.{Message}
-use Rattle.server_msgs.specs.declared.message.Message.TheVariants as message
-use Rattle.journal.specs.View.{EntryView}
-use Rattle.server_model.specs.declared.event.Event.{Event}
-use Rattle.server_model.specs.Servers.{Cluster}
-use Rattle.server_model.specs.Clusters.{apply}
-use Rattle.heap_law.specs.Names.{tot, one, if_so, Among}
-use Rattle.heap_law.specs.Things.{in_cell, things_of}
-use Rattle.heap_law.specs.Follow.{Standing, threads_in, thread_at, locate}
-use Rattle.heap_law.specs.Paths.{Path, no_path, reads, shares, lends, writes, ends, written_place}
-use Rattle.heap_law.specs.Passing.{PassedLaw}
-use Rattle.heap_law.specs.Sight.{Sight, sight}
-use Rattle.heap_law.specs.Weights.{lies_at}
-use Rattle.heap_law.specs.Walking.{path, in_walk, over_place, over_passed, away, hop_count, too_far}
-use Rattle.heap_law.specs.Coherent.{Holds, passed_in_a_walk, passed_lie_here}
-use Rattle.heap_law.proofs.Passing.{passed_law}
-use Rattle.heap_law.proofs.Words.{none_at, none_all}
-use Rattle.type_law.specs.ClusterTypes.{IsCoherent}
-use Rattle.path_law.specs.HeapStore.{GoesOn, HasPaths}
-use Rattle.path_law.proofs.Alike.{coherent_has_paths}
-use Rattle.path_law.proofs.Sole.{some_is}
-use Rattle.word_law.specs.Reworded.{HasPlaces}
-use Rattle.word_law.specs.Unmoved.{Delivers}
-use Rattle.event_law.specs.Laws.{Gives, FewEvents}
-use Rattle.event_law.proofs.Results.{both_give}
-use Rattle.event_law.proofs.Sending.{applied_part}
-use Rattle.still_law.proofs.Tests.{IsTest, objects}
-use Rattle.still_law.proofs.Told.{found}
-use Rattle.local_law.proofs.Sentences.{passed_kept}
+use Rattle.walk_law.specs.Below.fr_base.declared.name.ObjNo.{ObjNo}
+use Rattle.walk_law.specs.Below.fr_base.declared.place.Lval.{Lval}
+use Rattle.walk_law.specs.Below.fr_base.Names.{same_object}
+use Rattle.walk_law.specs.Below.thread_state.declared.phase.Phase.{Phase}
+use Rattle.walk_law.specs.Below.thread_state.declared.phase.Phase.TheVariants as phase
+use Rattle.walk_law.specs.Below.server_msgs.declared.message.Message.{Message}
+use Rattle.walk_law.specs.Below.server_msgs.declared.message.Message.TheVariants as message
+use Rattle.walk_law.specs.Below.journal.View.{EntryView}
+use Rattle.walk_law.specs.Below.server_model.declared.event.Event.{Event}
+use Rattle.walk_law.specs.Below.server_model.Servers.{Cluster}
+use Rattle.walk_law.specs.Below.server_model.Clusters.{apply}
+use Rattle.walk_law.specs.Below.heap_law.Names.{tot, one, if_so, Among}
+use Rattle.walk_law.specs.Below.heap_law.Things.{in_cell, things_of}
+use Rattle.walk_law.specs.Below.heap_law.Follow.{Standing, threads_in, thread_at, locate}
+use Rattle.walk_law.specs.Below.heap_law.Paths.{Path, no_path, reads, shares, lends, writes, ends, written_place}
+use Rattle.walk_law.specs.Below.heap_law.Passing.{PassedLaw}
+use Rattle.walk_law.specs.Below.heap_law.Sight.{Sight, sight}
+use Rattle.walk_law.specs.Below.heap_law.Weights.{lies_at}
+use Rattle.walk_law.specs.Below.heap_law.Walking.{path, in_walk, over_place, over_passed, away, hop_count, too_far}
+use Rattle.walk_law.specs.Below.heap_law.Coherent.{Holds, passed_in_a_walk, passed_lie_here}
+use Rattle.walk_law.proofs.Below.heap_law.Passing.{passed_law}
+use Rattle.walk_law.proofs.Below.heap_law.Words.{none_at, none_all}
+use Rattle.walk_law.specs.Below.type_law.ClusterTypes.{IsCoherent}
+use Rattle.walk_law.specs.Below.path_law.HeapStore.{GoesOn, HasPaths}
+use Rattle.walk_law.proofs.Below.path_law.Alike.{coherent_has_paths}
+use Rattle.walk_law.proofs.Below.path_law.Sole.{some_is}
+use Rattle.walk_law.specs.Below.word_law.Reworded.{HasPlaces}
+use Rattle.walk_law.specs.Below.word_law.Unmoved.{Delivers}
+use Rattle.walk_law.specs.Below.event_law.Laws.{Gives, FewEvents}
+use Rattle.walk_law.proofs.Below.event_law.Results.{both_give}
+use Rattle.walk_law.proofs.Below.event_law.Sending.{applied_part}
+use Rattle.walk_law.proofs.Below.still_law.Tests.{IsTest, objects}
+use Rattle.walk_law.proofs.Below.still_law.Told.{found}
+use Rattle.walk_law.proofs.Below.local_law.Sentences.{passed_kept}
 use Rattle.walk_law.specs.Below.wait_law.Places.{Follows}
 use Rattle.walk_law.proofs.Still.{Lasts}
 use Rattle.walk_law.proofs.New.{newly, IsQuiet, new_ones}
@@ -121,11 +121,11 @@ module _ (k : Cluster) (e : Event) (m : Message) (o : ObjNo) (coherent : IsCoher
 
   within : (x : Standing) (w : Lval) → Among x (sight k).ground.threads → written_place (path (sight k) x) ≡ Some w → x.thread.passed ≤ w.depth
   within x w among is =
-      let all : Rattle.heap_law.specs.Names.other (nat_le x.thread.passed (hop_count (written_place (path (sight k) x)))) ≡ 0 = far x among in
-      let mine : Rattle.heap_law.specs.Names.other (nat_le x.thread.passed w.depth) ≡ 0 = subst (λ p. Rattle.heap_law.specs.Names.other (nat_le x.thread.passed (hop_count p)) ≡ 0) is all in
+      let all : Rattle.walk_law.specs.Below.heap_law.Names.other (nat_le x.thread.passed (hop_count (written_place (path (sight k) x)))) ≡ 0 = far x among in
+      let mine : Rattle.walk_law.specs.Below.heap_law.Names.other (nat_le x.thread.passed w.depth) ≡ 0 = subst (λ p. Rattle.walk_law.specs.Below.heap_law.Names.other (nat_le x.thread.passed (hop_count p)) ≡ 0) is all in
       le (nat_le x.thread.passed w.depth) refl mine
     where
-      le : (b : Bool) → nat_le x.thread.passed w.depth ≡ b → Rattle.heap_law.specs.Names.other b ≡ 0 → x.thread.passed ≤ w.depth
+      le : (b : Bool) → nat_le x.thread.passed w.depth ≡ b → Rattle.walk_law.specs.Below.heap_law.Names.other b ≡ 0 → x.thread.passed ≤ w.depth
       le true e z = grind (arith, nat_tests, e)
       le false e z = absurd (cc z)
 

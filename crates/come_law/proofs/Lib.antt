@@ -1,3 +1,4 @@
+pub mod Below
 pub mod Mail
 pub mod Asked
 pub mod Filled

@@ -1,44 +1,44 @@
 -- Each object but that of the message lies where it lay after the delivery of a `move` or a `drop`.
 use Rattle.std.proofs.Common.{◌≡◌, ℕ, ◌+◌, ◌≤◌, ◌==◌, ◌&&◌, nat_lt, Bool, true, false, if◌then◌else◌, ◌++◌, Option, Some, None, refl, sym, ap, subst, ◌∙◌, arith}
 use Rattle.std.specs.Prelude.{slice_get, option_map}
-use Rattle.fr_base.specs.declared.name.ObjNo.{ObjNo}
-use Rattle.fr_base.specs.declared.release.Released.TheVariants as released
-use Rattle.fr_base.specs.Names.{same_object}
-use Rattle.global_addr.specs.Words.{colour_of, server_of, address_of}
-use Rattle.heap_partition.specs.declared.value.Cell.{Cell}
-use Rattle.heap_partition.specs.declared.value.Owned.{Owned}
-use Rattle.heap_partition.specs.declared.value.Owned.TheVariants as owned
-use Rattle.owner_box.specs.View.{PartitionState}
-use Rattle.owner_box.specs.Partition.{freed}
-use Rattle.server_msgs.specs.declared.message.Message.{Message}
-use Rattle.server_msgs.specs.declared.message.Message.TheVariants as message
-use Rattle.journal.specs.View.{EntryView}
-use Rattle.server_model.specs.declared.event.Event.{Event}
-use Rattle.server_model.specs.declared.event.What.TheVariants.{Deliver}
-use Rattle.server_model.specs.Servers.{Rest, Server, Cluster, server_at}
-use Rattle.server_model.specs.Work.{Work, receive, sent_from, look_object, then_some, beside_threads}
-use Rattle.server_model.specs.Drop.{home_of, give_up}
-use Rattle.server_model.specs.Objects.{deliver_move, deliver_drop}
-use Rattle.server_model.specs.Events.{enabled, received, left_by, deliver_message, does}
-use Rattle.server_model.specs.Clusters.{done_at, act_at, apply}
-use Rattle.heap_law.specs.Names.{tot, one}
-use Rattle.heap_law.specs.Things.{Thing, lies, flies, stands, sent, vacant, retired, partition_things, server_things, things_of}
-use Rattle.heap_law.specs.Weights.{states, lies_at}
-use Rattle.heap_law.specs.Coherent.{IsSound}
-use Rattle.heap_law.proofs.Sums.{tot-append}
-use Rattle.word_law.specs.Unmoved.{Delivers}
-use Rattle.event_law.specs.Laws.{Gives, FewEvents}
-use Rattle.event_law.proofs.Results.{then_gives, map_gives, over_gives, test_gives, weaker}
-use Rattle.event_law.proofs.Bags.{all_standing, rest_things, server_same, of_receiving, of_partition, of_sending, sent_number}
-use Rattle.event_law.proofs.Cells.{left_by as address_left, looked, frees, not_free}
-use Rattle.event_law.proofs.Objects.{one_state}
-use Rattle.event_law.proofs.ObjectMessages.{looked_object}
-use Rattle.event_law.proofs.Events.{tot-server}
-use Rattle.event_law.proofs.Applied.{handed_on}
-use Rattle.event_law.proofs.Sending.{each_event_sends}
-use Rattle.still_law.proofs.Leaving.{others, placed_here}
-use Rattle.still_law.proofs.Tests.{IsTest, objects}
-use Rattle.still_law.proofs.Told.{tot_same}
+use Rattle.walk_law.specs.Below.fr_base.declared.name.ObjNo.{ObjNo}
+use Rattle.walk_law.specs.Below.fr_base.declared.release.Released.TheVariants as released
+use Rattle.walk_law.specs.Below.fr_base.Names.{same_object}
+use Rattle.walk_law.specs.Below.global_addr.Words.{colour_of, server_of, address_of}
+use Rattle.walk_law.specs.Below.heap_partition.declared.value.Cell.{Cell}
+use Rattle.walk_law.specs.Below.heap_partition.declared.value.Owned.{Owned}
+use Rattle.walk_law.specs.Below.heap_partition.declared.value.Owned.TheVariants as owned
+use Rattle.walk_law.specs.Below.owner_box.View.{PartitionState}
+use Rattle.walk_law.specs.Below.owner_box.Partition.{freed}
+use Rattle.walk_law.specs.Below.server_msgs.declared.message.Message.{Message}
+use Rattle.walk_law.specs.Below.server_msgs.declared.message.Message.TheVariants as message
+use Rattle.walk_law.specs.Below.journal.View.{EntryView}
+use Rattle.walk_law.specs.Below.server_model.declared.event.Event.{Event}
+use Rattle.walk_law.specs.Below.server_model.declared.event.What.TheVariants.{Deliver}
+use Rattle.walk_law.specs.Below.server_model.Servers.{Rest, Server, Cluster, server_at}
+use Rattle.walk_law.specs.Below.server_model.Work.{Work, receive, sent_from, look_object, then_some, beside_threads}
+use Rattle.walk_law.specs.Below.server_model.Drop.{home_of, give_up}
+use Rattle.walk_law.specs.Below.server_model.Objects.{deliver_move, deliver_drop}
+use Rattle.walk_law.specs.Below.server_model.Events.{enabled, received, left_by, deliver_message, does}
+use Rattle.walk_law.specs.Below.server_model.Clusters.{done_at, act_at, apply}
+use Rattle.walk_law.specs.Below.heap_law.Names.{tot, one}
+use Rattle.walk_law.specs.Below.heap_law.Things.{Thing, lies, flies, stands, sent, vacant, retired, partition_things, server_things, things_of}
+use Rattle.walk_law.specs.Below.heap_law.Weights.{states, lies_at}
+use Rattle.walk_law.specs.Below.heap_law.Coherent.{IsSound}
+use Rattle.walk_law.proofs.Below.heap_law.Sums.{tot-append}
+use Rattle.walk_law.specs.Below.word_law.Unmoved.{Delivers}
+use Rattle.walk_law.specs.Below.event_law.Laws.{Gives, FewEvents}
+use Rattle.walk_law.proofs.Below.event_law.Results.{then_gives, map_gives, over_gives, test_gives, weaker}
+use Rattle.walk_law.proofs.Below.event_law.Bags.{all_standing, rest_things, server_same, of_receiving, of_partition, of_sending, sent_number}
+use Rattle.walk_law.proofs.Below.event_law.Cells.{left_by as address_left, looked, frees, not_free}
+use Rattle.walk_law.proofs.Below.event_law.Objects.{one_state}
+use Rattle.walk_law.proofs.Below.event_law.ObjectMessages.{looked_object}
+use Rattle.walk_law.proofs.Below.event_law.Events.{tot-server}
+use Rattle.walk_law.proofs.Below.event_law.Applied.{handed_on}
+use Rattle.walk_law.proofs.Below.event_law.Sending.{each_event_sends}
+use Rattle.walk_law.proofs.Below.still_law.Leaving.{others, placed_here}
+use Rattle.walk_law.proofs.Below.still_law.Tests.{IsTest, objects}
+use Rattle.walk_law.proofs.Below.still_law.Told.{tot_same}
 use Rattle.walk_law.proofs.Cells.{Seeing, cell_weight, amount, rest_seen}
 use Rattle.come_law.proofs.Turn.{all_give}
 
@@ -91,7 +91,7 @@ module _ (k : Cluster) (sound : IsSound k) (number : ℕ) (s : Server) (here : s
   abbrev without : ℕ → ℕ → Rest
   without i w = record (receive s.rest i) { partition = freed p w }
 
-  gone : (i w : ℕ) (m : Message) (c : Cell) → slice_get s.rest.inbox i ≡ Some m → tot f (Rattle.heap_law.specs.Things.message_things n m) ≡ 0 → look_object p w o ≡ Some c
+  gone : (i w : ℕ) (m : Message) (c : Cell) → slice_get s.rest.inbox i ≡ Some m → tot f (Rattle.walk_law.specs.Below.heap_law.Things.message_things n m) ≡ 0 → look_object p w o ≡ Some c
       → amount (see r q) n s.rest.partition s.rest.inbox s.rest.outbox ≤ amount (see r q) n (without i w).partition (without i w).inbox (without i w).outbox
   gone i w m c at none l =
       let lies_here : slice_get p.cells (address_of w) ≡ Some (Some c) = looked p w c (looked_object p w o c l).0 in

@@ -1,50 +1,50 @@
 -- The messages that ask for something stay until they are delivered: the delivery of another one leaves them, and a request is answered.
 use Rattle.std.proofs.Common.{◌≡◌, ℕ, zero, suc, ◌+◌, ◌-◌, ◌≤◌, ◌==◌, Bool, true, false, if◌then◌else◌, List, [], ◌∷◌, ◌++◌, length, Option, Some, None, refl, ap, ◌∙◌, arith}
 use Rattle.std.specs.Prelude.{slice_get, option_map, remove}
-use Rattle.fr_base.specs.Lists.{is_in}
-use Rattle.fr_base.specs.declared.name.MutexNo.{MutexNo}
-use Rattle.fr_base.specs.declared.name.ObjNo.{ObjNo}
-use Rattle.fr_base.specs.declared.place.Lval.{Lval}
-use Rattle.fr_base.specs.declared.instruction.Instr.{Instr}
-use Rattle.fr_base.specs.declared.release.Released.{Released}
-use Rattle.fr_base.specs.declared.release.Released.TheVariants as released
-use Rattle.heap_partition.specs.declared.value.Cell.{Cell}
-use Rattle.heap_partition.specs.declared.value.Owned.{Owned}
-use Rattle.heap_partition.specs.declared.value.Owned.TheVariants as owned
-use Rattle.owner_box.specs.Partition.{freed}
-use Rattle.read_cache.specs.Cache.{can_pin, can_fill}
-use Rattle.mutex_home.specs.Mutexes.{Mutexes, ask, give_back, more, less}
-use Rattle.mutex_home.specs.declared.answers.Asked.{Asked}
-use Rattle.mutex_home.specs.declared.answers.Asked.TheVariants as asked
-use Rattle.mutex_home.specs.declared.answers.Back.{Back}
-use Rattle.mutex_home.specs.declared.answers.Back.TheVariants as back
-use Rattle.join_home.specs.Tasks.{Task, ended, let_go_of}
-use Rattle.join_home.specs.Tasks as tasks
-use Rattle.join_home.specs.declared.answers.EndedAs.{EndedAs}
-use Rattle.join_home.specs.declared.answers.EndedAs.TheVariants as over
-use Rattle.thread_state.specs.View.{ThreadState}
-use Rattle.thread_state.specs.declared.phase.Phase.TheVariants as phase
-use Rattle.thread_state.specs.declared.value.Value.{Value}
-use Rattle.thread_state.specs.declared.value.Value.TheVariants as value
-use Rattle.server_msgs.specs.declared.message.Message.{Message}
-use Rattle.server_msgs.specs.declared.message.Message.TheVariants as message
-use Rattle.journal.specs.declared.act.Act.TheVariants as act
-use Rattle.server_model.specs.Servers.{Sent, Rest}
-use Rattle.server_model.specs.Work.{Work, Hand, Site, sent_from, leads_here, working, with_phase, with_mutexes, with_tasks, with_partition, then_some, put_back, thread_in, at_thread, beside_threads, look_object, used_once, note}
-use Rattle.server_model.specs.NewWords.{NewWord, can_grow, issue_placed}
-use Rattle.server_model.specs.Places.{Spot, in_slot, on_top, in_cell, in_copy, nowhere, note_write, value_at, put_at, with_word, set_pointer}
-use Rattle.server_model.specs.Drop.{give_up}
-use Rattle.server_model.specs.Prepare.{Access, ReadTo, ReadPointer, WriteTo, LendTo, EndRef, passing, write_stars}
-use Rattle.server_model.specs.Objects.{deliver_fetch, waits_for_cell, filled, deliver_fetched, deliver_move, chased, waits_under, arrived_at, arrived_slot, passed_spot, arrived_write, arrived_lend, arrived_end, arrived, instr_access, deliver_moved, deliver_drop}
-use Rattle.server_model.specs.Sharing.{given, answer_lock, deliver_lock, waits_for_lock, deliver_granted, answer_back, deliver_unlock, deliver_dup, waits_for_dup, deliver_dupped, give_up_left}
-use Rattle.server_model.specs.Joining.{answer_join, deliver_join, waits_for_join, deliver_joined, got_par, pair_over, end_answer, deliver_finished}
-use Rattle.server_model.specs.Events.{release, deliver_message}
-use Rattle.heap_law.specs.Names.{tot}
-use Rattle.heap_law.specs.Things.{Thing, things_at, message_things, waiting_things, leaving_things}
-use Rattle.heap_law.proofs.Names.{same_number}
-use Rattle.event_law.specs.Laws.{Gives}
-use Rattle.event_law.proofs.Results.{then_gives, map_gives, over_gives, bind_gives, test_gives, stand_gives}
-use Rattle.event_law.proofs.Trades.{tot-push}
+use Rattle.walk_law.specs.Below.fr_base.Lists.{is_in}
+use Rattle.walk_law.specs.Below.fr_base.declared.name.MutexNo.{MutexNo}
+use Rattle.walk_law.specs.Below.fr_base.declared.name.ObjNo.{ObjNo}
+use Rattle.walk_law.specs.Below.fr_base.declared.place.Lval.{Lval}
+use Rattle.walk_law.specs.Below.fr_base.declared.instruction.Instr.{Instr}
+use Rattle.walk_law.specs.Below.fr_base.declared.release.Released.{Released}
+use Rattle.walk_law.specs.Below.fr_base.declared.release.Released.TheVariants as released
+use Rattle.walk_law.specs.Below.heap_partition.declared.value.Cell.{Cell}
+use Rattle.walk_law.specs.Below.heap_partition.declared.value.Owned.{Owned}
+use Rattle.walk_law.specs.Below.heap_partition.declared.value.Owned.TheVariants as owned
+use Rattle.walk_law.specs.Below.owner_box.Partition.{freed}
+use Rattle.walk_law.specs.Below.read_cache.Cache.{can_pin, can_fill}
+use Rattle.walk_law.specs.Below.mutex_home.Mutexes.{Mutexes, ask, give_back, more, less}
+use Rattle.walk_law.specs.Below.mutex_home.declared.answers.Asked.{Asked}
+use Rattle.walk_law.specs.Below.mutex_home.declared.answers.Asked.TheVariants as asked
+use Rattle.walk_law.specs.Below.mutex_home.declared.answers.Back.{Back}
+use Rattle.walk_law.specs.Below.mutex_home.declared.answers.Back.TheVariants as back
+use Rattle.walk_law.specs.Below.join_home.Tasks.{Task, ended, let_go_of}
+use Rattle.walk_law.specs.Below.join_home.Tasks as tasks
+use Rattle.walk_law.specs.Below.join_home.declared.answers.EndedAs.{EndedAs}
+use Rattle.walk_law.specs.Below.join_home.declared.answers.EndedAs.TheVariants as over
+use Rattle.walk_law.specs.Below.thread_state.View.{ThreadState}
+use Rattle.walk_law.specs.Below.thread_state.declared.phase.Phase.TheVariants as phase
+use Rattle.walk_law.specs.Below.thread_state.declared.value.Value.{Value}
+use Rattle.walk_law.specs.Below.thread_state.declared.value.Value.TheVariants as value
+use Rattle.walk_law.specs.Below.server_msgs.declared.message.Message.{Message}
+use Rattle.walk_law.specs.Below.server_msgs.declared.message.Message.TheVariants as message
+use Rattle.walk_law.specs.Below.journal.declared.act.Act.TheVariants as act
+use Rattle.walk_law.specs.Below.server_model.Servers.{Sent, Rest}
+use Rattle.walk_law.specs.Below.server_model.Work.{Work, Hand, Site, sent_from, leads_here, working, with_phase, with_mutexes, with_tasks, with_partition, then_some, put_back, thread_in, at_thread, beside_threads, look_object, used_once, note}
+use Rattle.walk_law.specs.Below.server_model.NewWords.{NewWord, can_grow, issue_placed}
+use Rattle.walk_law.specs.Below.server_model.Places.{Spot, in_slot, on_top, in_cell, in_copy, nowhere, note_write, value_at, put_at, with_word, set_pointer}
+use Rattle.walk_law.specs.Below.server_model.Drop.{give_up}
+use Rattle.walk_law.specs.Below.server_model.Prepare.{Access, ReadTo, ReadPointer, WriteTo, LendTo, EndRef, passing, write_stars}
+use Rattle.walk_law.specs.Below.server_model.Objects.{deliver_fetch, waits_for_cell, filled, deliver_fetched, deliver_move, chased, waits_under, arrived_at, arrived_slot, passed_spot, arrived_write, arrived_lend, arrived_end, arrived, instr_access, deliver_moved, deliver_drop}
+use Rattle.walk_law.specs.Below.server_model.Sharing.{given, answer_lock, deliver_lock, waits_for_lock, deliver_granted, answer_back, deliver_unlock, deliver_dup, waits_for_dup, deliver_dupped, give_up_left}
+use Rattle.walk_law.specs.Below.server_model.Joining.{answer_join, deliver_join, waits_for_join, deliver_joined, got_par, pair_over, end_answer, deliver_finished}
+use Rattle.walk_law.specs.Below.server_model.Events.{release, deliver_message}
+use Rattle.walk_law.specs.Below.heap_law.Names.{tot}
+use Rattle.walk_law.specs.Below.heap_law.Things.{Thing, things_at, message_things, waiting_things, leaving_things}
+use Rattle.walk_law.proofs.Below.heap_law.Names.{same_number}
+use Rattle.walk_law.specs.Below.event_law.Laws.{Gives}
+use Rattle.walk_law.proofs.Below.event_law.Results.{then_gives, map_gives, over_gives, bind_gives, test_gives, stand_gives}
+use Rattle.walk_law.proofs.Below.event_law.Trades.{tot-push}
 
 module _ (n : ℕ) (f : Thing → ℕ) where
   -- what the messages that wait and that leave weigh
@@ -94,7 +94,7 @@ module _ (n : ℕ) (f : Thing → ℕ) where
     puts on_top v h a = a
     puts (in_cell w through) (value.Own v) h a = test_gives OfHand (leads_here h.work.rest.partition w) _ (λ z. noted through a)
       where
-        noted : (o : Option ℕ) → OfHand h → OfHand (note_write o (working (with_partition (Rattle.owner_box.specs.Partition.stored h.work.rest.partition w v)) h))
+        noted : (o : Option ℕ) → OfHand h → OfHand (note_write o (working (with_partition (Rattle.walk_law.specs.Below.owner_box.Partition.stored h.work.rest.partition w v)) h))
         noted None b = b
         noted (Some j) b = b
     puts (in_cell w through) value.Gone h a = tt

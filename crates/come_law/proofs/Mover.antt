@@ -3,33 +3,33 @@ use Rattle.std.proofs.Common.{◌≡◌, ◌≤◌, ℕ, ◌+◌, ◌*◌, ◌==
 use Rattle.std.specs.Prelude.{slice_get}
 use Rattle.std.proofs.lemmas.Bool.Decides.{nat_tests}
 use Rattle.std.proofs.lemmas.Bool.{eqb-true}
-use Rattle.fr_base.specs.declared.name.ObjNo.{ObjNo}
-use Rattle.global_addr.specs.Words.{server_of, address_of}
-use Rattle.thread_state.specs.View.{is_over}
-use Rattle.thread_state.specs.declared.phase.Phase.{Phase}
-use Rattle.thread_state.specs.declared.phase.Phase.TheVariants as phase
-use Rattle.server_msgs.specs.declared.message.Message.{Message}
-use Rattle.server_msgs.specs.declared.message.Message.TheVariants as message
-use Rattle.server_model.specs.Servers.{Server, Cluster, server_at}
-use Rattle.heap_law.specs.Names.{tot, one, other, if_so, some, same_object}
-use Rattle.heap_law.specs.Things.{Thing, in_cell, lies, flies, sent, message_things, things_of}
-use Rattle.heap_law.specs.Follow.{Standing, thread_at}
-use Rattle.heap_law.specs.OneHeap.{two_in}
-use Rattle.heap_law.specs.Paths.{Awaited}
-use Rattle.heap_law.specs.Sight.{sight, is_word, word}
-use Rattle.heap_law.specs.Weights.{cells, lies_at, lies_under}
-use Rattle.heap_law.specs.Walking.{path, asks_for, asked_for, own_request}
-use Rattle.heap_law.specs.Requests.{is_cell, in_phase, in_server, stands_at, halves, halves_to, message_answer, carries, other_asker, not_there}
-use Rattle.heap_law.specs.Coherent.{IsSound}
-use Rattle.heap_law.proofs.Names.{and_left, and_right}
-use Rattle.heap_law.proofs.Words.{named, itself}
-use Rattle.event_law.proofs.MutexResults.{has}
-use Rattle.path_law.specs.HeapStore.{GoesOn, HasPaths}
-use Rattle.path_law.proofs.Contained.{among_thread}
-use Rattle.read_law.proofs.FreshReads.{chain_apart}
-use Rattle.result_law.proofs.Alone.{needed_less, is_asked}
-use Rattle.result_law.proofs.Awaits.{awaited_mine}
-use Rattle.result_law.proofs.Made.{OwnedBy}
+use Rattle.walk_law.specs.Below.fr_base.declared.name.ObjNo.{ObjNo}
+use Rattle.walk_law.specs.Below.global_addr.Words.{server_of, address_of}
+use Rattle.walk_law.specs.Below.thread_state.View.{is_over}
+use Rattle.walk_law.specs.Below.thread_state.declared.phase.Phase.{Phase}
+use Rattle.walk_law.specs.Below.thread_state.declared.phase.Phase.TheVariants as phase
+use Rattle.walk_law.specs.Below.server_msgs.declared.message.Message.{Message}
+use Rattle.walk_law.specs.Below.server_msgs.declared.message.Message.TheVariants as message
+use Rattle.walk_law.specs.Below.server_model.Servers.{Server, Cluster, server_at}
+use Rattle.walk_law.specs.Below.heap_law.Names.{tot, one, other, if_so, some, same_object}
+use Rattle.walk_law.specs.Below.heap_law.Things.{Thing, in_cell, lies, flies, sent, message_things, things_of}
+use Rattle.walk_law.specs.Below.heap_law.Follow.{Standing, thread_at}
+use Rattle.walk_law.specs.Below.heap_law.OneHeap.{two_in}
+use Rattle.walk_law.specs.Below.heap_law.Paths.{Awaited}
+use Rattle.walk_law.specs.Below.heap_law.Sight.{sight, is_word, word}
+use Rattle.walk_law.specs.Below.heap_law.Weights.{cells, lies_at, lies_under}
+use Rattle.walk_law.specs.Below.heap_law.Walking.{path, asks_for, asked_for, own_request}
+use Rattle.walk_law.specs.Below.heap_law.Requests.{is_cell, in_phase, in_server, stands_at, halves, halves_to, message_answer, carries, other_asker, not_there}
+use Rattle.walk_law.specs.Below.heap_law.Coherent.{IsSound}
+use Rattle.walk_law.proofs.Below.heap_law.Names.{and_left, and_right}
+use Rattle.walk_law.proofs.Below.heap_law.Words.{named, itself}
+use Rattle.walk_law.proofs.Below.event_law.MutexResults.{has}
+use Rattle.walk_law.specs.Below.path_law.HeapStore.{GoesOn, HasPaths}
+use Rattle.walk_law.proofs.Below.path_law.Contained.{among_thread}
+use Rattle.walk_law.proofs.Below.read_law.FreshReads.{chain_apart}
+use Rattle.walk_law.proofs.Below.result_law.Alone.{needed_less, is_asked}
+use Rattle.walk_law.proofs.Below.result_law.Awaits.{awaited_mine}
+use Rattle.walk_law.proofs.Below.result_law.Made.{OwnedBy}
 use Rattle.walk_law.proofs.Below.wait_law.Written.{Written}
 
 none_true : (b : Bool) → other b ≡ 0 → b ≡ true

@@ -2,44 +2,44 @@
 use Rattle.std.proofs.Common.{◌≡◌, ℕ, ◌+◌, ◌≤◌, ◌==◌, ◌&&◌, not, nat_le, Bool, true, false, List, [], ◌∷◌, ◌++◌, Option, Some, None, refl, ap, subst, ◌∙◌, arith}
 use Rattle.std.specs.Prelude.{slice_get}
 use Rattle.std.proofs.lemmas.Bool.Decides.{nat_tests}
-use Rattle.fr_base.specs.Lists.{is_in}
-use Rattle.fr_base.specs.declared.name.ObjNo.{ObjNo}
-use Rattle.fr_base.specs.declared.place.Lval.{Lval}
-use Rattle.fr_base.specs.declared.instruction.Instr.{Instr}
-use Rattle.fr_base.specs.declared.instruction.Instr.TheVariants as instr
-use Rattle.heap_partition.specs.declared.value.Cell.{Cell}
-use Rattle.heap_partition.specs.declared.value.Owned.{Owned}
-use Rattle.migration.specs.Packing.{packed}
-use Rattle.read_cache.specs.Cache.{can_fill, can_pin}
-use Rattle.thread_state.specs.View.{ThreadState, new_thread}
-use Rattle.thread_state.specs.declared.phase.Phase.{Phase}
-use Rattle.thread_state.specs.declared.phase.Phase.TheVariants as phase
-use Rattle.server_msgs.specs.declared.message.Message.TheVariants as message
-use Rattle.journal.specs.View.{EntryView}
-use Rattle.server_model.specs.declared.event.Event.{Event}
-use Rattle.server_model.specs.declared.event.What.TheVariants.{Deliver}
-use Rattle.server_model.specs.Servers.{Server, Cluster, server_at}
-use Rattle.server_model.specs.Work.{Hand, thread_in, used_once}
-use Rattle.server_model.specs.Objects.{waits_for_cell, filled}
-use Rattle.server_model.specs.Events.{Stepped, begin_work, received, step}
-use Rattle.server_model.specs.Clusters.{apply}
-use Rattle.heap_law.specs.Names.{tot, one, other, Among}
-use Rattle.heap_law.specs.Things.{Thing, lies, things_of}
-use Rattle.heap_law.specs.Follow.{Standing, threads_in}
-use Rattle.heap_law.specs.Paths.{path_of, written_place}
-use Rattle.heap_law.specs.Passing.{PassedLaw}
-use Rattle.heap_law.specs.Sight.{Sight, sight}
-use Rattle.heap_law.specs.Weights.{lies_at}
-use Rattle.heap_law.specs.Walking.{instr_of, path, over_place, over_passed, away, early, hop_count, too_far}
-use Rattle.heap_law.specs.Coherent.{IsSound, Holds, passed_lie_here}
-use Rattle.heap_law.proofs.Passing.{passed_law}
-use Rattle.heap_law.proofs.Words.{none_at, none_all}
-use Rattle.event_law.specs.Kinds.{Kind}
-use Rattle.event_law.specs.Laws.{Gives, FewEvents}
-use Rattle.event_law.proofs.Results.{over_gives, test_gives, both_give}
-use Rattle.local_law.proofs.Handed.{Stood, InParcel}
-use Rattle.stay_law.specs.Laws.{IsOfKind}
-use Rattle.stay_law.proofs.Alike.{Alike}
+use Rattle.walk_law.specs.Below.fr_base.Lists.{is_in}
+use Rattle.walk_law.specs.Below.fr_base.declared.name.ObjNo.{ObjNo}
+use Rattle.walk_law.specs.Below.fr_base.declared.place.Lval.{Lval}
+use Rattle.walk_law.specs.Below.fr_base.declared.instruction.Instr.{Instr}
+use Rattle.walk_law.specs.Below.fr_base.declared.instruction.Instr.TheVariants as instr
+use Rattle.walk_law.specs.Below.heap_partition.declared.value.Cell.{Cell}
+use Rattle.walk_law.specs.Below.heap_partition.declared.value.Owned.{Owned}
+use Rattle.walk_law.specs.Below.migration.Packing.{packed}
+use Rattle.walk_law.specs.Below.read_cache.Cache.{can_fill, can_pin}
+use Rattle.walk_law.specs.Below.thread_state.View.{ThreadState, new_thread}
+use Rattle.walk_law.specs.Below.thread_state.declared.phase.Phase.{Phase}
+use Rattle.walk_law.specs.Below.thread_state.declared.phase.Phase.TheVariants as phase
+use Rattle.walk_law.specs.Below.server_msgs.declared.message.Message.TheVariants as message
+use Rattle.walk_law.specs.Below.journal.View.{EntryView}
+use Rattle.walk_law.specs.Below.server_model.declared.event.Event.{Event}
+use Rattle.walk_law.specs.Below.server_model.declared.event.What.TheVariants.{Deliver}
+use Rattle.walk_law.specs.Below.server_model.Servers.{Server, Cluster, server_at}
+use Rattle.walk_law.specs.Below.server_model.Work.{Hand, thread_in, used_once}
+use Rattle.walk_law.specs.Below.server_model.Objects.{waits_for_cell, filled}
+use Rattle.walk_law.specs.Below.server_model.Events.{Stepped, begin_work, received, step}
+use Rattle.walk_law.specs.Below.server_model.Clusters.{apply}
+use Rattle.walk_law.specs.Below.heap_law.Names.{tot, one, other, Among}
+use Rattle.walk_law.specs.Below.heap_law.Things.{Thing, lies, things_of}
+use Rattle.walk_law.specs.Below.heap_law.Follow.{Standing, threads_in}
+use Rattle.walk_law.specs.Below.heap_law.Paths.{path_of, written_place}
+use Rattle.walk_law.specs.Below.heap_law.Passing.{PassedLaw}
+use Rattle.walk_law.specs.Below.heap_law.Sight.{Sight, sight}
+use Rattle.walk_law.specs.Below.heap_law.Weights.{lies_at}
+use Rattle.walk_law.specs.Below.heap_law.Walking.{instr_of, path, over_place, over_passed, away, early, hop_count, too_far}
+use Rattle.walk_law.specs.Below.heap_law.Coherent.{IsSound, Holds, passed_lie_here}
+use Rattle.walk_law.proofs.Below.heap_law.Passing.{passed_law}
+use Rattle.walk_law.proofs.Below.heap_law.Words.{none_at, none_all}
+use Rattle.walk_law.specs.Below.event_law.Kinds.{Kind}
+use Rattle.walk_law.specs.Below.event_law.Laws.{Gives, FewEvents}
+use Rattle.walk_law.proofs.Below.event_law.Results.{over_gives, test_gives, both_give}
+use Rattle.walk_law.proofs.Below.local_law.Handed.{Stood, InParcel}
+use Rattle.walk_law.specs.Below.stay_law.Laws.{IsOfKind}
+use Rattle.walk_law.proofs.Below.stay_law.Alike.{Alike}
 use Rattle.walk_law.specs.Below.wait_law.Steady.{IsSteady}
 use Rattle.walk_law.proofs.Below.wait_law.Fates.{Fates, fated}
 use Rattle.walk_law.proofs.Below.wait_law.Found.{weighing, among_weighs}
@@ -79,7 +79,7 @@ unpassed m true f z = grind (arith, nat_tests, f)
 unpassed m false f z = absurd (cc z)
 
 ready_unpassed : (x : Standing) → x.thread.phase ≡ phase.Ready → early x ≡ 0 → x.thread.passed ≡ 0
-ready_unpassed x e z = unpassed x.thread.passed (x.thread.passed == 0) refl (subst (λ q. one (not (Rattle.heap_law.specs.Walking.in_walk q) && not (x.thread.passed == 0)) ≡ 0) e z)
+ready_unpassed x e z = unpassed x.thread.passed (x.thread.passed == 0) refl (subst (λ q. one (not (Rattle.walk_law.specs.Below.heap_law.Walking.in_walk q) && not (x.thread.passed == 0)) ≡ 0) e z)
 
 module _ (k : Cluster) (sound : IsSound k) where
   none_before : tot (weight k) (threads_in (things_of k)) ≡ 0
@@ -120,7 +120,7 @@ module _ (k : Cluster) (sound : IsSound k) where
       early_there : (t : ℕ) (y : ThreadState) → thread_in s.threads t ≡ Some y → early (record { server = s.rest.number; packed = false; thread = y }) ≡ 0
       early_there t y there =
           none_at early (record { server = s.rest.number; packed = false; thread = y }) (threads_in (things_of k)) sound.walks.passed_in_a_walk
-          (Rattle.path_law.proofs.Contained.among_thread (sight k).ground.threads t (record { server = s.rest.number; packed = false; thread = y }) (Rattle.event_law.proofs.ThreadThere.thread_there k sound e.server s here t y there)).0
+          (Rattle.walk_law.proofs.Below.path_law.Contained.among_thread (sight k).ground.threads t (record { server = s.rest.number; packed = false; thread = y }) (Rattle.walk_law.proofs.Below.event_law.ThreadThere.thread_there k sound e.server s here t y there)).0
 
 -- AFTERWARDS
 

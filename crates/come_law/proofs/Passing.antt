@@ -2,20 +2,20 @@
 use Rattle.std.proofs.Common.{◌≡◌, ℕ, zero, suc, ◌≤◌, ◌<◌, nat_le, Bool, true, false, Option, Some, None, refl, sym, ap, ◌∙◌, arith}
 use Rattle.std.specs.Prelude.{slice_get}
 use Rattle.std.proofs.lemmas.Bool.Decides.{nat_tests}
-use Rattle.fr_base.specs.declared.name.ObjNo.{ObjNo}
-use Rattle.fr_base.specs.declared.place.Lval.{Lval}
-use Rattle.heap_partition.specs.declared.value.Owned.TheVariants as owned
-use Rattle.thread_state.specs.declared.value.Value.{Value}
-use Rattle.thread_state.specs.declared.value.Value.TheVariants as value
-use Rattle.server_model.specs.Servers.{Cluster}
-use Rattle.heap_law.specs.Names.{tot, other, some}
-use Rattle.heap_law.specs.Things.{Location, in_cell, things_of}
-use Rattle.heap_law.specs.Follow.{Standing, Ground, leads, locate, hop_at}
-use Rattle.heap_law.specs.Paths.{Path, no_path, reads, shares, lends, writes, ends, path_of, written_place}
-use Rattle.heap_law.specs.Sight.{Sight, sight}
-use Rattle.heap_law.specs.Weights.{lies_at}
-use Rattle.heap_law.specs.Walking.{path, over_hops, over_place, over_passed, away, hop_count, too_far}
-use Rattle.word_law.specs.Unmoved.{pointing}
+use Rattle.walk_law.specs.Below.fr_base.declared.name.ObjNo.{ObjNo}
+use Rattle.walk_law.specs.Below.fr_base.declared.place.Lval.{Lval}
+use Rattle.walk_law.specs.Below.heap_partition.declared.value.Owned.TheVariants as owned
+use Rattle.walk_law.specs.Below.thread_state.declared.value.Value.{Value}
+use Rattle.walk_law.specs.Below.thread_state.declared.value.Value.TheVariants as value
+use Rattle.walk_law.specs.Below.server_model.Servers.{Cluster}
+use Rattle.walk_law.specs.Below.heap_law.Names.{tot, other, some}
+use Rattle.walk_law.specs.Below.heap_law.Things.{Location, in_cell, things_of}
+use Rattle.walk_law.specs.Below.heap_law.Follow.{Standing, Ground, leads, locate, hop_at}
+use Rattle.walk_law.specs.Below.heap_law.Paths.{Path, no_path, reads, shares, lends, writes, ends, path_of, written_place}
+use Rattle.walk_law.specs.Below.heap_law.Sight.{Sight, sight}
+use Rattle.walk_law.specs.Below.heap_law.Weights.{lies_at}
+use Rattle.walk_law.specs.Below.heap_law.Walking.{path, over_hops, over_place, over_passed, away, hop_count, too_far}
+use Rattle.walk_law.specs.Below.word_law.Unmoved.{pointing}
 use Rattle.walk_law.proofs.Sentences.{SameHops, SameOn}
 
 none_true : (b : Bool) → other b ≡ 0 → b ≡ true

@@ -2,27 +2,27 @@
 use Rattle.std.proofs.Common.{◌≡◌, ℕ, Option, Some, None, refl, sym, ap, subst, ◌∙◌}
 use Rattle.std.specs.Prelude.{slice_get, option_map}
 use Rattle.std.specs.Bool.{⊤}
-use Rattle.fr_base.specs.declared.name.ObjNo.{ObjNo}
-use Rattle.fr_base.specs.declared.instruction.Instr.{Instr}
-use Rattle.fr_base.specs.declared.instruction.Instr.TheVariants as instr
-use Rattle.heap_partition.specs.declared.value.Cell.{Cell}
-use Rattle.thread_state.specs.View.{ThreadState}
-use Rattle.server_msgs.specs.declared.message.Message.{Message}
-use Rattle.server_msgs.specs.declared.message.Message.TheVariants as message
-use Rattle.journal.specs.View.{EntryView}
-use Rattle.server_model.specs.declared.event.Event.{Event}
-use Rattle.server_model.specs.declared.event.What.{What}
-use Rattle.server_model.specs.declared.event.What.TheVariants.{Step, Deliver, Evict, Migrate}
-use Rattle.server_model.specs.Servers.{Server, Cluster, server_at}
-use Rattle.server_model.specs.Work.{then_some, thread_in}
-use Rattle.server_model.specs.Clusters.{hand_over_newer, done_at, apply}
-use Rattle.heap_law.specs.Coherent.{IsSound}
-use Rattle.event_law.specs.Kinds.{Kind, evicts, migrates, starts, arrives, fetch, fetched, moving, moved, drop, asks_lock, granted, unlocked, asks_dup, dupped, released, asks_join, joined, finished, message_kind, instr_kind, kind_at}
-use Rattle.event_law.specs.Laws.{Gives}
-use Rattle.stay_law.specs.Laws.{IsOfKind}
+use Rattle.walk_law.specs.Below.fr_base.declared.name.ObjNo.{ObjNo}
+use Rattle.walk_law.specs.Below.fr_base.declared.instruction.Instr.{Instr}
+use Rattle.walk_law.specs.Below.fr_base.declared.instruction.Instr.TheVariants as instr
+use Rattle.walk_law.specs.Below.heap_partition.declared.value.Cell.{Cell}
+use Rattle.walk_law.specs.Below.thread_state.View.{ThreadState}
+use Rattle.walk_law.specs.Below.server_msgs.declared.message.Message.{Message}
+use Rattle.walk_law.specs.Below.server_msgs.declared.message.Message.TheVariants as message
+use Rattle.walk_law.specs.Below.journal.View.{EntryView}
+use Rattle.walk_law.specs.Below.server_model.declared.event.Event.{Event}
+use Rattle.walk_law.specs.Below.server_model.declared.event.What.{What}
+use Rattle.walk_law.specs.Below.server_model.declared.event.What.TheVariants.{Step, Deliver, Evict, Migrate}
+use Rattle.walk_law.specs.Below.server_model.Servers.{Server, Cluster, server_at}
+use Rattle.walk_law.specs.Below.server_model.Work.{then_some, thread_in}
+use Rattle.walk_law.specs.Below.server_model.Clusters.{hand_over_newer, done_at, apply}
+use Rattle.walk_law.specs.Below.heap_law.Coherent.{IsSound}
+use Rattle.walk_law.specs.Below.event_law.Kinds.{Kind, evicts, migrates, starts, arrives, fetch, fetched, moving, moved, drop, asks_lock, granted, unlocked, asks_dup, dupped, released, asks_join, joined, finished, message_kind, instr_kind, kind_at}
+use Rattle.walk_law.specs.Below.event_law.Laws.{Gives}
+use Rattle.walk_law.specs.Below.stay_law.Laws.{IsOfKind}
 use Rattle.walk_law.specs.Below.wait_law.Steady.{IsSteady}
-use Rattle.word_law.specs.Reworded.{HasPlaces}
-use Rattle.word_law.specs.Unmoved.{Delivers}
+use Rattle.walk_law.specs.Below.word_law.Reworded.{HasPlaces}
+use Rattle.walk_law.specs.Below.word_law.Unmoved.{Delivers}
 use Rattle.come_law.specs.Deliveries.{BringsNoObject}
 use Rattle.come_law.proofs.Asked.{NoStep}
 

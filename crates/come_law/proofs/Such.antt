@@ -1,11 +1,11 @@
 -- Each event that is no step and brings no object keeps what threads have passed, followed and wait for.
-use Rattle.server_model.specs.Servers.{Cluster}
-use Rattle.server_model.specs.Clusters.{apply}
-use Rattle.journal.specs.View.{EntryView}
-use Rattle.heap_law.specs.Coherent.{Holds, passed_lie_here, place_followed, waits_in_turn}
-use Rattle.event_law.specs.Kinds.{Kind}
-use Rattle.event_law.specs.Laws.{Gives}
-use Rattle.stay_law.specs.Laws.{IsOfKind}
+use Rattle.walk_law.specs.Below.server_model.Servers.{Cluster}
+use Rattle.walk_law.specs.Below.server_model.Clusters.{apply}
+use Rattle.walk_law.specs.Below.journal.View.{EntryView}
+use Rattle.walk_law.specs.Below.heap_law.Coherent.{Holds, passed_lie_here, place_followed, waits_in_turn}
+use Rattle.walk_law.specs.Below.event_law.Kinds.{Kind}
+use Rattle.walk_law.specs.Below.event_law.Laws.{Gives}
+use Rattle.walk_law.specs.Below.stay_law.Laws.{IsOfKind}
 use Rattle.walk_law.proofs.Steady.{steady_followed}
 use Rattle.walk_law.proofs.Delivered.{moves_followed, moves_wait, drops_followed, drops_wait}
 use Rattle.come_law.specs.Deliveries.{BringsNoObject, EachSuchEventKeeps}

@@ -2,38 +2,38 @@
 use Rattle.std.proofs.Common.{◌≡◌, ℕ, ◌≤◌, ◌==◌, ◌&&◌, not, Bool, true, false, Option, Some, None, option_map, refl, sym, ap, subst, ◌∙◌, arith}
 use Rattle.std.proofs.lemmas.Bool.Decides.{nat_tests}
 use Rattle.std.specs.Prelude.{slice_get}
-use Rattle.fr_base.specs.Names.{same_object}
-use Rattle.heap_partition.specs.declared.value.Cell.{Cell}
-use Rattle.migration.specs.Packing.{packed}
-use Rattle.thread_state.specs.declared.phase.Phase.{Phase}
-use Rattle.thread_state.specs.declared.phase.Phase.TheVariants as phase
-use Rattle.server_msgs.specs.declared.message.Message.{Message}
-use Rattle.server_msgs.specs.declared.message.Message.TheVariants as message
-use Rattle.journal.specs.View.{EntryView}
-use Rattle.server_model.specs.declared.event.Event.{Event}
-use Rattle.server_model.specs.declared.event.What.{What}
-use Rattle.server_model.specs.declared.event.What.TheVariants.{Step, Deliver, Evict, Migrate}
-use Rattle.server_model.specs.Servers.{Server, Cluster, server_at}
-use Rattle.server_model.specs.Work.{Hand}
-use Rattle.server_model.specs.Objects.{waits_for_cell, filled}
-use Rattle.server_model.specs.Events.{Stepped, begin_work, received, is_ready, step}
-use Rattle.server_model.specs.Clusters.{apply}
-use Rattle.heap_law.specs.Names.{tot, one, Among}
-use Rattle.heap_law.specs.Things.{things_of}
-use Rattle.heap_law.specs.Follow.{Standing, threads_in}
-use Rattle.heap_law.specs.Paths.{Path, no_path, reads, shares, lends, writes, ends, Awaited}
-use Rattle.heap_law.specs.Sight.{Sight, sight}
-use Rattle.heap_law.specs.Turn.{TurnLaw}
-use Rattle.heap_law.specs.Walking.{path, asked_for, in_turn, not_asked, out_of_turn}
-use Rattle.heap_law.specs.Coherent.{IsSound, Holds, waits_in_turn}
-use Rattle.heap_law.proofs.Turn.{turn_law}
-use Rattle.heap_law.proofs.Words.{none_at, none_all}
-use Rattle.event_law.specs.Kinds.{Kind, moved, message_kind, kind_at}
-use Rattle.event_law.specs.Laws.{Gives, FewEvents}
-use Rattle.event_law.proofs.Results.{map_gives, test_gives, both_give, weaker}
-use Rattle.local_law.proofs.Handed.{Stood, InParcel}
-use Rattle.stay_law.specs.Laws.{IsOfKind}
-use Rattle.word_law.specs.Unmoved.{Delivers}
+use Rattle.walk_law.specs.Below.fr_base.Names.{same_object}
+use Rattle.walk_law.specs.Below.heap_partition.declared.value.Cell.{Cell}
+use Rattle.walk_law.specs.Below.migration.Packing.{packed}
+use Rattle.walk_law.specs.Below.thread_state.declared.phase.Phase.{Phase}
+use Rattle.walk_law.specs.Below.thread_state.declared.phase.Phase.TheVariants as phase
+use Rattle.walk_law.specs.Below.server_msgs.declared.message.Message.{Message}
+use Rattle.walk_law.specs.Below.server_msgs.declared.message.Message.TheVariants as message
+use Rattle.walk_law.specs.Below.journal.View.{EntryView}
+use Rattle.walk_law.specs.Below.server_model.declared.event.Event.{Event}
+use Rattle.walk_law.specs.Below.server_model.declared.event.What.{What}
+use Rattle.walk_law.specs.Below.server_model.declared.event.What.TheVariants.{Step, Deliver, Evict, Migrate}
+use Rattle.walk_law.specs.Below.server_model.Servers.{Server, Cluster, server_at}
+use Rattle.walk_law.specs.Below.server_model.Work.{Hand}
+use Rattle.walk_law.specs.Below.server_model.Objects.{waits_for_cell, filled}
+use Rattle.walk_law.specs.Below.server_model.Events.{Stepped, begin_work, received, is_ready, step}
+use Rattle.walk_law.specs.Below.server_model.Clusters.{apply}
+use Rattle.walk_law.specs.Below.heap_law.Names.{tot, one, Among}
+use Rattle.walk_law.specs.Below.heap_law.Things.{things_of}
+use Rattle.walk_law.specs.Below.heap_law.Follow.{Standing, threads_in}
+use Rattle.walk_law.specs.Below.heap_law.Paths.{Path, no_path, reads, shares, lends, writes, ends, Awaited}
+use Rattle.walk_law.specs.Below.heap_law.Sight.{Sight, sight}
+use Rattle.walk_law.specs.Below.heap_law.Turn.{TurnLaw}
+use Rattle.walk_law.specs.Below.heap_law.Walking.{path, asked_for, in_turn, not_asked, out_of_turn}
+use Rattle.walk_law.specs.Below.heap_law.Coherent.{IsSound, Holds, waits_in_turn}
+use Rattle.walk_law.proofs.Below.heap_law.Turn.{turn_law}
+use Rattle.walk_law.proofs.Below.heap_law.Words.{none_at, none_all}
+use Rattle.walk_law.specs.Below.event_law.Kinds.{Kind, moved, message_kind, kind_at}
+use Rattle.walk_law.specs.Below.event_law.Laws.{Gives, FewEvents}
+use Rattle.walk_law.proofs.Below.event_law.Results.{map_gives, test_gives, both_give, weaker}
+use Rattle.walk_law.proofs.Below.local_law.Handed.{Stood, InParcel}
+use Rattle.walk_law.specs.Below.stay_law.Laws.{IsOfKind}
+use Rattle.walk_law.specs.Below.word_law.Unmoved.{Delivers}
 use Rattle.walk_law.specs.Below.wait_law.Steady.{IsSteady}
 use Rattle.walk_law.proofs.Below.wait_law.Fates.{Fates, fated}
 use Rattle.walk_law.proofs.Sentences.{turn_kept}

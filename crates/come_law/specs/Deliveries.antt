@@ -1,14 +1,14 @@
 -- EVENTS IN WHICH NO OBJECT COMES AND NO THREAD STEPS (this project's rule): a copy goes, a thread leaves, and each delivery of a message but that of a `moved`.
 use Rattle.std.specs.Bool.{⊤}
-use Rattle.journal.specs.View.{EntryView}
-use Rattle.server_model.specs.declared.event.Event.{Event}
-use Rattle.server_model.specs.Servers.{Cluster}
-use Rattle.server_model.specs.Clusters.{apply}
-use Rattle.heap_law.specs.Coherent.{Sentence, Holds}
-use Rattle.event_law.specs.Kinds.{Kind, evicts, migrates, starts, arrives, fetch, fetched, moving, drop, asks_lock, granted, unlocked, asks_dup, dupped, released, asks_join, joined, finished}
-use Rattle.event_law.specs.Laws.{Gives, FewEvents}
-use Rattle.stay_law.specs.Laws.{IsOfKind}
-use Rattle.type_law.specs.ClusterTypes.{IsCoherent}
+use Rattle.walk_law.specs.Below.journal.View.{EntryView}
+use Rattle.walk_law.specs.Below.server_model.declared.event.Event.{Event}
+use Rattle.walk_law.specs.Below.server_model.Servers.{Cluster}
+use Rattle.walk_law.specs.Below.server_model.Clusters.{apply}
+use Rattle.walk_law.specs.Below.heap_law.Coherent.{Sentence, Holds}
+use Rattle.walk_law.specs.Below.event_law.Kinds.{Kind, evicts, migrates, starts, arrives, fetch, fetched, moving, drop, asks_lock, granted, unlocked, asks_dup, dupped, released, asks_join, joined, finished}
+use Rattle.walk_law.specs.Below.event_law.Laws.{Gives, FewEvents}
+use Rattle.walk_law.specs.Below.stay_law.Laws.{IsOfKind}
+use Rattle.walk_law.specs.Below.type_law.ClusterTypes.{IsCoherent}
 
 abbrev pub BringsNoObject : Kind → Type 0
 BringsNoObject evicts = ⊤

@@ -1,6 +1,6 @@
 //! What an event that is no step leaves of what threads have passed, followed and wait for.
 
-ghost use Rattle.heap_law.specs.Coherent.{passed_lie_here, place_followed, waits_in_turn};
+ghost use Rattle.walk_law.specs.Below.heap_law.Coherent.{passed_lie_here, place_followed, waits_in_turn};
 ghost use Rattle.come_law.specs.Deliveries.{EachSuchEventKeeps};
 
 /// After each event in which no thread steps and no object comes, what a thread has passed for a write lies at its server, each thread has at hand what it has followed, and

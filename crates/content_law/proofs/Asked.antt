@@ -1,19 +1,19 @@
 -- A thread whose step ends in a request for a copy or an object has the marks in its slots that it had.
 use Rattle.std.proofs.Common.{◌≡◌, ℕ, ◌+◌, false, List, [], ◌∷◌, refl, arith}
-use Rattle.fr_base.specs.declared.name.MutexNo.{MutexNo}
-use Rattle.join_home.specs.Tasks.{TaskState, going, let_go, kept, asked, in_pair}
-use Rattle.thread_state.specs.View.{ThreadState}
-use Rattle.thread_state.specs.declared.value.Value.{Value}
-use Rattle.thread_state.specs.declared.value.Value.TheVariants as value
-use Rattle.server_model.specs.Work.{Hand}
-use Rattle.heap_law.specs.Names.{tot}
-use Rattle.heap_law.specs.Things.{at_slot, at_temp, in_cell, Thing, holds, shares, borrows, locks, lies, flies, vacant, retired, copied, uses, sent, stands, at_home, queued, noted, counts, thread_things}
-use Rattle.heap_law.specs.Sharing.{spot_mutex}
-use Rattle.heap_law.proofs.Sums.{tot-append}
-use Rattle.event_law.proofs.Bags.{rest_things}
-use Rattle.still_law.specs.Shows.{Sign, a_value, a_thread, sign_of, note_sign}
-use Rattle.still_law.proofs.Sites.{shown}
-use Rattle.still_law.proofs.Hands.{hand_things, HandStill}
+use Rattle.wait_law.specs.Below.fr_base.declared.name.MutexNo.{MutexNo}
+use Rattle.wait_law.specs.Below.join_home.Tasks.{TaskState, going, let_go, kept, asked, in_pair}
+use Rattle.wait_law.specs.Below.thread_state.View.{ThreadState}
+use Rattle.wait_law.specs.Below.thread_state.declared.value.Value.{Value}
+use Rattle.wait_law.specs.Below.thread_state.declared.value.Value.TheVariants as value
+use Rattle.wait_law.specs.Below.server_model.Work.{Hand}
+use Rattle.wait_law.specs.Below.heap_law.Names.{tot}
+use Rattle.wait_law.specs.Below.heap_law.Things.{at_slot, at_temp, in_cell, Thing, holds, shares, borrows, locks, lies, flies, vacant, retired, copied, uses, sent, stands, at_home, queued, noted, counts, thread_things}
+use Rattle.wait_law.specs.Below.heap_law.Sharing.{spot_mutex}
+use Rattle.wait_law.proofs.Below.heap_law.Sums.{tot-append}
+use Rattle.wait_law.proofs.Below.event_law.Bags.{rest_things}
+use Rattle.wait_law.specs.Below.still_law.Shows.{Sign, a_value, a_thread, sign_of, note_sign}
+use Rattle.wait_law.proofs.Below.still_law.Sites.{shown}
+use Rattle.wait_law.proofs.Below.still_law.Hands.{hand_things, HandStill}
 use Rattle.content_law.proofs.Weigh.{mark, weight_of, weigh, body, thread_sum, rest_sum}
 use Rattle.content_law.proofs.Marks.{frame_mark, framed_all}
 use Rattle.content_law.proofs.Says.{Light}

@@ -2,36 +2,36 @@
 use Rattle.std.proofs.Common.{◌≡◌, inl, inr, ℕ, ◌+◌, ◌==◌, ◌&&◌, Bool, true, false, is_some, List, [], ◌∷◌, Option, Some, None, refl, sym, ap, subst, ◌∙◌, arith}
 use Rattle.std.specs.Prelude.{slice_get}
 use Rattle.std.proofs.lemmas.Bool.{eq-eqb}
-use Rattle.fr_base.specs.declared.name.MutexNo.{MutexNo}
-use Rattle.fr_base.specs.declared.instruction.Instr.{Instr}
-use Rattle.fr_base.specs.declared.instruction.Instr.TheVariants as instr
-use Rattle.heap_partition.specs.declared.value.Owned.{Owned}
-use Rattle.thread_state.specs.View.{ThreadState}
-use Rattle.journal.specs.View.{EntryView}
-use Rattle.server_model.specs.declared.event.Event.{Event}
-use Rattle.server_model.specs.declared.event.What.{What}
-use Rattle.server_model.specs.declared.event.What.TheVariants.{Step, Deliver, Evict, Migrate}
-use Rattle.server_model.specs.Servers.{Server, Cluster, server_at}
-use Rattle.server_model.specs.Clusters.{done_at, act_at, apply}
-use Rattle.server_model.specs.Events.{enabled, does}
-use Rattle.heap_law.specs.Names.{tot, one, other, if_so, same_mutex, Among}
-use Rattle.heap_law.specs.Things.{Spot, in_slot, in_temp, as_gift, as_content, as_result, in_hand, at_slot, at_temp, in_cell, Thing, holds, shares, borrows, locks, lies, flies, vacant, retired, copied, uses, sent, stands, at_home, queued, noted, counts, things_of}
-use Rattle.heap_law.specs.Follow.{Standing, threads_in}
-use Rattle.heap_law.specs.Sight.{Sight, sight}
-use Rattle.heap_law.specs.Weights.{is_home_of}
-use Rattle.heap_law.specs.Requests.{is_mutex, locked_mutex}
-use Rattle.heap_law.specs.Sharing.{is_content_of, gift_content, contents, spot_mutex, some_mutex, held_mutexes}
-use Rattle.heap_law.specs.Coherent.{one_content}
-use Rattle.heap_law.proofs.Names.{same_mutexes}
-use Rattle.heap_law.proofs.Shown.{agree_none}
-use Rattle.type_law.specs.ClusterTypes.{IsCoherent}
-use Rattle.event_law.specs.Laws.{Gives, FewEvents}
-use Rattle.event_law.proofs.Results.{then_gives, over_gives, both_give, test_gives, weaker}
-use Rattle.event_law.proofs.Events.{tot-server}
-use Rattle.event_law.proofs.Applied.{handed_on}
-use Rattle.event_law.proofs.Sending.{each_event_sends}
-use Rattle.local_law.specs.Laws.{EachCoherentEventKeeps}
-use Rattle.ask_law.specs.Standing.{locked, gift_at, gift_off, off}
+use Rattle.wait_law.specs.Below.fr_base.declared.name.MutexNo.{MutexNo}
+use Rattle.wait_law.specs.Below.fr_base.declared.instruction.Instr.{Instr}
+use Rattle.wait_law.specs.Below.fr_base.declared.instruction.Instr.TheVariants as instr
+use Rattle.wait_law.specs.Below.heap_partition.declared.value.Owned.{Owned}
+use Rattle.wait_law.specs.Below.thread_state.View.{ThreadState}
+use Rattle.wait_law.specs.Below.journal.View.{EntryView}
+use Rattle.wait_law.specs.Below.server_model.declared.event.Event.{Event}
+use Rattle.wait_law.specs.Below.server_model.declared.event.What.{What}
+use Rattle.wait_law.specs.Below.server_model.declared.event.What.TheVariants.{Step, Deliver, Evict, Migrate}
+use Rattle.wait_law.specs.Below.server_model.Servers.{Server, Cluster, server_at}
+use Rattle.wait_law.specs.Below.server_model.Clusters.{done_at, act_at, apply}
+use Rattle.wait_law.specs.Below.server_model.Events.{enabled, does}
+use Rattle.wait_law.specs.Below.heap_law.Names.{tot, one, other, if_so, same_mutex, Among}
+use Rattle.wait_law.specs.Below.heap_law.Things.{Spot, in_slot, in_temp, as_gift, as_content, as_result, in_hand, at_slot, at_temp, in_cell, Thing, holds, shares, borrows, locks, lies, flies, vacant, retired, copied, uses, sent, stands, at_home, queued, noted, counts, things_of}
+use Rattle.wait_law.specs.Below.heap_law.Follow.{Standing, threads_in}
+use Rattle.wait_law.specs.Below.heap_law.Sight.{Sight, sight}
+use Rattle.wait_law.specs.Below.heap_law.Weights.{is_home_of}
+use Rattle.wait_law.specs.Below.heap_law.Requests.{is_mutex, locked_mutex}
+use Rattle.wait_law.specs.Below.heap_law.Sharing.{is_content_of, gift_content, contents, spot_mutex, some_mutex, held_mutexes}
+use Rattle.wait_law.specs.Below.heap_law.Coherent.{one_content}
+use Rattle.wait_law.proofs.Below.heap_law.Names.{same_mutexes}
+use Rattle.wait_law.proofs.Below.heap_law.Shown.{agree_none}
+use Rattle.wait_law.specs.Below.type_law.ClusterTypes.{IsCoherent}
+use Rattle.wait_law.specs.Below.event_law.Laws.{Gives, FewEvents}
+use Rattle.wait_law.proofs.Below.event_law.Results.{then_gives, over_gives, both_give, test_gives, weaker}
+use Rattle.wait_law.proofs.Below.event_law.Events.{tot-server}
+use Rattle.wait_law.proofs.Below.event_law.Applied.{handed_on}
+use Rattle.wait_law.proofs.Below.event_law.Sending.{each_event_sends}
+use Rattle.wait_law.specs.Below.local_law.Laws.{EachCoherentEventKeeps}
+use Rattle.wait_law.specs.Below.ask_law.Standing.{locked, gift_at, gift_off, off}
 use Rattle.content_law.specs.Contents.{OneContent, EachEventLeavesOneContent}
 use Rattle.content_law.proofs.Weigh.{weigh, server_sum, home_sum}
 use Rattle.content_law.proofs.Deliveries.{Then, delivers, evicts, migrates}

@@ -1,45 +1,45 @@
 -- A delivery, an eviction and a migration leave the contents and homes of a server balanced.
 use Rattle.std.proofs.Common.{◌≡◌, ℕ, zero, suc, ◌+◌, ◌-◌, ◌==◌, Bool, true, false, nat_lt, if◌then◌else◌, List, [], ◌∷◌, ◌++◌, Option, Some, None, refl, ap, ◌∙◌, arith}
 use Rattle.std.specs.Prelude.{slice_get, remove, option_map}
-use Rattle.fr_base.specs.Lists.{is_in}
-use Rattle.fr_base.specs.declared.name.MutexNo.{MutexNo}
-use Rattle.fr_base.specs.declared.place.Lval.{Lval}
-use Rattle.fr_base.specs.declared.instruction.Instr.{Instr}
-use Rattle.fr_base.specs.declared.settings.Options.{Options}
-use Rattle.heap_partition.specs.declared.value.Cell.{Cell}
-use Rattle.heap_partition.specs.declared.value.Owned.{Owned}
-use Rattle.heap_partition.specs.declared.value.Owned.TheVariants as owned
-use Rattle.read_cache.specs.Cache.{Copy, can_pin, can_fill, can_evict}
-use Rattle.migration.specs.Packing.{unpin_all, used_words, packed}
-use Rattle.join_home.specs.Tasks.{Task, ended}
-use Rattle.join_home.specs.declared.answers.EndedAs.{EndedAs}
-use Rattle.join_home.specs.declared.answers.EndedAs.TheVariants as over
-use Rattle.thread_state.specs.View.{ThreadState}
-use Rattle.thread_state.specs.declared.phase.Phase.{Phase}
-use Rattle.thread_state.specs.declared.phase.Phase.TheVariants as phase
-use Rattle.thread_state.specs.declared.value.Value.{Value}
-use Rattle.thread_state.specs.declared.value.Value.TheVariants as value
-use Rattle.server_msgs.specs.declared.message.Message.{Message}
-use Rattle.server_msgs.specs.declared.message.Message.TheVariants as message
-use Rattle.journal.specs.View.{EntryView}
-use Rattle.journal.specs.declared.act.Act.TheVariants as act
-use Rattle.server_model.specs.declared.event.What.TheVariants.{Deliver, Evict, Migrate}
-use Rattle.server_model.specs.Servers.{Rest, Server}
-use Rattle.server_model.specs.Work.{Work, Hand, Site, note, working, sent_from, receive, with_phase, with_tasks, then_some, put_back, thread_in, set_thread, without_thread, with_thread, at_thread, beside_threads, used_once}
-use Rattle.server_model.specs.NewWords.{NewWord, can_grow, issue_placed}
-use Rattle.server_model.specs.Places.{Spot, in_slot, value_at, set_pointer}
-use Rattle.server_model.specs.Moving.{migrate, depart}
-use Rattle.server_model.specs.Prepare.{Access, ReadTo, ReadPointer, WriteTo, LendTo, EndRef, passing, write_stars}
-use Rattle.server_model.specs.Objects.{deliver_fetch, waits_for_cell, filled, deliver_fetched, deliver_move, chased, waits_under, arrived_at, arrived_slot, passed_spot, arrived_write, arrived_lend, arrived_end, arrived, instr_access, deliver_moved, deliver_drop}
-use Rattle.server_model.specs.Sharing.{given, deliver_lock, waits_for_lock, deliver_granted, deliver_unlock, deliver_dup, waits_for_dup, deliver_dupped}
-use Rattle.server_model.specs.Joining.{arrive, deliver_join, waits_for_join, deliver_joined, got_par, pair_over, end_answer, deliver_finished}
-use Rattle.server_model.specs.Events.{begin_work, begin_at, left_by, received, release, deliver_message, evict_copy, does}
-use Rattle.heap_law.specs.Names.{tot}
-use Rattle.event_law.specs.Laws.{Gives}
-use Rattle.event_law.proofs.Results.{then_gives, map_gives, over_gives, bind_gives, both_give, test_gives, stand_gives, weaker}
-use Rattle.event_law.proofs.Bags.{thread_number}
-use Rattle.event_law.proofs.KnownPlaces.{Told, pointer_keeps}
-use Rattle.still_law.proofs.Readied.{Readied, Kept, set_ready}
+use Rattle.wait_law.specs.Below.fr_base.Lists.{is_in}
+use Rattle.wait_law.specs.Below.fr_base.declared.name.MutexNo.{MutexNo}
+use Rattle.wait_law.specs.Below.fr_base.declared.place.Lval.{Lval}
+use Rattle.wait_law.specs.Below.fr_base.declared.instruction.Instr.{Instr}
+use Rattle.wait_law.specs.Below.fr_base.declared.settings.Options.{Options}
+use Rattle.wait_law.specs.Below.heap_partition.declared.value.Cell.{Cell}
+use Rattle.wait_law.specs.Below.heap_partition.declared.value.Owned.{Owned}
+use Rattle.wait_law.specs.Below.heap_partition.declared.value.Owned.TheVariants as owned
+use Rattle.wait_law.specs.Below.read_cache.Cache.{Copy, can_pin, can_fill, can_evict}
+use Rattle.wait_law.specs.Below.migration.Packing.{unpin_all, used_words, packed}
+use Rattle.wait_law.specs.Below.join_home.Tasks.{Task, ended}
+use Rattle.wait_law.specs.Below.join_home.declared.answers.EndedAs.{EndedAs}
+use Rattle.wait_law.specs.Below.join_home.declared.answers.EndedAs.TheVariants as over
+use Rattle.wait_law.specs.Below.thread_state.View.{ThreadState}
+use Rattle.wait_law.specs.Below.thread_state.declared.phase.Phase.{Phase}
+use Rattle.wait_law.specs.Below.thread_state.declared.phase.Phase.TheVariants as phase
+use Rattle.wait_law.specs.Below.thread_state.declared.value.Value.{Value}
+use Rattle.wait_law.specs.Below.thread_state.declared.value.Value.TheVariants as value
+use Rattle.wait_law.specs.Below.server_msgs.declared.message.Message.{Message}
+use Rattle.wait_law.specs.Below.server_msgs.declared.message.Message.TheVariants as message
+use Rattle.wait_law.specs.Below.journal.View.{EntryView}
+use Rattle.wait_law.specs.Below.journal.declared.act.Act.TheVariants as act
+use Rattle.wait_law.specs.Below.server_model.declared.event.What.TheVariants.{Deliver, Evict, Migrate}
+use Rattle.wait_law.specs.Below.server_model.Servers.{Rest, Server}
+use Rattle.wait_law.specs.Below.server_model.Work.{Work, Hand, Site, note, working, sent_from, receive, with_phase, with_tasks, then_some, put_back, thread_in, set_thread, without_thread, with_thread, at_thread, beside_threads, used_once}
+use Rattle.wait_law.specs.Below.server_model.NewWords.{NewWord, can_grow, issue_placed}
+use Rattle.wait_law.specs.Below.server_model.Places.{Spot, in_slot, value_at, set_pointer}
+use Rattle.wait_law.specs.Below.server_model.Moving.{migrate, depart}
+use Rattle.wait_law.specs.Below.server_model.Prepare.{Access, ReadTo, ReadPointer, WriteTo, LendTo, EndRef, passing, write_stars}
+use Rattle.wait_law.specs.Below.server_model.Objects.{deliver_fetch, waits_for_cell, filled, deliver_fetched, deliver_move, chased, waits_under, arrived_at, arrived_slot, passed_spot, arrived_write, arrived_lend, arrived_end, arrived, instr_access, deliver_moved, deliver_drop}
+use Rattle.wait_law.specs.Below.server_model.Sharing.{given, deliver_lock, waits_for_lock, deliver_granted, deliver_unlock, deliver_dup, waits_for_dup, deliver_dupped}
+use Rattle.wait_law.specs.Below.server_model.Joining.{arrive, deliver_join, waits_for_join, deliver_joined, got_par, pair_over, end_answer, deliver_finished}
+use Rattle.wait_law.specs.Below.server_model.Events.{begin_work, begin_at, left_by, received, release, deliver_message, evict_copy, does}
+use Rattle.wait_law.specs.Below.heap_law.Names.{tot}
+use Rattle.wait_law.specs.Below.event_law.Laws.{Gives}
+use Rattle.wait_law.proofs.Below.event_law.Results.{then_gives, map_gives, over_gives, bind_gives, both_give, test_gives, stand_gives, weaker}
+use Rattle.wait_law.proofs.Below.event_law.Bags.{thread_number}
+use Rattle.wait_law.proofs.Below.event_law.KnownPlaces.{Told, pointer_keeps}
+use Rattle.wait_law.proofs.Below.still_law.Readied.{Readied, Kept, set_ready}
 use Rattle.content_law.proofs.Weigh.{mark, mail, weight_of, body}
 use Rattle.content_law.proofs.Mutexes.{homes}
 use Rattle.content_law.proofs.Rests.{Balance, RestBalance, WorkBalance, says, says_none, gives_up, fetches, moves, drops, locks, unlocks, dups, releases, joins}

@@ -2,27 +2,27 @@
 -- and a join give weighs nothing.
 use Rattle.std.proofs.Common.{◌≡◌, ℕ, Bool, true, false, is_some, Option, Some, None, refl, sym, ap, ap₂, ◌∙◌, arith}
 use Rattle.std.specs.Prelude.{slice_get}
-use Rattle.fr_base.specs.declared.name.MutexNo.{MutexNo}
-use Rattle.fr_base.specs.declared.instruction.Instr.{Instr}
-use Rattle.fr_base.specs.declared.instruction.Instr.TheVariants as instr
-use Rattle.heap_partition.specs.declared.value.Owned.{Owned}
-use Rattle.thread_state.specs.View.{ThreadState}
-use Rattle.thread_state.specs.declared.phase.Phase.{Phase}
-use Rattle.thread_state.specs.declared.phase.Phase.TheVariants as phase
-use Rattle.server_model.specs.Servers.{Server, Cluster, server_at}
-use Rattle.server_model.specs.Work.{thread_in}
-use Rattle.server_model.specs.Sharing.{waits_for_lock, waits_for_dup}
-use Rattle.server_model.specs.Joining.{waits_for_join}
-use Rattle.heap_law.specs.Names.{other, if_so, same_mutex}
-use Rattle.heap_law.specs.Follow.{Standing, Ground}
-use Rattle.heap_law.specs.Sight.{sight}
-use Rattle.heap_law.specs.Paths.{joined_thread}
-use Rattle.heap_law.specs.Requests.{is_mutex, is_task, stands_wrong, locked_mutex, dupped_mutex}
-use Rattle.heap_law.specs.Sharing.{some_mutex}
-use Rattle.heap_law.specs.Coherent.{IsSound}
-use Rattle.heap_law.proofs.Names.{same_mutexes}
-use Rattle.event_law.proofs.GiftsTaken.{none_here}
-use Rattle.ask_law.specs.Standing.{locked}
+use Rattle.wait_law.specs.Below.fr_base.declared.name.MutexNo.{MutexNo}
+use Rattle.wait_law.specs.Below.fr_base.declared.instruction.Instr.{Instr}
+use Rattle.wait_law.specs.Below.fr_base.declared.instruction.Instr.TheVariants as instr
+use Rattle.wait_law.specs.Below.heap_partition.declared.value.Owned.{Owned}
+use Rattle.wait_law.specs.Below.thread_state.View.{ThreadState}
+use Rattle.wait_law.specs.Below.thread_state.declared.phase.Phase.{Phase}
+use Rattle.wait_law.specs.Below.thread_state.declared.phase.Phase.TheVariants as phase
+use Rattle.wait_law.specs.Below.server_model.Servers.{Server, Cluster, server_at}
+use Rattle.wait_law.specs.Below.server_model.Work.{thread_in}
+use Rattle.wait_law.specs.Below.server_model.Sharing.{waits_for_lock, waits_for_dup}
+use Rattle.wait_law.specs.Below.server_model.Joining.{waits_for_join}
+use Rattle.wait_law.specs.Below.heap_law.Names.{other, if_so, same_mutex}
+use Rattle.wait_law.specs.Below.heap_law.Follow.{Standing, Ground}
+use Rattle.wait_law.specs.Below.heap_law.Sight.{sight}
+use Rattle.wait_law.specs.Below.heap_law.Paths.{joined_thread}
+use Rattle.wait_law.specs.Below.heap_law.Requests.{is_mutex, is_task, stands_wrong, locked_mutex, dupped_mutex}
+use Rattle.wait_law.specs.Below.heap_law.Sharing.{some_mutex}
+use Rattle.wait_law.specs.Below.heap_law.Coherent.{IsSound}
+use Rattle.wait_law.proofs.Below.heap_law.Names.{same_mutexes}
+use Rattle.wait_law.proofs.Below.event_law.GiftsTaken.{none_here}
+use Rattle.wait_law.specs.Below.ask_law.Standing.{locked}
 use Rattle.content_law.proofs.Deliveries.{Gifts}
 
 abbrev pub gift_of : (MutexNo → ℕ) → Cluster → ThreadState → ℕ

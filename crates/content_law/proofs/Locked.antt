@@ -2,54 +2,54 @@
 use Rattle.std.proofs.Common.{◌≡◌, ◌≢◌, inl, inr, ℕ, zero, suc, ◌-◌, ◌%◌, ◌^◌, ◌≤◌, ◌==◌, ◌&&◌, ◌||◌, not, is_some, Bool, true, false, List, [], ◌∷◌, Option, Some, None, refl, sym, ap, subst, ◌∙◌, arith}
 use Rattle.std.specs.Prelude.{slice_get}
 use Rattle.std.proofs.lemmas.Bool.{eq-eqb}
-use Rattle.fr_typing.proofs.PlaceLemmas.{eq_cases}
-use Rattle.fr_base.specs.declared.place.Lval.{Lval}
-use Rattle.fr_base.specs.declared.name.MutexNo.{MutexNo}
-use Rattle.fr_base.specs.declared.step.Fresh.{Fresh}
-use Rattle.fr_base.specs.declared.instruction.Instr.{Instr}
-use Rattle.fr_base.specs.declared.instruction.Instr.TheVariants as instr
-use Rattle.fr_plain.specs.PlainState.{SameState, place_in}
-use Rattle.heap_partition.specs.declared.value.Owned.{Owned}
-use Rattle.thread_state.specs.View.{is_over}
-use Rattle.thread_state.specs.declared.phase.Phase.{Phase}
-use Rattle.thread_state.specs.declared.phase.Phase.TheVariants as phase
-use Rattle.journal.specs.View.{EntryView}
-use Rattle.server_model.specs.declared.event.Event.{Event}
-use Rattle.server_model.specs.declared.event.What.{What}
-use Rattle.server_model.specs.Servers.{Cluster, server_at}
-use Rattle.server_model.specs.Clusters.{done_at, apply}
-use Rattle.heap_law.specs.Names.{tot, one, other, if_so, some, Among}
-use Rattle.heap_law.specs.Things.{Location, Thing, stands, things_of}
-use Rattle.heap_law.specs.Follow.{Standing, Ground, threads_in, thread_at, slot_of, value_behind, leads, locate, value_at}
-use Rattle.heap_law.specs.Sight.{sight}
-use Rattle.heap_law.specs.Weights.{is_thread}
-use Rattle.heap_law.specs.Walking.{instr_of}
-use Rattle.heap_law.specs.Naming.{threads, named_mutexes, started_at, zeroth_thread, zeroth_mutex, uncounted_thread, uncounted_mutex}
-use Rattle.heap_law.specs.Requests.{home_of, mutex_of, is_got, early_gift}
-use Rattle.heap_law.specs.OneHeap.{one_heap, is_given_thread, running_at}
-use Rattle.heap_law.specs.Coherent.{Sentence, Holds, gifts_got, names_counted, counts_from_one}
-use Rattle.heap_law.proofs.Names.{left_none}
-use Rattle.type_law.specs.ClusterTypes.{IsCoherent}
-use Rattle.path_law.specs.HeapStore.{GoesOn, HasPaths}
-use Rattle.path_law.proofs.Alike.{coherent_has_paths}
-use Rattle.path_law.proofs.Contained.{among_thread}
-use Rattle.path_law.proofs.Sole.{some_is}
-use Rattle.word_law.specs.Reworded.{HasPlaces}
-use Rattle.read_law.specs.Reading.{Reads, locks}
-use Rattle.read_law.proofs.FreshReads.{Reading, reading_of}
-use Rattle.event_law.specs.Laws.{Gives, FewEvents}
-use Rattle.event_law.proofs.Results.{then_gives, map_gives, both_give}
-use Rattle.event_law.proofs.Sending.{applied_part}
-use Rattle.still_law.specs.Shows.{ShownThread, shown_thread}
-use Rattle.still_law.proofs.Told.{told, at_thread, thread_told, found}
-use Rattle.value_law.proofs.Sentences.{names_kept, counts_kept}
-use Rattle.undone_law.proofs.Undone.{each_undone}
-use Rattle.ask_law.specs.Standing.{StandBy}
-use Rattle.ask_law.proofs.GiftsGot.{gifts_got_kept}
-use Rattle.ask_law.proofs.AtInstructions.{asked_there}
-use Rattle.ask_law.proofs.Parents.{named_none}
-use Rattle.ask_law.proofs.SameHeap.{Runs, running_place, runs, SeesSame}
-use Rattle.ask_law.proofs.SameHeap as same_heap
+use Rattle.wait_law.proofs.Below.fr_typing.PlaceLemmas.{eq_cases}
+use Rattle.wait_law.specs.Below.fr_base.declared.place.Lval.{Lval}
+use Rattle.wait_law.specs.Below.fr_base.declared.name.MutexNo.{MutexNo}
+use Rattle.wait_law.specs.Below.fr_base.declared.step.Fresh.{Fresh}
+use Rattle.wait_law.specs.Below.fr_base.declared.instruction.Instr.{Instr}
+use Rattle.wait_law.specs.Below.fr_base.declared.instruction.Instr.TheVariants as instr
+use Rattle.wait_law.specs.Below.fr_plain.PlainState.{SameState, place_in}
+use Rattle.wait_law.specs.Below.heap_partition.declared.value.Owned.{Owned}
+use Rattle.wait_law.specs.Below.thread_state.View.{is_over}
+use Rattle.wait_law.specs.Below.thread_state.declared.phase.Phase.{Phase}
+use Rattle.wait_law.specs.Below.thread_state.declared.phase.Phase.TheVariants as phase
+use Rattle.wait_law.specs.Below.journal.View.{EntryView}
+use Rattle.wait_law.specs.Below.server_model.declared.event.Event.{Event}
+use Rattle.wait_law.specs.Below.server_model.declared.event.What.{What}
+use Rattle.wait_law.specs.Below.server_model.Servers.{Cluster, server_at}
+use Rattle.wait_law.specs.Below.server_model.Clusters.{done_at, apply}
+use Rattle.wait_law.specs.Below.heap_law.Names.{tot, one, other, if_so, some, Among}
+use Rattle.wait_law.specs.Below.heap_law.Things.{Location, Thing, stands, things_of}
+use Rattle.wait_law.specs.Below.heap_law.Follow.{Standing, Ground, threads_in, thread_at, slot_of, value_behind, leads, locate, value_at}
+use Rattle.wait_law.specs.Below.heap_law.Sight.{sight}
+use Rattle.wait_law.specs.Below.heap_law.Weights.{is_thread}
+use Rattle.wait_law.specs.Below.heap_law.Walking.{instr_of}
+use Rattle.wait_law.specs.Below.heap_law.Naming.{threads, named_mutexes, started_at, zeroth_thread, zeroth_mutex, uncounted_thread, uncounted_mutex}
+use Rattle.wait_law.specs.Below.heap_law.Requests.{home_of, mutex_of, is_got, early_gift}
+use Rattle.wait_law.specs.Below.heap_law.OneHeap.{one_heap, is_given_thread, running_at}
+use Rattle.wait_law.specs.Below.heap_law.Coherent.{Sentence, Holds, gifts_got, names_counted, counts_from_one}
+use Rattle.wait_law.proofs.Below.heap_law.Names.{left_none}
+use Rattle.wait_law.specs.Below.type_law.ClusterTypes.{IsCoherent}
+use Rattle.wait_law.specs.Below.path_law.HeapStore.{GoesOn, HasPaths}
+use Rattle.wait_law.proofs.Below.path_law.Alike.{coherent_has_paths}
+use Rattle.wait_law.proofs.Below.path_law.Contained.{among_thread}
+use Rattle.wait_law.proofs.Below.path_law.Sole.{some_is}
+use Rattle.wait_law.specs.Below.word_law.Reworded.{HasPlaces}
+use Rattle.wait_law.specs.Below.read_law.Reading.{Reads, locks}
+use Rattle.wait_law.proofs.Below.read_law.FreshReads.{Reading, reading_of}
+use Rattle.wait_law.specs.Below.event_law.Laws.{Gives, FewEvents}
+use Rattle.wait_law.proofs.Below.event_law.Results.{then_gives, map_gives, both_give}
+use Rattle.wait_law.proofs.Below.event_law.Sending.{applied_part}
+use Rattle.wait_law.specs.Below.still_law.Shows.{ShownThread, shown_thread}
+use Rattle.wait_law.proofs.Below.still_law.Told.{told, at_thread, thread_told, found}
+use Rattle.wait_law.proofs.Below.value_law.Sentences.{names_kept, counts_kept}
+use Rattle.wait_law.proofs.Below.undone_law.Undone.{each_undone}
+use Rattle.wait_law.specs.Below.ask_law.Standing.{StandBy}
+use Rattle.wait_law.proofs.Below.ask_law.GiftsGot.{gifts_got_kept}
+use Rattle.wait_law.proofs.Below.ask_law.AtInstructions.{asked_there}
+use Rattle.wait_law.proofs.Below.ask_law.Parents.{named_none}
+use Rattle.wait_law.proofs.Below.ask_law.SameHeap.{Runs, running_place, runs, SeesSame}
+use Rattle.wait_law.proofs.Below.ask_law.SameHeap as same_heap
 use Rattle.wait_law.proofs.Commits.{is_calm}
 use Rattle.wait_law.proofs.Clusters.{Done, step_done}
 use Rattle.wait_law.proofs.Places.{StillThere, still_there, reads_apart}

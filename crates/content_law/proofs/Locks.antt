@@ -1,46 +1,46 @@
 -- A lock that takes its gift puts the mark of the mutex at its place into its thread's slots, and one without a gift leaves them.
 use Rattle.std.proofs.Common.{◌≡◌, ℕ, ◌+◌, false, List, [], ◌∷◌, ◌++◌, Option, Some, None, refl, sym, ap, subst, ◌∙◌, arith}
 use Rattle.std.specs.Prelude.{option_map}
-use Rattle.fr_base.specs.declared.place.Lval.{Lval}
-use Rattle.fr_base.specs.declared.name.MutexNo.{MutexNo}
-use Rattle.fr_base.specs.declared.instruction.Instr.{Instr}
-use Rattle.fr_base.specs.declared.instruction.Instr.TheVariants as instr
-use Rattle.fr_base.specs.declared.step.Fresh.TheVariants as fresh
-use Rattle.fr_typing.specs.Kinds.{Owned as OwnedType, own, mutex, whole}
-use Rattle.fr_store.specs.Below.{ExactOf}
-use Rattle.fr_store.specs.Keys.{slot_k}
-use Rattle.heap_partition.specs.declared.value.Owned.{Owned}
-use Rattle.heap_partition.specs.declared.value.Owned.TheVariants as owned
-use Rattle.migration.specs.Packing.{unpin_all}
-use Rattle.read_cache.specs.Cache.{Copy}
-use Rattle.thread_state.specs.View.{ThreadState}
-use Rattle.thread_state.specs.declared.value.Value.{Value}
-use Rattle.thread_state.specs.declared.value.Value.TheVariants as value
-use Rattle.server_model.specs.Servers.{Server, Cluster}
-use Rattle.server_model.specs.Work.{Hand, mutex_of, then_some, with_cache}
-use Rattle.server_model.specs.Places.{Spot, in_slot, load_at}
-use Rattle.server_model.specs.Prepare.{Prepared, ready, requested, nothing, read_stars, access_of}
-use Rattle.server_model.specs.Commit.{waiting, go_on, goes_on, take_gift, ask_lock, push_content, mutex_at, lock}
-use Rattle.server_model.specs.Events.{Stepped, begin_work, done_step, committed, prepared, step}
-use Rattle.heap_law.specs.Names.{tot}
-use Rattle.heap_law.specs.Things.{Location}
-use Rattle.heap_law.specs.Follow.{Standing, Ground, value_in, value_behind, locate}
-use Rattle.heap_law.specs.Sight.{sight}
-use Rattle.heap_law.specs.Requests as requests
-use Rattle.heap_law.specs.Sharing.{some_mutex}
-use Rattle.path_law.proofs.Sole.{some_is}
-use Rattle.event_law.specs.Laws.{Gives}
-use Rattle.still_law.proofs.Readied.{IsPlaced}
-use Rattle.still_law.proofs.Prepares.{prepare_shows, Fine as Shows}
-use Rattle.local_law.proofs.Small.{Made}
-use Rattle.result_law.proofs.Known.{Steps, goes, paths, standing, entry, typed, types}
-use Rattle.result_law.proofs.Followed.{Place}
-use Rattle.result_law.proofs.Reading.{Alike, equal, both_shared, Reading}
-use Rattle.result_law.proofs.Starred.{bound, At, seen, Fine}
-use Rattle.result_law.proofs.Found.{stands_so, no_hole}
-use Rattle.result_law.proofs.Readers.{IsReadable, readable_place, stars_fine, never_taken, to_entry}
-use Rattle.ask_law.specs.Standing.{locked}
-use Rattle.ask_law.proofs.GiftsGot.{readable_lock}
+use Rattle.wait_law.specs.Below.fr_base.declared.place.Lval.{Lval}
+use Rattle.wait_law.specs.Below.fr_base.declared.name.MutexNo.{MutexNo}
+use Rattle.wait_law.specs.Below.fr_base.declared.instruction.Instr.{Instr}
+use Rattle.wait_law.specs.Below.fr_base.declared.instruction.Instr.TheVariants as instr
+use Rattle.wait_law.specs.Below.fr_base.declared.step.Fresh.TheVariants as fresh
+use Rattle.wait_law.specs.Below.fr_typing.Kinds.{Owned as OwnedType, own, mutex, whole}
+use Rattle.wait_law.specs.Below.fr_store.Below.{ExactOf}
+use Rattle.wait_law.specs.Below.fr_store.Keys.{slot_k}
+use Rattle.wait_law.specs.Below.heap_partition.declared.value.Owned.{Owned}
+use Rattle.wait_law.specs.Below.heap_partition.declared.value.Owned.TheVariants as owned
+use Rattle.wait_law.specs.Below.migration.Packing.{unpin_all}
+use Rattle.wait_law.specs.Below.read_cache.Cache.{Copy}
+use Rattle.wait_law.specs.Below.thread_state.View.{ThreadState}
+use Rattle.wait_law.specs.Below.thread_state.declared.value.Value.{Value}
+use Rattle.wait_law.specs.Below.thread_state.declared.value.Value.TheVariants as value
+use Rattle.wait_law.specs.Below.server_model.Servers.{Server, Cluster}
+use Rattle.wait_law.specs.Below.server_model.Work.{Hand, mutex_of, then_some, with_cache}
+use Rattle.wait_law.specs.Below.server_model.Places.{Spot, in_slot, load_at}
+use Rattle.wait_law.specs.Below.server_model.Prepare.{Prepared, ready, requested, nothing, read_stars, access_of}
+use Rattle.wait_law.specs.Below.server_model.Commit.{waiting, go_on, goes_on, take_gift, ask_lock, push_content, mutex_at, lock}
+use Rattle.wait_law.specs.Below.server_model.Events.{Stepped, begin_work, done_step, committed, prepared, step}
+use Rattle.wait_law.specs.Below.heap_law.Names.{tot}
+use Rattle.wait_law.specs.Below.heap_law.Things.{Location}
+use Rattle.wait_law.specs.Below.heap_law.Follow.{Standing, Ground, value_in, value_behind, locate}
+use Rattle.wait_law.specs.Below.heap_law.Sight.{sight}
+use Rattle.wait_law.specs.Below.heap_law.Requests as requests
+use Rattle.wait_law.specs.Below.heap_law.Sharing.{some_mutex}
+use Rattle.wait_law.proofs.Below.path_law.Sole.{some_is}
+use Rattle.wait_law.specs.Below.event_law.Laws.{Gives}
+use Rattle.wait_law.proofs.Below.still_law.Readied.{IsPlaced}
+use Rattle.wait_law.proofs.Below.still_law.Prepares.{prepare_shows, Fine as Shows}
+use Rattle.wait_law.proofs.Below.local_law.Small.{Made}
+use Rattle.wait_law.proofs.Below.result_law.Known.{Steps, goes, paths, standing, entry, typed, types}
+use Rattle.wait_law.proofs.Below.result_law.Followed.{Place}
+use Rattle.wait_law.proofs.Below.result_law.Reading.{Alike, equal, both_shared, Reading}
+use Rattle.wait_law.proofs.Below.result_law.Starred.{bound, At, seen, Fine}
+use Rattle.wait_law.proofs.Below.result_law.Found.{stands_so, no_hole}
+use Rattle.wait_law.proofs.Below.result_law.Readers.{IsReadable, readable_place, stars_fine, never_taken, to_entry}
+use Rattle.wait_law.specs.Below.ask_law.Standing.{locked}
+use Rattle.wait_law.proofs.Below.ask_law.GiftsGot.{readable_lock}
 use Rattle.content_law.proofs.Weigh.{mark}
 use Rattle.content_law.proofs.Marks.{push_sum}
 use Rattle.content_law.proofs.Slots.{ready_held}

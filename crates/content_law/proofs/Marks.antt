@@ -1,20 +1,20 @@
 -- The marks of locks among values: where a value is put, goes or is captured, and where values have the frames that they had.
 use Rattle.std.proofs.Common.{◌≡◌, ℕ, zero, suc, ◌+◌, Bool, true, false, if◌then◌else◌, List, [], ◌∷◌, ◌++◌, map, Some, None, refl, sym, ap, subst, ◌∙◌, arith}
 use Rattle.std.specs.Prelude.{slice_get, slice_set}
-use Rattle.fr_base.specs.Lists.{last_of}
-use Rattle.fr_base.specs.declared.name.MutexNo.{MutexNo}
-use Rattle.migration.specs.Packing.{unpinned}
-use Rattle.thread_state.specs.declared.value.Value.{Value}
-use Rattle.thread_state.specs.declared.value.Value.TheVariants as value
-use Rattle.server_model.specs.Work.{front_of}
-use Rattle.server_model.specs.Places.{owns_nothing, second_of, written}
-use Rattle.server_model.specs.Start.{captured, left_after, capture_from, capture}
-use Rattle.heap_law.specs.Names.{tot}
-use Rattle.heap_law.proofs.Sums.{tot-append}
-use Rattle.event_law.specs.Laws.{Gives}
-use Rattle.event_law.proofs.Results.{then_gives}
-use Rattle.event_law.proofs.Values.{last_split}
-use Rattle.still_law.specs.Shows.{Frame, frame_of, marking}
+use Rattle.wait_law.specs.Below.fr_base.Lists.{last_of}
+use Rattle.wait_law.specs.Below.fr_base.declared.name.MutexNo.{MutexNo}
+use Rattle.wait_law.specs.Below.migration.Packing.{unpinned}
+use Rattle.wait_law.specs.Below.thread_state.declared.value.Value.{Value}
+use Rattle.wait_law.specs.Below.thread_state.declared.value.Value.TheVariants as value
+use Rattle.wait_law.specs.Below.server_model.Work.{front_of}
+use Rattle.wait_law.specs.Below.server_model.Places.{owns_nothing, second_of, written}
+use Rattle.wait_law.specs.Below.server_model.Start.{captured, left_after, capture_from, capture}
+use Rattle.wait_law.specs.Below.heap_law.Names.{tot}
+use Rattle.wait_law.proofs.Below.heap_law.Sums.{tot-append}
+use Rattle.wait_law.specs.Below.event_law.Laws.{Gives}
+use Rattle.wait_law.proofs.Below.event_law.Results.{then_gives}
+use Rattle.wait_law.proofs.Below.event_law.Values.{last_split}
+use Rattle.wait_law.specs.Below.still_law.Shows.{Frame, frame_of, marking}
 use Rattle.content_law.proofs.Weigh.{mark}
 
 module _ (c : MutexNo → ℕ) where

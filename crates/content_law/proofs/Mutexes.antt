@@ -1,18 +1,18 @@
 -- What the mutexes of a home weigh once one is asked for, comes back, or has another share: contents that are in, and homes.
 use Rattle.std.proofs.Common.{◌≡◌, ℕ, ◌+◌, ◌-◌, ◌^◌, ◌==◌, ◌&&◌, nat_lt, Bool, true, false, is_some, if◌then◌else◌, List, [], ◌∷◌, ◌++◌, Option, Some, None, refl, sym, ap, subst, ◌∙◌, arith}
-use Rattle.fr_base.specs.declared.name.MutexNo.{MutexNo}
-use Rattle.fr_base.specs.Names.{same_mutex}
-use Rattle.heap_partition.specs.declared.value.Owned.{Owned}
-use Rattle.mutex_home.specs.Mutexes.{Mutex, Mutexes, mutex_in, with_mutex, without_mutex, put_mutex, end_mutex, make, next_mutex, asked_of, asked_in, ask, back_to, back_out, back_in, give_back, more_in, more, last_less, less_of, less_in, less}
-use Rattle.mutex_home.specs.declared.answers.Asked.{Asked}
-use Rattle.mutex_home.specs.declared.answers.Asked.TheVariants as asked
-use Rattle.mutex_home.specs.declared.answers.Back.{Back}
-use Rattle.mutex_home.specs.declared.answers.Back.TheVariants as back
-use Rattle.heap_law.specs.Names.{tot, if_so}
-use Rattle.heap_law.proofs.Sums.{tot-append}
-use Rattle.event_law.specs.Laws.{Gives}
-use Rattle.event_law.proofs.Results.{test_gives}
-use Rattle.event_law.proofs.MutexLists.{found_number}
+use Rattle.wait_law.specs.Below.fr_base.declared.name.MutexNo.{MutexNo}
+use Rattle.wait_law.specs.Below.fr_base.Names.{same_mutex}
+use Rattle.wait_law.specs.Below.heap_partition.declared.value.Owned.{Owned}
+use Rattle.wait_law.specs.Below.mutex_home.Mutexes.{Mutex, Mutexes, mutex_in, with_mutex, without_mutex, put_mutex, end_mutex, make, next_mutex, asked_of, asked_in, ask, back_to, back_out, back_in, give_back, more_in, more, last_less, less_of, less_in, less}
+use Rattle.wait_law.specs.Below.mutex_home.declared.answers.Asked.{Asked}
+use Rattle.wait_law.specs.Below.mutex_home.declared.answers.Asked.TheVariants as asked
+use Rattle.wait_law.specs.Below.mutex_home.declared.answers.Back.{Back}
+use Rattle.wait_law.specs.Below.mutex_home.declared.answers.Back.TheVariants as back
+use Rattle.wait_law.specs.Below.heap_law.Names.{tot, if_so}
+use Rattle.wait_law.proofs.Below.heap_law.Sums.{tot-append}
+use Rattle.wait_law.specs.Below.event_law.Laws.{Gives}
+use Rattle.wait_law.proofs.Below.event_law.Results.{test_gives}
+use Rattle.wait_law.proofs.Below.event_law.MutexLists.{found_number}
 use Rattle.content_law.proofs.Weigh.{inside, home}
 
 -- another state of a mutex stands where it stood

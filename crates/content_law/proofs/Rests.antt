@@ -1,34 +1,34 @@
 -- What is said at a server leaves its contents and homes balanced, but for a content that comes or goes with a message.
 use Rattle.std.proofs.Common.{◌≡◌, ℕ, ◌+◌, ◌==◌, Bool, true, false, if◌then◌else◌, List, [], ◌∷◌, ◌++◌, Option, Some, None, refl, arith}
-use Rattle.fr_base.specs.declared.name.MutexNo.{MutexNo}
-use Rattle.fr_base.specs.declared.name.ObjNo.{ObjNo}
-use Rattle.fr_base.specs.declared.release.Released.{Released}
-use Rattle.fr_base.specs.declared.release.Released.TheVariants as released
-use Rattle.global_addr.specs.Words.{server_of}
-use Rattle.heap_partition.specs.declared.value.Owned.{Owned}
-use Rattle.heap_partition.specs.declared.value.Owned.TheVariants as owned
-use Rattle.owner_box.specs.Partition.{freed}
-use Rattle.mutex_home.specs.Mutexes.{Mutexes, ask, give_back, more, less}
-use Rattle.mutex_home.specs.declared.answers.Asked.{Asked}
-use Rattle.mutex_home.specs.declared.answers.Asked.TheVariants as asked
-use Rattle.mutex_home.specs.declared.answers.Back.{Back}
-use Rattle.mutex_home.specs.declared.answers.Back.TheVariants as back
-use Rattle.join_home.specs.Tasks.{Task, let_go_of}
-use Rattle.join_home.specs.Tasks as tasks
-use Rattle.thread_state.specs.View.{ThreadState}
-use Rattle.server_msgs.specs.declared.message.Message.{Message}
-use Rattle.server_msgs.specs.declared.message.Message.TheVariants as message
-use Rattle.journal.specs.declared.act.Act.TheVariants as act
-use Rattle.server_model.specs.Servers.{Sent, Rest}
-use Rattle.server_model.specs.Work.{Work, note, sent_from, with_mutexes, with_tasks, with_partition, look_object}
-use Rattle.server_model.specs.Drop.{home_of, give_up}
-use Rattle.server_model.specs.Objects.{deliver_fetch, deliver_move, deliver_drop}
-use Rattle.server_model.specs.Sharing.{answer_lock, deliver_lock, answer_back, deliver_unlock, deliver_dup, give_up_left}
-use Rattle.server_model.specs.Joining.{answer_join, deliver_join}
-use Rattle.server_model.specs.Events.{release}
-use Rattle.heap_law.proofs.Sums.{tot-append}
-use Rattle.event_law.specs.Laws.{Gives}
-use Rattle.event_law.proofs.Results.{map_gives, over_gives}
+use Rattle.wait_law.specs.Below.fr_base.declared.name.MutexNo.{MutexNo}
+use Rattle.wait_law.specs.Below.fr_base.declared.name.ObjNo.{ObjNo}
+use Rattle.wait_law.specs.Below.fr_base.declared.release.Released.{Released}
+use Rattle.wait_law.specs.Below.fr_base.declared.release.Released.TheVariants as released
+use Rattle.wait_law.specs.Below.global_addr.Words.{server_of}
+use Rattle.wait_law.specs.Below.heap_partition.declared.value.Owned.{Owned}
+use Rattle.wait_law.specs.Below.heap_partition.declared.value.Owned.TheVariants as owned
+use Rattle.wait_law.specs.Below.owner_box.Partition.{freed}
+use Rattle.wait_law.specs.Below.mutex_home.Mutexes.{Mutexes, ask, give_back, more, less}
+use Rattle.wait_law.specs.Below.mutex_home.declared.answers.Asked.{Asked}
+use Rattle.wait_law.specs.Below.mutex_home.declared.answers.Asked.TheVariants as asked
+use Rattle.wait_law.specs.Below.mutex_home.declared.answers.Back.{Back}
+use Rattle.wait_law.specs.Below.mutex_home.declared.answers.Back.TheVariants as back
+use Rattle.wait_law.specs.Below.join_home.Tasks.{Task, let_go_of}
+use Rattle.wait_law.specs.Below.join_home.Tasks as tasks
+use Rattle.wait_law.specs.Below.thread_state.View.{ThreadState}
+use Rattle.wait_law.specs.Below.server_msgs.declared.message.Message.{Message}
+use Rattle.wait_law.specs.Below.server_msgs.declared.message.Message.TheVariants as message
+use Rattle.wait_law.specs.Below.journal.declared.act.Act.TheVariants as act
+use Rattle.wait_law.specs.Below.server_model.Servers.{Sent, Rest}
+use Rattle.wait_law.specs.Below.server_model.Work.{Work, note, sent_from, with_mutexes, with_tasks, with_partition, look_object}
+use Rattle.wait_law.specs.Below.server_model.Drop.{home_of, give_up}
+use Rattle.wait_law.specs.Below.server_model.Objects.{deliver_fetch, deliver_move, deliver_drop}
+use Rattle.wait_law.specs.Below.server_model.Sharing.{answer_lock, deliver_lock, answer_back, deliver_unlock, deliver_dup, give_up_left}
+use Rattle.wait_law.specs.Below.server_model.Joining.{answer_join, deliver_join}
+use Rattle.wait_law.specs.Below.server_model.Events.{release}
+use Rattle.wait_law.proofs.Below.heap_law.Sums.{tot-append}
+use Rattle.wait_law.specs.Below.event_law.Laws.{Gives}
+use Rattle.wait_law.proofs.Below.event_law.Results.{map_gives, over_gives}
 use Rattle.content_law.proofs.Weigh.{mail, mail_sent, weight}
 use Rattle.content_law.proofs.Mutexes.{homes, Asks, asks, Backs, backs, Even, mores, Left, lesses}
 

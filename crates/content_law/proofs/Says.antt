@@ -1,35 +1,35 @@
 -- What a step says: making a place ready says nothing but a request for a copy or an object, and the plain step of each instruction but an unlock leaves contents
 -- and homes balanced.
 use Rattle.std.proofs.Common.{◌≡◌, ℕ, ◌+◌, ◌==◌, Bool, true, false, if◌then◌else◌, List, [], ◌∷◌, ◌++◌, Option, refl, ap, ◌∙◌, arith}
-use Rattle.fr_base.specs.declared.name.MutexNo.{MutexNo}
-use Rattle.fr_base.specs.declared.instruction.Instr.{Instr}
-use Rattle.fr_base.specs.declared.instruction.Instr.TheVariants as instr
-use Rattle.global_addr.specs.Words.{server_of}
-use Rattle.heap_partition.specs.declared.value.Owned.{Owned}
-use Rattle.mutex_home.specs.Mutexes.{Mutexes, can_make}
-use Rattle.join_home.specs.Tasks.{can_begin, can_begin_pair}
-use Rattle.thread_state.specs.View.{ThreadState, new_thread}
-use Rattle.thread_state.specs.declared.phase.Phase.TheVariants as phase
-use Rattle.thread_state.specs.declared.value.Value.{Value}
-use Rattle.thread_state.specs.declared.value.Value.TheVariants as value
-use Rattle.server_msgs.specs.declared.message.Message.{Message}
-use Rattle.server_msgs.specs.declared.message.Message.TheVariants as message
-use Rattle.journal.specs.declared.act.Act.TheVariants as act
-use Rattle.server_model.specs.Servers.{Sent, Rest}
-use Rattle.server_model.specs.Work.{Work, Hand, sent_from, with_phase}
-use Rattle.server_model.specs.NewWords.{NewWord, can_grow, issue_placed}
-use Rattle.server_model.specs.Places.{Spot}
-use Rattle.server_model.specs.Start.{next_thread, server_for, start_thread, capture}
-use Rattle.server_model.specs.Drop.{home_of}
-use Rattle.server_model.specs.Prepare.{Access, prepare}
-use Rattle.server_model.specs.Commit.{go_on, next_object, push_box, begun, pair_begun, spawn_with, end_with, label_dropped, commit}
-use Rattle.heap_law.specs.Names.{tot}
-use Rattle.heap_law.proofs.Sums.{tot-append}
-use Rattle.event_law.specs.Laws.{Gives}
-use Rattle.event_law.proofs.Results.{bind_gives, over_gives, test_gives}
-use Rattle.local_law.proofs.Small.{Of, Places, Small, Made, prepare_makes}
-use Rattle.local_law.proofs.Goes.{Any, AnyWord, puts_by}
-use Rattle.local_law.proofs.Plainly.{Settles, Acts, Ends, moves_by, commits}
+use Rattle.wait_law.specs.Below.fr_base.declared.name.MutexNo.{MutexNo}
+use Rattle.wait_law.specs.Below.fr_base.declared.instruction.Instr.{Instr}
+use Rattle.wait_law.specs.Below.fr_base.declared.instruction.Instr.TheVariants as instr
+use Rattle.wait_law.specs.Below.global_addr.Words.{server_of}
+use Rattle.wait_law.specs.Below.heap_partition.declared.value.Owned.{Owned}
+use Rattle.wait_law.specs.Below.mutex_home.Mutexes.{Mutexes, can_make}
+use Rattle.wait_law.specs.Below.join_home.Tasks.{can_begin, can_begin_pair}
+use Rattle.wait_law.specs.Below.thread_state.View.{ThreadState, new_thread}
+use Rattle.wait_law.specs.Below.thread_state.declared.phase.Phase.TheVariants as phase
+use Rattle.wait_law.specs.Below.thread_state.declared.value.Value.{Value}
+use Rattle.wait_law.specs.Below.thread_state.declared.value.Value.TheVariants as value
+use Rattle.wait_law.specs.Below.server_msgs.declared.message.Message.{Message}
+use Rattle.wait_law.specs.Below.server_msgs.declared.message.Message.TheVariants as message
+use Rattle.wait_law.specs.Below.journal.declared.act.Act.TheVariants as act
+use Rattle.wait_law.specs.Below.server_model.Servers.{Sent, Rest}
+use Rattle.wait_law.specs.Below.server_model.Work.{Work, Hand, sent_from, with_phase}
+use Rattle.wait_law.specs.Below.server_model.NewWords.{NewWord, can_grow, issue_placed}
+use Rattle.wait_law.specs.Below.server_model.Places.{Spot}
+use Rattle.wait_law.specs.Below.server_model.Start.{next_thread, server_for, start_thread, capture}
+use Rattle.wait_law.specs.Below.server_model.Drop.{home_of}
+use Rattle.wait_law.specs.Below.server_model.Prepare.{Access, prepare}
+use Rattle.wait_law.specs.Below.server_model.Commit.{go_on, next_object, push_box, begun, pair_begun, spawn_with, end_with, label_dropped, commit}
+use Rattle.wait_law.specs.Below.heap_law.Names.{tot}
+use Rattle.wait_law.proofs.Below.heap_law.Sums.{tot-append}
+use Rattle.wait_law.specs.Below.event_law.Laws.{Gives}
+use Rattle.wait_law.proofs.Below.event_law.Results.{bind_gives, over_gives, test_gives}
+use Rattle.wait_law.proofs.Below.local_law.Small.{Of, Places, Small, Made, prepare_makes}
+use Rattle.wait_law.proofs.Below.local_law.Goes.{Any, AnyWord, puts_by}
+use Rattle.wait_law.proofs.Below.local_law.Plainly.{Settles, Acts, Ends, moves_by, commits}
 use Rattle.content_law.proofs.Weigh.{mark, inside, mail, mail_sent, weight_of}
 use Rattle.content_law.proofs.Mutexes.{made_even}
 use Rattle.content_law.proofs.Marks.{Captured, captures_none}

@@ -2,44 +2,44 @@
 use Rattle.std.proofs.Common.{◌≡◌, ℕ, ℤ, zero, suc, ◌+◌, ◌==◌, Bool, true, false, nat_lt, if◌then◌else◌, List, [], length, Option, Some, None, refl, sym, ap, ◌∙◌, arith}
 use Rattle.std.specs.Bool.{⊤}
 use Rattle.std.specs.Prelude.{slice_get, option_map}
-use Rattle.fr_base.specs.Lists.{last_of}
-use Rattle.fr_base.specs.Rooms.{WithRoom}
-use Rattle.fr_base.specs.declared.name.MutexNo.{MutexNo}
-use Rattle.fr_base.specs.declared.place.Lval.{Lval}
-use Rattle.fr_base.specs.declared.place.Op.{Op}
-use Rattle.fr_base.specs.declared.step.Fresh.{Fresh}
-use Rattle.fr_base.specs.declared.step.Fresh.TheVariants as fresh
-use Rattle.fr_base.specs.declared.instruction.Instr.{Instr}
-use Rattle.fr_base.specs.declared.instruction.Instr.TheVariants as instr
-use Rattle.fr_base.specs.declared.instruction.Operand.{Operand}
-use Rattle.fr_base.specs.declared.instruction.Operand.TheVariants as operand
-use Rattle.heap_partition.specs.declared.value.Owned.{Owned}
-use Rattle.heap_partition.specs.declared.value.Owned.TheVariants as owned
-use Rattle.owner_box.specs.Partition.{stored}
-use Rattle.read_cache.specs.Cache.{Copy, can_unpin}
-use Rattle.mut_borrow.specs.Refs.{finish_word}
-use Rattle.mut_borrow.specs.declared.mutable.MutRef.{MutRef}
-use Rattle.mut_borrow.specs.declared.shared.SharedRef.{SharedRef}
-use Rattle.migration.specs.Packing.{unpin_all}
-use Rattle.thread_state.specs.View.{ThreadState}
-use Rattle.thread_state.specs.declared.phase.Phase.{Phase}
-use Rattle.thread_state.specs.declared.phase.Phase.TheVariants as phase
-use Rattle.thread_state.specs.declared.value.Value.{Value}
-use Rattle.thread_state.specs.declared.value.Value.TheVariants as value
-use Rattle.journal.specs.declared.act.Act.TheVariants as act
-use Rattle.server_model.specs.Work.{Hand, Popped, push_temp, with_cache, with_phase, front_of, pop, pop_temp, pop_slot, pop_owned, pop_int, taken_as, owned_of, int_of, task_of, then_some, working, with_partition, leads_here, label_all}
-use Rattle.server_model.specs.NewWords.{issue_placed}
-use Rattle.server_model.specs.Places.{Spot, in_slot, on_top, in_cell, in_copy, nowhere, cell_at, value_at, load_at, note_slot, note_write, put_at, put_slot, second_of, written}
-use Rattle.server_model.specs.Drop.{unpin_ref, finished_at, drop_value}
-use Rattle.server_model.specs.Start.{next_thread, capture}
-use Rattle.server_model.specs.Commit.{next_object, push_box, Committed, done, waits, refused, done_where, go_on, goes_on, waiting, let_slot, label_dropped, replace_slot, store_labels, store_at, replace_at, assign, take_out, read, borrow_from, shared_from, borrow_mut_from, mutable_from, discard, drop_slot, make_box, arith as calculate, print, begun, spawn_with, ask_join, take_gift, join, pair_begun, par_with, par_end, end_with, mutex_at, dup, commit, settle}
-use Rattle.server_model.specs.Events.{Stepped, committed}
-use Rattle.mutex_home.specs.Mutexes.{can_make}
-use Rattle.join_home.specs.Tasks.{can_begin, can_begin_pair}
-use Rattle.heap_law.specs.Names.{tot}
-use Rattle.event_law.specs.Laws.{Gives}
-use Rattle.event_law.proofs.Results.{then_gives, map_gives, over_gives, bind_gives, test_gives, weaker}
-use Rattle.still_law.proofs.Readied.{Readied, Kept, set_ready}
+use Rattle.wait_law.specs.Below.fr_base.Lists.{last_of}
+use Rattle.wait_law.specs.Below.fr_base.Rooms.{WithRoom}
+use Rattle.wait_law.specs.Below.fr_base.declared.name.MutexNo.{MutexNo}
+use Rattle.wait_law.specs.Below.fr_base.declared.place.Lval.{Lval}
+use Rattle.wait_law.specs.Below.fr_base.declared.place.Op.{Op}
+use Rattle.wait_law.specs.Below.fr_base.declared.step.Fresh.{Fresh}
+use Rattle.wait_law.specs.Below.fr_base.declared.step.Fresh.TheVariants as fresh
+use Rattle.wait_law.specs.Below.fr_base.declared.instruction.Instr.{Instr}
+use Rattle.wait_law.specs.Below.fr_base.declared.instruction.Instr.TheVariants as instr
+use Rattle.wait_law.specs.Below.fr_base.declared.instruction.Operand.{Operand}
+use Rattle.wait_law.specs.Below.fr_base.declared.instruction.Operand.TheVariants as operand
+use Rattle.wait_law.specs.Below.heap_partition.declared.value.Owned.{Owned}
+use Rattle.wait_law.specs.Below.heap_partition.declared.value.Owned.TheVariants as owned
+use Rattle.wait_law.specs.Below.owner_box.Partition.{stored}
+use Rattle.wait_law.specs.Below.read_cache.Cache.{Copy, can_unpin}
+use Rattle.wait_law.specs.Below.mut_borrow.Refs.{finish_word}
+use Rattle.wait_law.specs.Below.mut_borrow.declared.mutable.MutRef.{MutRef}
+use Rattle.wait_law.specs.Below.mut_borrow.declared.shared.SharedRef.{SharedRef}
+use Rattle.wait_law.specs.Below.migration.Packing.{unpin_all}
+use Rattle.wait_law.specs.Below.thread_state.View.{ThreadState}
+use Rattle.wait_law.specs.Below.thread_state.declared.phase.Phase.{Phase}
+use Rattle.wait_law.specs.Below.thread_state.declared.phase.Phase.TheVariants as phase
+use Rattle.wait_law.specs.Below.thread_state.declared.value.Value.{Value}
+use Rattle.wait_law.specs.Below.thread_state.declared.value.Value.TheVariants as value
+use Rattle.wait_law.specs.Below.journal.declared.act.Act.TheVariants as act
+use Rattle.wait_law.specs.Below.server_model.Work.{Hand, Popped, push_temp, with_cache, with_phase, front_of, pop, pop_temp, pop_slot, pop_owned, pop_int, taken_as, owned_of, int_of, task_of, then_some, working, with_partition, leads_here, label_all}
+use Rattle.wait_law.specs.Below.server_model.NewWords.{issue_placed}
+use Rattle.wait_law.specs.Below.server_model.Places.{Spot, in_slot, on_top, in_cell, in_copy, nowhere, cell_at, value_at, load_at, note_slot, note_write, put_at, put_slot, second_of, written}
+use Rattle.wait_law.specs.Below.server_model.Drop.{unpin_ref, finished_at, drop_value}
+use Rattle.wait_law.specs.Below.server_model.Start.{next_thread, capture}
+use Rattle.wait_law.specs.Below.server_model.Commit.{next_object, push_box, Committed, done, waits, refused, done_where, go_on, goes_on, waiting, let_slot, label_dropped, replace_slot, store_labels, store_at, replace_at, assign, take_out, read, borrow_from, shared_from, borrow_mut_from, mutable_from, discard, drop_slot, make_box, arith as calculate, print, begun, spawn_with, ask_join, take_gift, join, pair_begun, par_with, par_end, end_with, mutex_at, dup, commit, settle}
+use Rattle.wait_law.specs.Below.server_model.Events.{Stepped, committed}
+use Rattle.wait_law.specs.Below.mutex_home.Mutexes.{can_make}
+use Rattle.wait_law.specs.Below.join_home.Tasks.{can_begin, can_begin_pair}
+use Rattle.wait_law.specs.Below.heap_law.Names.{tot}
+use Rattle.wait_law.specs.Below.event_law.Laws.{Gives}
+use Rattle.wait_law.proofs.Below.event_law.Results.{then_gives, map_gives, over_gives, bind_gives, test_gives, weaker}
+use Rattle.wait_law.proofs.Below.still_law.Readied.{Readied, Kept, set_ready}
 use Rattle.content_law.proofs.Weigh.{mark}
 use Rattle.content_law.proofs.Marks.{framed, set_sum, last_sum, push_sum, written_mark, Captured, captures_none}
 

@@ -1,55 +1,55 @@
 -- A step leaves the contents and homes of its server balanced: a mark comes where a content's gift goes, and goes where the content is sent.
 use Rattle.std.proofs.Common.{◌≡◌, ℕ, ◌+◌, Bool, true, false, List, [], ◌∷◌, ◌++◌, map, Option, Some, None, refl, ap, subst, ◌∙◌, arith}
 use Rattle.std.specs.Prelude.{slice_get, option_map, is_some}
-use Rattle.fr_base.specs.Lists.{last_of}
-use Rattle.fr_base.specs.declared.name.MutexNo.{MutexNo}
-use Rattle.fr_base.specs.declared.place.Lval.{Lval}
-use Rattle.fr_base.specs.declared.instruction.Instr.{Instr}
-use Rattle.fr_base.specs.declared.instruction.Instr.TheVariants as instr
-use Rattle.fr_base.specs.declared.step.Fresh.TheVariants as fresh
-use Rattle.heap_partition.specs.declared.value.Owned.{Owned}
-use Rattle.migration.specs.Packing.{unpin_all}
-use Rattle.read_cache.specs.Cache.{Copy}
-use Rattle.thread_state.specs.View.{ThreadState, new_thread}
-use Rattle.thread_state.specs.declared.phase.Phase.{Phase}
-use Rattle.thread_state.specs.declared.phase.Phase.TheVariants as phase
-use Rattle.thread_state.specs.declared.value.Value.{Value}
-use Rattle.thread_state.specs.declared.value.Value.TheVariants as value
-use Rattle.server_msgs.specs.declared.message.Message.TheVariants as message
-use Rattle.journal.specs.View.{EntryView}
-use Rattle.server_model.specs.declared.event.What.TheVariants.{Step}
-use Rattle.server_model.specs.Servers.{Rest, Server, Cluster, server_at}
-use Rattle.server_model.specs.Work.{Hand, Popped, thread_in, then_some, pop_slot, taken_as, owned_of, with_cache, sent_from}
-use Rattle.server_model.specs.Prepare.{Prepared, ready, requested, nothing, access_of, prepare}
-use Rattle.server_model.specs.Commit.{Committed, done, waits, refused, goes_on, go_on, held_of, send_content, unlock, commit}
-use Rattle.server_model.specs.Events.{can_step, enabled, Stepped, begin_work, done_step, committed, prepared, step, step_in, stepped, does}
-use Rattle.heap_law.specs.Names.{tot, other, if_so}
-use Rattle.heap_law.specs.Things.{things_at, gift_things, walk_things, slot_things, temp_things, things_of}
-use Rattle.heap_law.specs.Sight.{sight}
-use Rattle.heap_law.specs.Requests.{is_par_end, is_par, same_truth, par_end}
-use Rattle.heap_law.specs.Sharing.{some_mutex, loose_mark}
-use Rattle.heap_law.specs.Coherent.{IsSound}
-use Rattle.heap_law.proofs.Sums.{tot-append}
-use Rattle.type_law.specs.ClusterTypes.{IsCoherent}
-use Rattle.event_law.specs.Laws.{Gives, FewEvents}
-use Rattle.event_law.proofs.Results.{map_gives, over_gives, bind_gives, both_give, weaker}
-use Rattle.event_law.proofs.Bags.{all_standing, rest_things, server_same, thread_number, tot-without}
-use Rattle.event_law.proofs.Events.{tot-server}
-use Rattle.event_law.proofs.GiftsTaken.{none_here, gift_fits}
-use Rattle.event_law.proofs.QuietSteps.{GiftFits}
-use Rattle.still_law.specs.Shows.{frame_of}
-use Rattle.still_law.proofs.Addresses.{in_place}
-use Rattle.still_law.proofs.Leaving.{others, placed_here}
-use Rattle.still_law.proofs.Hands.{IsQuiet}
-use Rattle.still_law.proofs.Readied.{Readied, IsPlaced}
-use Rattle.still_law.proofs.Prepares.{prepare_shows, Fine as Shows}
-use Rattle.still_law.proofs.Undone.{step_quiet}
-use Rattle.local_law.proofs.Small.{Made}
-use Rattle.local_law.proofs.Plainly.{Ends}
-use Rattle.local_law.proofs.Goes.{Goes, IsAsking, on, waits_pair, is_over, asks_cell, asks_home, gets_cell, gets_gift, goes_pair, thread_goes}
-use Rattle.result_law.proofs.Known.{Steps, able}
-use Rattle.ask_law.specs.Standing.{locked}
-use Rattle.ask_law.proofs.GiftsGot.{Bare, left_none, steps_bare}
+use Rattle.wait_law.specs.Below.fr_base.Lists.{last_of}
+use Rattle.wait_law.specs.Below.fr_base.declared.name.MutexNo.{MutexNo}
+use Rattle.wait_law.specs.Below.fr_base.declared.place.Lval.{Lval}
+use Rattle.wait_law.specs.Below.fr_base.declared.instruction.Instr.{Instr}
+use Rattle.wait_law.specs.Below.fr_base.declared.instruction.Instr.TheVariants as instr
+use Rattle.wait_law.specs.Below.fr_base.declared.step.Fresh.TheVariants as fresh
+use Rattle.wait_law.specs.Below.heap_partition.declared.value.Owned.{Owned}
+use Rattle.wait_law.specs.Below.migration.Packing.{unpin_all}
+use Rattle.wait_law.specs.Below.read_cache.Cache.{Copy}
+use Rattle.wait_law.specs.Below.thread_state.View.{ThreadState, new_thread}
+use Rattle.wait_law.specs.Below.thread_state.declared.phase.Phase.{Phase}
+use Rattle.wait_law.specs.Below.thread_state.declared.phase.Phase.TheVariants as phase
+use Rattle.wait_law.specs.Below.thread_state.declared.value.Value.{Value}
+use Rattle.wait_law.specs.Below.thread_state.declared.value.Value.TheVariants as value
+use Rattle.wait_law.specs.Below.server_msgs.declared.message.Message.TheVariants as message
+use Rattle.wait_law.specs.Below.journal.View.{EntryView}
+use Rattle.wait_law.specs.Below.server_model.declared.event.What.TheVariants.{Step}
+use Rattle.wait_law.specs.Below.server_model.Servers.{Rest, Server, Cluster, server_at}
+use Rattle.wait_law.specs.Below.server_model.Work.{Hand, Popped, thread_in, then_some, pop_slot, taken_as, owned_of, with_cache, sent_from}
+use Rattle.wait_law.specs.Below.server_model.Prepare.{Prepared, ready, requested, nothing, access_of, prepare}
+use Rattle.wait_law.specs.Below.server_model.Commit.{Committed, done, waits, refused, goes_on, go_on, held_of, send_content, unlock, commit}
+use Rattle.wait_law.specs.Below.server_model.Events.{can_step, enabled, Stepped, begin_work, done_step, committed, prepared, step, step_in, stepped, does}
+use Rattle.wait_law.specs.Below.heap_law.Names.{tot, other, if_so}
+use Rattle.wait_law.specs.Below.heap_law.Things.{things_at, gift_things, walk_things, slot_things, temp_things, things_of}
+use Rattle.wait_law.specs.Below.heap_law.Sight.{sight}
+use Rattle.wait_law.specs.Below.heap_law.Requests.{is_par_end, is_par, same_truth, par_end}
+use Rattle.wait_law.specs.Below.heap_law.Sharing.{some_mutex, loose_mark}
+use Rattle.wait_law.specs.Below.heap_law.Coherent.{IsSound}
+use Rattle.wait_law.proofs.Below.heap_law.Sums.{tot-append}
+use Rattle.wait_law.specs.Below.type_law.ClusterTypes.{IsCoherent}
+use Rattle.wait_law.specs.Below.event_law.Laws.{Gives, FewEvents}
+use Rattle.wait_law.proofs.Below.event_law.Results.{map_gives, over_gives, bind_gives, both_give, weaker}
+use Rattle.wait_law.proofs.Below.event_law.Bags.{all_standing, rest_things, server_same, thread_number, tot-without}
+use Rattle.wait_law.proofs.Below.event_law.Events.{tot-server}
+use Rattle.wait_law.proofs.Below.event_law.GiftsTaken.{none_here, gift_fits}
+use Rattle.wait_law.proofs.Below.event_law.QuietSteps.{GiftFits}
+use Rattle.wait_law.specs.Below.still_law.Shows.{frame_of}
+use Rattle.wait_law.proofs.Below.still_law.Addresses.{in_place}
+use Rattle.wait_law.proofs.Below.still_law.Leaving.{others, placed_here}
+use Rattle.wait_law.proofs.Below.still_law.Hands.{IsQuiet}
+use Rattle.wait_law.proofs.Below.still_law.Readied.{Readied, IsPlaced}
+use Rattle.wait_law.proofs.Below.still_law.Prepares.{prepare_shows, Fine as Shows}
+use Rattle.wait_law.proofs.Below.still_law.Undone.{step_quiet}
+use Rattle.wait_law.proofs.Below.local_law.Small.{Made}
+use Rattle.wait_law.proofs.Below.local_law.Plainly.{Ends}
+use Rattle.wait_law.proofs.Below.local_law.Goes.{Goes, IsAsking, on, waits_pair, is_over, asks_cell, asks_home, gets_cell, gets_gift, goes_pair, thread_goes}
+use Rattle.wait_law.proofs.Below.result_law.Known.{Steps, able}
+use Rattle.wait_law.specs.Below.ask_law.Standing.{locked}
+use Rattle.wait_law.proofs.Below.ask_law.GiftsGot.{Bare, left_none, steps_bare}
 use Rattle.content_law.proofs.Weigh.{mark, weight_of, body}
 use Rattle.content_law.proofs.Mutexes.{homes}
 use Rattle.content_law.proofs.Rests.{RestBalance}

@@ -3,43 +3,43 @@ use Rattle.std.proofs.Common.{◌≡◌, ℕ, zero, suc, ◌-◌, true, false, L
 use Rattle.std.specs.Bool.{⊤}
 use Rattle.std.specs.Prelude.{slice_get, reverse}
 use Rattle.std.proofs.lemmas.List.{length-map}
-use Rattle.fr_base.specs.Lists.{last_of}
-use Rattle.fr_base.specs.declared.name.MutexNo.{MutexNo}
-use Rattle.fr_base.specs.declared.name.ObjNo.{ObjNo}
-use Rattle.fr_base.specs.declared.place.Lval.{Lval}
-use Rattle.fr_base.specs.declared.instruction.Instr.{Instr}
-use Rattle.fr_base.specs.declared.instruction.Instr.TheVariants as instr
-use Rattle.fr_typing.specs.Kinds.{own, shared, mutable, view, Piece, whole, gone, boxed}
-use Rattle.fr_code.specs.CodeTypes.{Entry, Table, InstrTypes, i_drop}
-use Rattle.fr_code.specs.CodeTable.{Leads}
-use Rattle.fr_store.proofs.Rows.{found_place}
-use Rattle.heap_partition.specs.declared.value.Cell.{Cell}
-use Rattle.owner_box.specs.View.{PartitionState}
-use Rattle.thread_state.specs.View.{ThreadState}
-use Rattle.thread_state.specs.declared.value.Value.{Value}
-use Rattle.thread_state.specs.declared.value.Value.TheVariants as value
-use Rattle.server_model.specs.Servers.{Server, Cluster}
-use Rattle.server_model.specs.Work.{Hand}
-use Rattle.server_model.specs.Places.{Spot, in_slot}
-use Rattle.server_model.specs.Prepare.{ready, assigned, read_or_taken, access_of, prepare, read_stars, write_stars}
-use Rattle.server_model.specs.Events.{begin_work}
-use Rattle.heap_law.specs.Things.{Location, at_slot}
-use Rattle.heap_law.specs.Follow.{Standing, locate}
-use Rattle.heap_law.specs.Sight.{sight}
-use Rattle.type_law.specs.Names.{NameTypes}
-use Rattle.type_law.specs.ClusterTypes.{has_form, slot_form, slots_wrong}
-use Rattle.path_law.specs.HeapStore.{heap_store, store_place, IsUnmarked}
-use Rattle.path_law.specs.Pointing.{MayWrite, WritesTo, assigns as assigns_to, moves as moves_from}
-use Rattle.path_law.proofs.Alike.{leads_in_cluster}
-use Rattle.path_law.proofs.MayWrites.{may_write_there}
-use Rattle.path_law.proofs.Sole.{some_is}
-use Rattle.still_law.specs.Shows.{Frame, frame_of, marking}
-use Rattle.result_law.proofs.Known.{Steps, standing, paths, goes, types, names, entry, typed, slots_fit}
-use Rattle.result_law.proofs.Operands.{newest_of}
-use Rattle.result_law.proofs.Readers.{to_entry}
-use Rattle.write_law.proofs.Route.{At, a_slot, a_cell, Fine, begins, all_hops}
-use Rattle.rewrite_law.specs.Writing.{WritesThrough, assigns, moves}
-use Rattle.rewrite_law.proofs.Ways.{cell_there, place, route}
+use Rattle.wait_law.specs.Below.fr_base.Lists.{last_of}
+use Rattle.wait_law.specs.Below.fr_base.declared.name.MutexNo.{MutexNo}
+use Rattle.wait_law.specs.Below.fr_base.declared.name.ObjNo.{ObjNo}
+use Rattle.wait_law.specs.Below.fr_base.declared.place.Lval.{Lval}
+use Rattle.wait_law.specs.Below.fr_base.declared.instruction.Instr.{Instr}
+use Rattle.wait_law.specs.Below.fr_base.declared.instruction.Instr.TheVariants as instr
+use Rattle.wait_law.specs.Below.fr_typing.Kinds.{own, shared, mutable, view, Piece, whole, gone, boxed}
+use Rattle.wait_law.specs.Below.fr_code.CodeTypes.{Entry, Table, InstrTypes, i_drop}
+use Rattle.wait_law.specs.Below.fr_code.CodeTable.{Leads}
+use Rattle.wait_law.proofs.Below.fr_store.Rows.{found_place}
+use Rattle.wait_law.specs.Below.heap_partition.declared.value.Cell.{Cell}
+use Rattle.wait_law.specs.Below.owner_box.View.{PartitionState}
+use Rattle.wait_law.specs.Below.thread_state.View.{ThreadState}
+use Rattle.wait_law.specs.Below.thread_state.declared.value.Value.{Value}
+use Rattle.wait_law.specs.Below.thread_state.declared.value.Value.TheVariants as value
+use Rattle.wait_law.specs.Below.server_model.Servers.{Server, Cluster}
+use Rattle.wait_law.specs.Below.server_model.Work.{Hand}
+use Rattle.wait_law.specs.Below.server_model.Places.{Spot, in_slot}
+use Rattle.wait_law.specs.Below.server_model.Prepare.{ready, assigned, read_or_taken, access_of, prepare, read_stars, write_stars}
+use Rattle.wait_law.specs.Below.server_model.Events.{begin_work}
+use Rattle.wait_law.specs.Below.heap_law.Things.{Location, at_slot}
+use Rattle.wait_law.specs.Below.heap_law.Follow.{Standing, locate}
+use Rattle.wait_law.specs.Below.heap_law.Sight.{sight}
+use Rattle.wait_law.specs.Below.type_law.Names.{NameTypes}
+use Rattle.wait_law.specs.Below.type_law.ClusterTypes.{has_form, slot_form, slots_wrong}
+use Rattle.wait_law.specs.Below.path_law.HeapStore.{heap_store, store_place, IsUnmarked}
+use Rattle.wait_law.specs.Below.path_law.Pointing.{MayWrite, WritesTo, assigns as assigns_to, moves as moves_from}
+use Rattle.wait_law.proofs.Below.path_law.Alike.{leads_in_cluster}
+use Rattle.wait_law.proofs.Below.path_law.MayWrites.{may_write_there}
+use Rattle.wait_law.proofs.Below.path_law.Sole.{some_is}
+use Rattle.wait_law.specs.Below.still_law.Shows.{Frame, frame_of, marking}
+use Rattle.wait_law.proofs.Below.result_law.Known.{Steps, standing, paths, goes, types, names, entry, typed, slots_fit}
+use Rattle.wait_law.proofs.Below.result_law.Operands.{newest_of}
+use Rattle.wait_law.proofs.Below.result_law.Readers.{to_entry}
+use Rattle.wait_law.proofs.Below.write_law.Route.{At, a_slot, a_cell, Fine, begins, all_hops}
+use Rattle.wait_law.specs.Below.rewrite_law.Writing.{WritesThrough, assigns, moves}
+use Rattle.wait_law.proofs.Below.rewrite_law.Ways.{cell_there, place, route}
 use Rattle.content_law.proofs.Weigh.{mark}
 use Rattle.content_law.proofs.Slots.{SpotClear, PlaceClear, ClearFor}
 

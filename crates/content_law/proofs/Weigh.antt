@@ -1,25 +1,25 @@
 -- What a server weighs by the contents of mutexes, list by list: its messages, its mutexes and its threads.
 use Rattle.std.proofs.Common.{◌≡◌, ℕ, ◌+◌, Bool, true, false, is_some, if◌then◌else◌, List, [], ◌∷◌, ◌++◌, Option, Some, None, refl, arith}
-use Rattle.fr_base.specs.declared.name.MutexNo.{MutexNo}
-use Rattle.heap_partition.specs.declared.value.Cell.{Cell}
-use Rattle.heap_partition.specs.declared.value.Owned.{Owned}
-use Rattle.mut_borrow.specs.declared.shared.SharedRef.{SharedRef}
-use Rattle.owner_box.specs.View.{PartitionState}
-use Rattle.mutex_home.specs.Mutexes.{Mutex}
-use Rattle.join_home.specs.Tasks.{Task, TaskState, kept}
-use Rattle.thread_state.specs.View.{ThreadState}
-use Rattle.thread_state.specs.declared.value.Value.{Value}
-use Rattle.thread_state.specs.declared.value.Value.TheVariants as value
-use Rattle.server_msgs.specs.declared.message.Message.{Message}
-use Rattle.server_msgs.specs.declared.message.Message.TheVariants as message
-use Rattle.server_model.specs.Servers.{Sent, Rest, Server}
-use Rattle.heap_law.specs.Names.{tot, if_so, one, same_mutex}
-use Rattle.heap_law.specs.Things.{at_slot, Thing, holds, locks, retired, uses, stands, noted, things_at, is_free, cell_things, free_things, partition_things, copy_things, content_things, queue_things, mutex_things, result_things, task_things, gift_things, walk_things, pin_things, slot_things, temp_things, thread_things, standing_things, message_things, waiting_things, leaving_things, server_things}
-use Rattle.heap_law.specs.Sharing.{spot_mutex}
-use Rattle.heap_law.specs.Weights.{is_home_of}
-use Rattle.heap_law.proofs.Sums.{tot-append, server_parts}
-use Rattle.event_law.proofs.Bags.{all_standing, rest_things, server_same}
-use Rattle.event_law.proofs.Unseen.{Unseen, none_at, thread_alone, content_none, result_none, partition_none, copies_none}
+use Rattle.wait_law.specs.Below.fr_base.declared.name.MutexNo.{MutexNo}
+use Rattle.wait_law.specs.Below.heap_partition.declared.value.Cell.{Cell}
+use Rattle.wait_law.specs.Below.heap_partition.declared.value.Owned.{Owned}
+use Rattle.wait_law.specs.Below.mut_borrow.declared.shared.SharedRef.{SharedRef}
+use Rattle.wait_law.specs.Below.owner_box.View.{PartitionState}
+use Rattle.wait_law.specs.Below.mutex_home.Mutexes.{Mutex}
+use Rattle.wait_law.specs.Below.join_home.Tasks.{Task, TaskState, kept}
+use Rattle.wait_law.specs.Below.thread_state.View.{ThreadState}
+use Rattle.wait_law.specs.Below.thread_state.declared.value.Value.{Value}
+use Rattle.wait_law.specs.Below.thread_state.declared.value.Value.TheVariants as value
+use Rattle.wait_law.specs.Below.server_msgs.declared.message.Message.{Message}
+use Rattle.wait_law.specs.Below.server_msgs.declared.message.Message.TheVariants as message
+use Rattle.wait_law.specs.Below.server_model.Servers.{Sent, Rest, Server}
+use Rattle.wait_law.specs.Below.heap_law.Names.{tot, if_so, one, same_mutex}
+use Rattle.wait_law.specs.Below.heap_law.Things.{at_slot, Thing, holds, locks, retired, uses, stands, noted, things_at, is_free, cell_things, free_things, partition_things, copy_things, content_things, queue_things, mutex_things, result_things, task_things, gift_things, walk_things, pin_things, slot_things, temp_things, thread_things, standing_things, message_things, waiting_things, leaving_things, server_things}
+use Rattle.wait_law.specs.Below.heap_law.Sharing.{spot_mutex}
+use Rattle.wait_law.specs.Below.heap_law.Weights.{is_home_of}
+use Rattle.wait_law.proofs.Below.heap_law.Sums.{tot-append, server_parts}
+use Rattle.wait_law.proofs.Below.event_law.Bags.{all_standing, rest_things, server_same}
+use Rattle.wait_law.proofs.Below.event_law.Unseen.{Unseen, none_at, thread_alone, content_none, result_none, partition_none, copies_none}
 
 -- LISTS
 

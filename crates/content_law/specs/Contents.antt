@@ -1,16 +1,16 @@
 -- CONTENTS: each mutex's content stands in exactly one place, its home, a `granted` or `unlock` message, the slot above a lock's mark or the gift of a thread at a
 -- lock (this project's rule). An event leaves it so.
-use Rattle.journal.specs.View.{EntryView}
-use Rattle.server_model.specs.declared.event.Event.{Event}
-use Rattle.server_model.specs.Servers.{Cluster}
-use Rattle.server_model.specs.Clusters.{apply}
-use Rattle.heap_law.specs.Things.{things_of}
-use Rattle.heap_law.specs.Sight.{sight}
-use Rattle.heap_law.specs.Balances.{Agree}
-use Rattle.heap_law.specs.Weights.{is_home_of}
-use Rattle.heap_law.specs.Sharing.{contents}
-use Rattle.event_law.specs.Laws.{Gives, FewEvents}
-use Rattle.type_law.specs.ClusterTypes.{IsCoherent}
+use Rattle.wait_law.specs.Below.journal.View.{EntryView}
+use Rattle.wait_law.specs.Below.server_model.declared.event.Event.{Event}
+use Rattle.wait_law.specs.Below.server_model.Servers.{Cluster}
+use Rattle.wait_law.specs.Below.server_model.Clusters.{apply}
+use Rattle.wait_law.specs.Below.heap_law.Things.{things_of}
+use Rattle.wait_law.specs.Below.heap_law.Sight.{sight}
+use Rattle.wait_law.specs.Below.heap_law.Balances.{Agree}
+use Rattle.wait_law.specs.Below.heap_law.Weights.{is_home_of}
+use Rattle.wait_law.specs.Below.heap_law.Sharing.{contents}
+use Rattle.wait_law.specs.Below.event_law.Laws.{Gives, FewEvents}
+use Rattle.wait_law.specs.Below.type_law.ClusterTypes.{IsCoherent}
 
 -- as many places of each mutex's content as homes of it
 abbrev pub OneContent : Cluster → Type 0

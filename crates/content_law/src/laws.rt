@@ -1,8 +1,8 @@
 //! What each event keeps of the contents of mutexes.
 
 ghost use Rattle.content_law.specs.Contents.{EachEventLeavesOneContent};
-ghost use Rattle.heap_law.specs.Coherent.{one_content};
-ghost use Rattle.local_law.specs.Laws.{EachCoherentEventKeeps};
+ghost use Rattle.wait_law.specs.Below.heap_law.Coherent.{one_content};
+ghost use Rattle.wait_law.specs.Below.local_law.Laws.{EachCoherentEventKeeps};
 
 /// The content of each mutex stands in exactly one place after each event of a coherent cluster: a lock that takes it puts the mark of the mutex at its place below its slot,
 /// an unlock sends it home, a grant brings it where that mutex is asked for, and it goes with its home alone. The gift of a thread at a lock stays the content of the same

@@ -1,32 +1,32 @@
 -- The live object that has a word and isn't changed through a reference: it is the same one where cells, words and changed references are the same.
 use Rattle.std.proofs.Common.{◌≡◌, inl, inr, ℕ, ◌≤◌, ◌&&◌, ◌||◌, not, Bool, true, false, if◌then◌else◌, List, [], ◌∷◌, Option, Some, None, refl, sym, ap, subst, ◌∙◌, arith}
 use Rattle.std.proofs.lemmas.Bool.{eqb-true, eq-eqb}
-use Rattle.fr_base.specs.declared.name.ObjNo.{ObjNo}
-use Rattle.fr_base.specs.declared.instruction.Instr.{Instr}
-use Rattle.heap_partition.specs.declared.value.Cell.{Cell}
-use Rattle.mut_borrow.specs.declared.mutable.MutRef.{MutRef}
-use Rattle.server_model.specs.Servers.{Cluster}
-use Rattle.heap_law.specs.Names.{tot, one, same_object, Among}
-use Rattle.heap_law.specs.Things.{Location, Thing, borrows, lies, flies, things_of}
-use Rattle.heap_law.specs.Follow.{cells_in, value_in}
-use Rattle.heap_law.specs.Stale.{Reference, references, is_among, holder_of}
-use Rattle.heap_law.specs.Sight.{Pointer, pointers_in, taken_pointers, word_of_object, is_word, cell_of_word, dirty_objects, if_dirty, is_object_among, sight, word}
-use Rattle.heap_law.specs.Words.{IsStale, Fresh, HasWords}
-use Rattle.heap_law.specs.Weights.{cells}
-use Rattle.heap_law.specs.Placing.{is_word_of, shared_words, same_words, unless_dirty, if_clean, clean_cell}
-use Rattle.heap_law.specs.Coherent.{IsSound}
-use Rattle.heap_law.proofs.Words.{none_at, named, itself, words_law, told as told_stale, not_told}
-use Rattle.path_law.proofs.Sole.{some_is}
-use Rattle.path_law.proofs.Origins.{among_first}
-use Rattle.path_law.proofs.InState.{only_one}
-use Rattle.path_law.proofs.Contained.{reference_there}
-use Rattle.word_law.specs.Reworded.{HasPlaces}
-use Rattle.word_law.specs.Unmoved.{seen_at, Taking, takings, WordsStay, LeavesWords}
-use Rattle.word_law.proofs.Standing.{CellOf, lying, flying, borrow_stands, pointers_among}
-use Rattle.word_law.proofs.Grounds.{of_borrows}
-use Rattle.word_law.proofs.Unmoved.{reference, stale_at}
-use Rattle.stay_law.proofs.Alike.{Within}
-use Rattle.stay_law.proofs.Seen.{seen_alike}
+use Rattle.value_law.specs.Below.fr_base.declared.name.ObjNo.{ObjNo}
+use Rattle.value_law.specs.Below.fr_base.declared.instruction.Instr.{Instr}
+use Rattle.value_law.specs.Below.heap_partition.declared.value.Cell.{Cell}
+use Rattle.value_law.specs.Below.mut_borrow.declared.mutable.MutRef.{MutRef}
+use Rattle.value_law.specs.Below.server_model.Servers.{Cluster}
+use Rattle.value_law.specs.Below.heap_law.Names.{tot, one, same_object, Among}
+use Rattle.value_law.specs.Below.heap_law.Things.{Location, Thing, borrows, lies, flies, things_of}
+use Rattle.value_law.specs.Below.heap_law.Follow.{cells_in, value_in}
+use Rattle.value_law.specs.Below.heap_law.Stale.{Reference, references, is_among, holder_of}
+use Rattle.value_law.specs.Below.heap_law.Sight.{Pointer, pointers_in, taken_pointers, word_of_object, is_word, cell_of_word, dirty_objects, if_dirty, is_object_among, sight, word}
+use Rattle.value_law.specs.Below.heap_law.Words.{IsStale, Fresh, HasWords}
+use Rattle.value_law.specs.Below.heap_law.Weights.{cells}
+use Rattle.value_law.specs.Below.heap_law.Placing.{is_word_of, shared_words, same_words, unless_dirty, if_clean, clean_cell}
+use Rattle.value_law.specs.Below.heap_law.Coherent.{IsSound}
+use Rattle.value_law.proofs.Below.heap_law.Words.{none_at, named, itself, words_law, told as told_stale, not_told}
+use Rattle.value_law.proofs.Below.path_law.Sole.{some_is}
+use Rattle.value_law.proofs.Below.path_law.Origins.{among_first}
+use Rattle.value_law.proofs.Below.path_law.InState.{only_one}
+use Rattle.value_law.proofs.Below.path_law.Contained.{reference_there}
+use Rattle.carry_law.specs.Below.word_law.Reworded.{HasPlaces}
+use Rattle.carry_law.specs.Below.word_law.Unmoved.{seen_at, Taking, takings, WordsStay, LeavesWords}
+use Rattle.carry_law.proofs.Below.word_law.Standing.{CellOf, lying, flying, borrow_stands, pointers_among}
+use Rattle.carry_law.proofs.Below.word_law.Grounds.{of_borrows}
+use Rattle.carry_law.proofs.Below.word_law.Unmoved.{reference, stale_at}
+use Rattle.carry_law.proofs.Below.stay_law.Alike.{Within}
+use Rattle.carry_law.proofs.Below.stay_law.Seen.{seen_alike}
 use Rattle.carry_law.proofs.Carrying.{fresh_on, fresh_back}
 use Rattle.carry_law.proofs.Hands.{GoesOver, words_go}
 

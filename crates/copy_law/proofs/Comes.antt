@@ -1,26 +1,26 @@
 -- Where copies come from: each one was there, or is served where one was asked for.
 use Rattle.std.proofs.Common.{◌≡◌, ℕ, ◌≤◌, List, Some, refl, arith}
 use Rattle.std.specs.Prelude.{slice_get}
-use Rattle.fr_base.specs.declared.name.ObjNo.{ObjNo}
-use Rattle.fr_base.specs.declared.instruction.Instr.{Instr}
-use Rattle.heap_partition.specs.declared.value.BoxPtr.{BoxPtr}
-use Rattle.heap_partition.specs.declared.value.Cell.{Cell}
-use Rattle.thread_state.specs.View.{ThreadState}
-use Rattle.journal.specs.View.{EntryView}
-use Rattle.server_msgs.specs.declared.message.Message.TheVariants.{Fetch}
-use Rattle.server_model.specs.declared.event.Event.{Event}
-use Rattle.server_model.specs.declared.event.What.TheVariants.{Step}
-use Rattle.server_model.specs.Servers.{Server, Cluster, server_at}
-use Rattle.server_model.specs.Work.{thread_in, look_object}
-use Rattle.server_model.specs.Prepare.{access_of}
-use Rattle.server_model.specs.Clusters.{apply}
-use Rattle.heap_law.specs.Names.{tot}
-use Rattle.heap_law.specs.Things.{Thing, things_of}
-use Rattle.heap_law.specs.Coherent.{IsSound}
-use Rattle.event_law.specs.Laws.{Gives, FewEvents}
-use Rattle.event_law.proofs.Results.{weaker}
-use Rattle.event_law.proofs.Boxes.{tot_le}
-use Rattle.local_law.proofs.Small.{Follows}
+use Rattle.value_law.specs.Below.fr_base.declared.name.ObjNo.{ObjNo}
+use Rattle.value_law.specs.Below.fr_base.declared.instruction.Instr.{Instr}
+use Rattle.value_law.specs.Below.heap_partition.declared.value.BoxPtr.{BoxPtr}
+use Rattle.value_law.specs.Below.heap_partition.declared.value.Cell.{Cell}
+use Rattle.value_law.specs.Below.thread_state.View.{ThreadState}
+use Rattle.value_law.specs.Below.journal.View.{EntryView}
+use Rattle.value_law.specs.Below.server_msgs.declared.message.Message.TheVariants.{Fetch}
+use Rattle.value_law.specs.Below.server_model.declared.event.Event.{Event}
+use Rattle.value_law.specs.Below.server_model.declared.event.What.TheVariants.{Step}
+use Rattle.value_law.specs.Below.server_model.Servers.{Server, Cluster, server_at}
+use Rattle.value_law.specs.Below.server_model.Work.{thread_in, look_object}
+use Rattle.value_law.specs.Below.server_model.Prepare.{access_of}
+use Rattle.value_law.specs.Below.server_model.Clusters.{apply}
+use Rattle.value_law.specs.Below.heap_law.Names.{tot}
+use Rattle.value_law.specs.Below.heap_law.Things.{Thing, things_of}
+use Rattle.value_law.specs.Below.heap_law.Coherent.{IsSound}
+use Rattle.value_law.specs.Below.event_law.Laws.{Gives, FewEvents}
+use Rattle.value_law.proofs.Below.event_law.Results.{weaker}
+use Rattle.value_law.proofs.Below.event_law.Boxes.{tot_le}
+use Rattle.value_law.proofs.Below.local_law.Small.{Follows}
 use Rattle.value_law.proofs.Named.{Also, names}
 use Rattle.value_law.proofs.Sums.{copy_of, stray}
 use Rattle.value_law.proofs.Kept.{GoneOn, ends_as, gone_on}

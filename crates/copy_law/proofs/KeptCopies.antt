@@ -1,39 +1,39 @@
 -- Each kind of event that is proved to leave copies right.
 use Rattle.std.proofs.Common.{◌⊎◌, inl, ⊎_elim, ◌≤◌, false, None, ◌≡◌, ℕ, zero, suc, ◌-◌, ◌+◌, List, [], ◌∷◌, Some, is_some, refl, sym, ap, subst, ◌∙◌, arith}
 use Rattle.std.specs.Prelude.{⊤, length, slice_get, option_map}
-use Rattle.fr_base.specs.declared.place.Lval.{Lval}
-use Rattle.fr_base.specs.declared.instruction.Instr.{Instr}
-use Rattle.fr_base.specs.declared.instruction.Instr.TheVariants as instr
-use Rattle.heap_partition.specs.declared.value.Cell.{Cell}
-use Rattle.journal.specs.View.{EntryView}
-use Rattle.thread_state.specs.View.{ThreadState}
-use Rattle.thread_state.specs.declared.value.Value.{Value}
-use Rattle.thread_state.specs.declared.value.Value.TheVariants as value
-use Rattle.server_msgs.specs.declared.message.Message.{Message}
-use Rattle.server_msgs.specs.declared.message.Message.TheVariants as message
-use Rattle.server_model.specs.declared.event.Event.{Event}
-use Rattle.server_model.specs.declared.event.What.TheVariants.{Step}
-use Rattle.server_model.specs.Servers.{Server, Cluster, server_at}
-use Rattle.server_model.specs.Work.{thread_in, then_some}
-use Rattle.server_model.specs.Places.{Spot, in_slot as spot_slot, on_top}
-use Rattle.server_model.specs.Prepare.{ending, assigned, access_of}
-use Rattle.server_model.specs.Clusters.{apply}
-use Rattle.heap_law.specs.Names.{tot, other}
-use Rattle.heap_law.specs.Things.{Thing, copied, sent, things_of}
-use Rattle.heap_law.specs.Sight.{sight, issued}
-use Rattle.heap_law.specs.Placing.{words, clean_cell, other_cell, other_copy, unclean, unclean_request}
-use Rattle.heap_law.specs.Coherent.{IsSound, Holds, copies_agree, served_are_clean}
-use Rattle.path_law.proofs.Sole.{some_is}
-use Rattle.word_law.specs.Reworded.{HasPlaces}
-use Rattle.event_law.specs.Kinds.{Kind, instr_kind, kind_of, kind_at}
-use Rattle.event_law.specs.Laws.{Gives, FewEvents}
-use Rattle.event_law.proofs.Results.{both_give, weaker}
-use Rattle.event_law.proofs.Sending.{applied_part}
-use Rattle.event_law.proofs.MutexResults.{has}
-use Rattle.heap_law.proofs.Words.{none_at, none_all}
-use Rattle.stay_law.specs.Laws.{IsOfKind}
-use Rattle.stay_law.proofs.StayKinds.{Stays, Seen, kind_seen}
-use Rattle.local_law.proofs.Small.{Follows}
+use Rattle.value_law.specs.Below.fr_base.declared.place.Lval.{Lval}
+use Rattle.value_law.specs.Below.fr_base.declared.instruction.Instr.{Instr}
+use Rattle.value_law.specs.Below.fr_base.declared.instruction.Instr.TheVariants as instr
+use Rattle.value_law.specs.Below.heap_partition.declared.value.Cell.{Cell}
+use Rattle.value_law.specs.Below.journal.View.{EntryView}
+use Rattle.value_law.specs.Below.thread_state.View.{ThreadState}
+use Rattle.value_law.specs.Below.thread_state.declared.value.Value.{Value}
+use Rattle.value_law.specs.Below.thread_state.declared.value.Value.TheVariants as value
+use Rattle.value_law.specs.Below.server_msgs.declared.message.Message.{Message}
+use Rattle.value_law.specs.Below.server_msgs.declared.message.Message.TheVariants as message
+use Rattle.value_law.specs.Below.server_model.declared.event.Event.{Event}
+use Rattle.value_law.specs.Below.server_model.declared.event.What.TheVariants.{Step}
+use Rattle.value_law.specs.Below.server_model.Servers.{Server, Cluster, server_at}
+use Rattle.value_law.specs.Below.server_model.Work.{thread_in, then_some}
+use Rattle.value_law.specs.Below.server_model.Places.{Spot, in_slot as spot_slot, on_top}
+use Rattle.value_law.specs.Below.server_model.Prepare.{ending, assigned, access_of}
+use Rattle.value_law.specs.Below.server_model.Clusters.{apply}
+use Rattle.value_law.specs.Below.heap_law.Names.{tot, other}
+use Rattle.value_law.specs.Below.heap_law.Things.{Thing, copied, sent, things_of}
+use Rattle.value_law.specs.Below.heap_law.Sight.{sight, issued}
+use Rattle.value_law.specs.Below.heap_law.Placing.{words, clean_cell, other_cell, other_copy, unclean, unclean_request}
+use Rattle.value_law.specs.Below.heap_law.Coherent.{IsSound, Holds, copies_agree, served_are_clean}
+use Rattle.value_law.proofs.Below.path_law.Sole.{some_is}
+use Rattle.carry_law.specs.Below.word_law.Reworded.{HasPlaces}
+use Rattle.value_law.specs.Below.event_law.Kinds.{Kind, instr_kind, kind_of, kind_at}
+use Rattle.value_law.specs.Below.event_law.Laws.{Gives, FewEvents}
+use Rattle.value_law.proofs.Below.event_law.Results.{both_give, weaker}
+use Rattle.value_law.proofs.Below.event_law.Sending.{applied_part}
+use Rattle.value_law.proofs.Below.event_law.MutexResults.{has}
+use Rattle.value_law.proofs.Below.heap_law.Words.{none_at, none_all}
+use Rattle.carry_law.specs.Below.stay_law.Laws.{IsOfKind}
+use Rattle.carry_law.proofs.Below.stay_law.StayKinds.{Stays, Seen, kind_seen}
+use Rattle.value_law.proofs.Below.local_law.Small.{Follows}
 use Rattle.carry_law.specs.Steps.{CarriesOne, a_let, a_mutex, a_join, an_end, IsNoReference, GivesOwned, drops as owned_drops, drops_none as none_drops, puts_back as owned_back, IsOwnedOrGone, owns, gone}
 use Rattle.carry_law.proofs.Events.{steps_go, discards_go}
 use Rattle.carry_law.proofs.Gives.{owned_go}

@@ -1,3 +1,4 @@
+pub mod Below
 pub mod Comes
 pub mod Clean
 pub mod Served

@@ -3,34 +3,34 @@ use Rattle.std.proofs.Common.{◌≡◌, inl, inr, ℕ, ◌+◌, ◌==◌, ◌&&
 use Rattle.std.specs.Prelude.{slice_get}
 use Rattle.std.proofs.lemmas.Bool.{eq-eqb}
 use Rattle.std.proofs.lemmas.Bool.Decides.{Decides-int_eq}
-use Rattle.fr_typing.proofs.PlaceLemmas.{eq_cases}
-use Rattle.fr_base.specs.declared.name.ObjNo.{ObjNo}
-use Rattle.global_addr.specs.Words.{address_of}
-use Rattle.heap_partition.specs.Same.{same_owned, same_cell}
-use Rattle.heap_partition.specs.declared.value.Cell.{Cell}
-use Rattle.heap_partition.specs.declared.value.Owned.{Owned}
-use Rattle.heap_partition.specs.declared.value.Owned.TheVariants as owned
-use Rattle.server_msgs.specs.declared.message.Message.TheVariants.{Fetch}
-use Rattle.server_model.specs.Servers.{Server, Cluster, server_at}
-use Rattle.server_model.specs.Work.{look, look_object, then_some}
-use Rattle.heap_law.specs.Names.{tot, some, other, same_object, Among}
-use Rattle.heap_law.specs.Things.{Thing, lies, sent, things_at, cell_things, free_things, copy_things, mutex_things, task_things, standing_things, waiting_things, leaving_things, server_things, servers_things, things_of}
-use Rattle.heap_law.specs.Follow.{cells_in}
-use Rattle.heap_law.specs.Sight.{is_word, cell_of_word, is_object_among, sight, word}
-use Rattle.heap_law.specs.Placing.{sum_over, unless_dirty, if_clean, clean_cell, other_cell}
-use Rattle.heap_law.specs.Requests.{not_there}
-use Rattle.heap_law.specs.Weights.{lies_under}
-use Rattle.heap_law.specs.Coherent.{IsSound}
-use Rattle.heap_law.proofs.Names.{and_left}
-use Rattle.heap_law.proofs.Words.{named, itself}
-use Rattle.path_law.proofs.Sole.{some_is}
-use Rattle.path_law.proofs.Origins.{among_first, among_second}
-use Rattle.path_law.proofs.Contained.{listed_in}
-use Rattle.word_law.proofs.Standing.{lying}
-use Rattle.event_law.proofs.Askers.{other_none}
-use Rattle.event_law.proofs.Bags.{counts_of}
-use Rattle.event_law.proofs.Cells.{looked}
-use Rattle.event_law.proofs.MutexResults.{has, mutex_self}
+use Rattle.value_law.proofs.Below.fr_typing.PlaceLemmas.{eq_cases}
+use Rattle.value_law.specs.Below.fr_base.declared.name.ObjNo.{ObjNo}
+use Rattle.value_law.specs.Below.global_addr.Words.{address_of}
+use Rattle.value_law.specs.Below.heap_partition.Same.{same_owned, same_cell}
+use Rattle.value_law.specs.Below.heap_partition.declared.value.Cell.{Cell}
+use Rattle.value_law.specs.Below.heap_partition.declared.value.Owned.{Owned}
+use Rattle.value_law.specs.Below.heap_partition.declared.value.Owned.TheVariants as owned
+use Rattle.value_law.specs.Below.server_msgs.declared.message.Message.TheVariants.{Fetch}
+use Rattle.value_law.specs.Below.server_model.Servers.{Server, Cluster, server_at}
+use Rattle.value_law.specs.Below.server_model.Work.{look, look_object, then_some}
+use Rattle.value_law.specs.Below.heap_law.Names.{tot, some, other, same_object, Among}
+use Rattle.value_law.specs.Below.heap_law.Things.{Thing, lies, sent, things_at, cell_things, free_things, copy_things, mutex_things, task_things, standing_things, waiting_things, leaving_things, server_things, servers_things, things_of}
+use Rattle.value_law.specs.Below.heap_law.Follow.{cells_in}
+use Rattle.value_law.specs.Below.heap_law.Sight.{is_word, cell_of_word, is_object_among, sight, word}
+use Rattle.value_law.specs.Below.heap_law.Placing.{sum_over, unless_dirty, if_clean, clean_cell, other_cell}
+use Rattle.value_law.specs.Below.heap_law.Requests.{not_there}
+use Rattle.value_law.specs.Below.heap_law.Weights.{lies_under}
+use Rattle.value_law.specs.Below.heap_law.Coherent.{IsSound}
+use Rattle.value_law.proofs.Below.heap_law.Names.{and_left}
+use Rattle.value_law.proofs.Below.heap_law.Words.{named, itself}
+use Rattle.value_law.proofs.Below.path_law.Sole.{some_is}
+use Rattle.value_law.proofs.Below.path_law.Origins.{among_first, among_second}
+use Rattle.value_law.proofs.Below.path_law.Contained.{listed_in}
+use Rattle.carry_law.proofs.Below.word_law.Standing.{lying}
+use Rattle.value_law.proofs.Below.event_law.Askers.{other_none}
+use Rattle.value_law.proofs.Below.event_law.Bags.{counts_of}
+use Rattle.value_law.proofs.Below.event_law.Cells.{looked}
+use Rattle.value_law.proofs.Below.event_law.MutexResults.{has, mutex_self}
 use Rattle.copy_law.proofs.Clean.{thing_cell, one_of_word, found_by}
 use Rattle.copy_law.proofs.Comes.{ServedWeighNothing}
 

@@ -1,26 +1,26 @@
 -- COPIES (DRust's read caches; this project's rules): where they come from, and that they stay what they are.
 use Rattle.std.specs.Prelude.{◌≡◌, ◌⊎◌, ℕ, false, Some, None, slice_get}
-use Rattle.fr_base.specs.declared.place.Lval.{Lval}
-use Rattle.fr_base.specs.declared.instruction.Operand.{Operand}
-use Rattle.fr_base.specs.declared.instruction.Instr.{Instr}
-use Rattle.fr_base.specs.declared.instruction.Instr.TheVariants as instr
-use Rattle.heap_partition.specs.declared.value.Owned.{Owned}
-use Rattle.thread_state.specs.View.{ThreadState}
-use Rattle.thread_state.specs.declared.value.Value.{Value}
-use Rattle.thread_state.specs.declared.value.Value.TheVariants as value
-use Rattle.journal.specs.View.{EntryView}
-use Rattle.server_model.specs.declared.event.Event.{Event}
-use Rattle.server_model.specs.declared.event.What.TheVariants.{Step}
-use Rattle.server_model.specs.Servers.{Server, Cluster, server_at}
-use Rattle.server_model.specs.Work.{thread_in, last_of}
-use Rattle.server_model.specs.Clusters.{apply}
-use Rattle.heap_law.specs.Sight.{sight, issued}
-use Rattle.heap_law.specs.Placing.{clean_cell}
-use Rattle.heap_law.specs.Coherent.{Holds, IsSound, copies_agree, served_are_clean}
-use Rattle.type_law.specs.ClusterTypes.{IsCoherent}
-use Rattle.event_law.specs.Kinds.{Kind}
-use Rattle.event_law.specs.Laws.{Gives, FewEvents}
-use Rattle.stay_law.specs.Laws.{IsOfKind}
+use Rattle.value_law.specs.Below.fr_base.declared.place.Lval.{Lval}
+use Rattle.value_law.specs.Below.fr_base.declared.instruction.Operand.{Operand}
+use Rattle.value_law.specs.Below.fr_base.declared.instruction.Instr.{Instr}
+use Rattle.value_law.specs.Below.fr_base.declared.instruction.Instr.TheVariants as instr
+use Rattle.value_law.specs.Below.heap_partition.declared.value.Owned.{Owned}
+use Rattle.value_law.specs.Below.thread_state.View.{ThreadState}
+use Rattle.value_law.specs.Below.thread_state.declared.value.Value.{Value}
+use Rattle.value_law.specs.Below.thread_state.declared.value.Value.TheVariants as value
+use Rattle.value_law.specs.Below.journal.View.{EntryView}
+use Rattle.value_law.specs.Below.server_model.declared.event.Event.{Event}
+use Rattle.value_law.specs.Below.server_model.declared.event.What.TheVariants.{Step}
+use Rattle.value_law.specs.Below.server_model.Servers.{Server, Cluster, server_at}
+use Rattle.value_law.specs.Below.server_model.Work.{thread_in, last_of}
+use Rattle.value_law.specs.Below.server_model.Clusters.{apply}
+use Rattle.value_law.specs.Below.heap_law.Sight.{sight, issued}
+use Rattle.value_law.specs.Below.heap_law.Placing.{clean_cell}
+use Rattle.value_law.specs.Below.heap_law.Coherent.{Holds, IsSound, copies_agree, served_are_clean}
+use Rattle.value_law.specs.Below.type_law.ClusterTypes.{IsCoherent}
+use Rattle.value_law.specs.Below.event_law.Kinds.{Kind}
+use Rattle.value_law.specs.Below.event_law.Laws.{Gives, FewEvents}
+use Rattle.carry_law.specs.Below.stay_law.Laws.{IsOfKind}
 use Rattle.carry_law.specs.Steps.{CarriesOne, IsNoReference, IsOwnedOrGone}
 
 -- the live object that has a word, which isn't changed through a reference, is the same one with the same cell, or there is none any more, as the object has another word, is changed through a

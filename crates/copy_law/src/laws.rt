@@ -1,6 +1,6 @@
 //! Laws of copies.
 
-ghost use Rattle.event_law.specs.Kinds.{arrives, asks_dup, asks_join, asks_lock, dupped, evicts, fetch, fetched, finished, granted, joined, migrates, released, starts, step_arith, step_par_end, step_print, unlocked};
+ghost use Rattle.value_law.specs.Below.event_law.Kinds.{arrives, asks_dup, asks_join, asks_lock, dupped, evicts, fetch, fetched, finished, granted, joined, migrates, released, starts, step_arith, step_par_end, step_print, unlocked};
 ghost use Rattle.copy_law.specs.Copies.{AssignsKeepCopies, CopiesComeFromCopies, DiscardsKeepCopies, DropsKeepCopies, KeepCopies, StepsKeepCopies};
 
 /// Whatever an event of a sound cluster does, each copy that is there once its messages are handed over, cached or on its way, was there before under the same word, or is the

@@ -1,41 +1,41 @@
 -- An assignment through stars that is done: the object of its cell is covered, and all others are what they were, or covered.
 use Rattle.std.proofs.Common.{◌≡◌, ℕ, suc, nat_lt, Bool, true, false, if◌then◌else◌, List, length, Option, Some, None, option_map, refl, sym, ap, subst, ◌∙◌}
 use Rattle.std.specs.Prelude.{slice_get, slice_set}
-use Rattle.fr_base.specs.declared.place.Lval.{Lval}
-use Rattle.fr_base.specs.declared.instruction.Operand.{Operand as Item}
-use Rattle.fr_base.specs.declared.instruction.Operand.TheVariants as operand
-use Rattle.fr_base.specs.declared.instruction.Instr.{Instr}
-use Rattle.fr_base.specs.declared.instruction.Instr.TheVariants as instr
-use Rattle.heap_partition.specs.declared.value.Cell.{Cell}
-use Rattle.heap_partition.specs.declared.value.Owned.{Owned}
-use Rattle.heap_partition.specs.declared.value.Owned.TheVariants as owned
-use Rattle.owner_box.specs.Partition.{stored}
-use Rattle.thread_state.specs.View.{ThreadState}
-use Rattle.thread_state.specs.declared.value.Value.{Value}
-use Rattle.thread_state.specs.declared.value.Value.TheVariants as value
-use Rattle.server_model.specs.declared.event.What.TheVariants.{Step}
-use Rattle.server_model.specs.Servers.{Server, Cluster, server_at}
-use Rattle.server_model.specs.Work.{Hand, Popped, Work, label_all, owned_of, pop_owned, taken_as, thread_in, with_partition, with_slots, with_temps, working, last_of, front_of, then_some}
-use Rattle.server_model.specs.Places.{Spot, in_slot, in_cell, nowhere as no_spot, cell_at, value_in as cell_value, value_at, note_write}
-use Rattle.server_model.specs.Drop.{give_up, drop_value}
-use Rattle.server_model.specs.Commit.{label_dropped, store_labels, store_at, replace_at, assign}
-use Rattle.server_model.specs.Events.{enabled, begin_work}
-use Rattle.heap_law.specs.Things.{Location, at_slot, in_cell as in_object}
-use Rattle.type_law.specs.ClusterTypes.{IsCoherent}
-use Rattle.path_law.proofs.Sole.{some_is}
-use Rattle.event_law.specs.Laws.{Gives, FewEvents}
-use Rattle.stay_law.proofs.Steps.{TakesNoneHere}
-use Rattle.prepare_law.proofs.Hands.{put}
-use Rattle.carry_law.proofs.Hands.{Together, each_together, together_chain, puts_alike}
-use Rattle.carry_law.proofs.Places.{set_twice}
-use Rattle.write_law.proofs.Memory.{Leads, looks, leads_on}
-use Rattle.write_law.proofs.Route.{Writing, At, a_slot, a_cell}
-use Rattle.write_law.proofs.Writes.{Light, owned_value, nothing_left}
-use Rattle.rewrite_law.specs.Writing.{assigns}
-use Rattle.rewrite_law.proofs.Passing.{State, Fits}
-use Rattle.rewrite_law.proofs.Hops.{Walk}
-use Rattle.rewrite_law.proofs.Ways.{cell_there, place}
-use Rattle.rewrite_law.proofs.Asking.{steps}
+use Rattle.wait_law.specs.Below.fr_base.declared.place.Lval.{Lval}
+use Rattle.wait_law.specs.Below.fr_base.declared.instruction.Operand.{Operand as Item}
+use Rattle.wait_law.specs.Below.fr_base.declared.instruction.Operand.TheVariants as operand
+use Rattle.wait_law.specs.Below.fr_base.declared.instruction.Instr.{Instr}
+use Rattle.wait_law.specs.Below.fr_base.declared.instruction.Instr.TheVariants as instr
+use Rattle.wait_law.specs.Below.heap_partition.declared.value.Cell.{Cell}
+use Rattle.wait_law.specs.Below.heap_partition.declared.value.Owned.{Owned}
+use Rattle.wait_law.specs.Below.heap_partition.declared.value.Owned.TheVariants as owned
+use Rattle.wait_law.specs.Below.owner_box.Partition.{stored}
+use Rattle.wait_law.specs.Below.thread_state.View.{ThreadState}
+use Rattle.wait_law.specs.Below.thread_state.declared.value.Value.{Value}
+use Rattle.wait_law.specs.Below.thread_state.declared.value.Value.TheVariants as value
+use Rattle.wait_law.specs.Below.server_model.declared.event.What.TheVariants.{Step}
+use Rattle.wait_law.specs.Below.server_model.Servers.{Server, Cluster, server_at}
+use Rattle.wait_law.specs.Below.server_model.Work.{Hand, Popped, Work, label_all, owned_of, pop_owned, taken_as, thread_in, with_partition, with_slots, with_temps, working, last_of, front_of, then_some}
+use Rattle.wait_law.specs.Below.server_model.Places.{Spot, in_slot, in_cell, nowhere as no_spot, cell_at, value_in as cell_value, value_at, note_write}
+use Rattle.wait_law.specs.Below.server_model.Drop.{give_up, drop_value}
+use Rattle.wait_law.specs.Below.server_model.Commit.{label_dropped, store_labels, store_at, replace_at, assign}
+use Rattle.wait_law.specs.Below.server_model.Events.{enabled, begin_work}
+use Rattle.wait_law.specs.Below.heap_law.Things.{Location, at_slot, in_cell as in_object}
+use Rattle.wait_law.specs.Below.type_law.ClusterTypes.{IsCoherent}
+use Rattle.wait_law.proofs.Below.path_law.Sole.{some_is}
+use Rattle.wait_law.specs.Below.event_law.Laws.{Gives, FewEvents}
+use Rattle.through_law.proofs.Below.stay_law.Steps.{TakesNoneHere}
+use Rattle.through_law.proofs.Below.prepare_law.Hands.{put}
+use Rattle.through_law.proofs.Below.carry_law.Hands.{Together, each_together, together_chain, puts_alike}
+use Rattle.through_law.proofs.Below.carry_law.Places.{set_twice}
+use Rattle.through_law.proofs.Below.write_law.Memory.{Leads, looks, leads_on}
+use Rattle.through_law.proofs.Below.write_law.Route.{Writing, At, a_slot, a_cell}
+use Rattle.through_law.proofs.Below.write_law.Writes.{Light, owned_value, nothing_left}
+use Rattle.through_law.specs.Below.rewrite_law.Writing.{assigns}
+use Rattle.through_law.proofs.Below.rewrite_law.Passing.{State, Fits}
+use Rattle.through_law.proofs.Below.rewrite_law.Hops.{Walk}
+use Rattle.through_law.proofs.Below.rewrite_law.Ways.{cell_there, place}
+use Rattle.through_law.proofs.Below.rewrite_law.Asking.{steps}
 use Rattle.through_law.proofs.Doing.{free_at_start, untaken_at_start}
 use Rattle.through_law.proofs.EndTypes.{end_alone, end_apart}
 use Rattle.through_law.proofs.Light.{light_end}
@@ -43,8 +43,8 @@ use Rattle.through_law.proofs.Marking.{noted_work, noted_thread, noted_same, tog
 use Rattle.through_law.proofs.Storing.{Tip}
 use Rattle.through_law.proofs.Putting.{Operand, on_top, plain, give_same, stored_hand, stored_ok, stored_so}
 use Rattle.through_law.proofs.Filling.{filled_ok, filled_so, without_slot, without_ok, without_so, rooted_without}
-use Rattle.prepare_law.proofs.Hands.{places}
-use Rattle.copy_law.proofs.Clean.{Leaves, all_goes}
+use Rattle.through_law.proofs.Below.prepare_law.Hands.{places}
+use Rattle.hidden_law.proofs.Below.copy_law.Clean.{Leaves, all_goes}
 use Rattle.hidden_law.proofs.Settled.{settled_on}
 use Rattle.cover_law.proofs.Hops.{Now, Fair}
 use Rattle.cover_law.proofs.Settling.{Settles}
@@ -104,10 +104,10 @@ module _ (k : Cluster) (coherent : IsCoherent k) (few : FewEvents k) (s : Server
   abbrev h0 : Hand
   h0 = record { work = begin_work s.rest; thread = y }
 
-  abbrev z : Rattle.result_law.proofs.Known.Steps k n t s y i
+  abbrev z : Rattle.wait_law.proofs.Below.result_law.Known.Steps k n t s y i
   z = steps k coherent few s here t y at on i code w d (assigns o depth)
 
-  abbrev Cells : Rattle.fr_base.specs.declared.name.ObjNo.ObjNo → Option Cell
+  abbrev Cells : Rattle.wait_law.specs.Below.fr_base.declared.name.ObjNo.ObjNo → Option Cell
   Cells = cell_there k n t s y i z w d (assigns o depth)
 
   abbrev leads : ℕ → Option Location
@@ -196,8 +196,8 @@ module _ (k : Cluster) (coherent : IsCoherent k) (few : FewEvents k) (s : Server
       named : h.thread.number ≡ y.number
       named = ap (λ (x : ThreadState). x.number) way.thread
 
-      alone : Rattle.carry_law.proofs.Owned.OwnsAlone k (at_slot h.thread.number m)
-      alone = subst (λ a. Rattle.carry_law.proofs.Owned.OwnsAlone k (at_slot a m)) (sym named) (end_alone k n t s y i z w d (assigns o depth) (at_slot y.number m) ends)
+      alone : Rattle.through_law.proofs.Below.carry_law.Owned.OwnsAlone k (at_slot h.thread.number m)
+      alone = subst (λ a. Rattle.through_law.proofs.Below.carry_law.Owned.OwnsAlone k (at_slot a m)) (sym named) (end_alone k n t s y i z w d (assigns o depth) (at_slot y.number m) ends)
 
       module _ (u v : Owned) (ts : List Value) (stood : slice_get h.thread.slots m ≡ Some (value.Own u)) (op : Operand h.thread v ts) where
         abbrev put_there : Hand
@@ -210,12 +210,12 @@ module _ (k : Cluster) (coherent : IsCoherent k) (few : FewEvents k) (s : Server
         ok2 = without_ok k coherent s here t y at h st_here free m u stood alone
 
         gone : slice_get h2.thread.slots m ≡ Some value.Gone
-        gone = Rattle.word_law.proofs.Slots.set_same h.thread.slots m (value.Own u) value.Gone stood
+        gone = Rattle.through_law.proofs.Below.word_law.Slots.set_same h.thread.slots m (value.Own u) value.Gone stood
 
-        firsts : Rattle.heap_law.specs.Coherent.Holds (P h2) Rattle.heap_law.specs.Coherent.first_at_holder
+        firsts : Rattle.wait_law.specs.Below.heap_law.Coherent.Holds (P h2) Rattle.wait_law.specs.Below.heap_law.Coherent.first_at_holder
         firsts = (without_so k coherent s here t y at h st_here free m u stood alone).holders st_here.onward.words.first_at_holder
 
-        root : Rattle.carry_law.proofs.Hands.RootedIn (P h2)
+        root : Rattle.through_law.proofs.Below.carry_law.Hands.RootedIn (P h2)
         root = rooted_without k coherent s here t y at h st_here free m u stood alone
 
         op2 : (rs : List Value) → Operand h.thread v rs → Operand h2.thread v rs
@@ -261,8 +261,8 @@ module _ (k : Cluster) (coherent : IsCoherent k) (few : FewEvents k) (s : Server
         abbrev put_here : Hand
         put_here = with_slots (slice_set h.thread.slots m (value.Own v)) (working (label_all (store_labels None v)) (label_dropped value.Gone (with_temps ts h)))
 
-        rooted_here : Rattle.carry_law.proofs.Hands.RootedIn (P h)
-        rooted_here = Rattle.through_law.proofs.EndTypes.rooted_on k (P h) st_here.onward.outlines refl (Rattle.carry_law.proofs.Hands.rooted k coherent.sound)
+        rooted_here : Rattle.through_law.proofs.Below.carry_law.Hands.RootedIn (P h)
+        rooted_here = Rattle.through_law.proofs.EndTypes.rooted_on k (P h) st_here.onward.outlines refl (Rattle.through_law.proofs.Below.carry_law.Hands.rooted k coherent.sound)
 
         abbrev filled_it : Hand
         filled_it = record h { thread = record h.thread { temps = ts; slots = slice_set h.thread.slots m (value.Own v) } }

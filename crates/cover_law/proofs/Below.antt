@@ -1,6 +1,20 @@
 -- What this law stands on, passed on to the laws above it, which need not list that then.
-pub use Rattle.hidden_law.proofs as hidden_law
+pub use Rattle.through_law.proofs.Below.carry_law as carry_law
 pub use Rattle.hidden_law.proofs.Below.clean_law as clean_law
+pub use Rattle.hidden_law.proofs.Below.copy_law as copy_law
+pub use Rattle.through_law.proofs.Below.end_law as end_law
+pub use Rattle.wait_law.proofs.Below.event_law as event_law
 pub use Rattle.hidden_law.proofs.Below.fresh_law as fresh_law
+pub use Rattle.wait_law.proofs.Below.heap_law as heap_law
+pub use Rattle.hidden_law.proofs as hidden_law
+pub use Rattle.wait_law.proofs.Below.local_law as local_law
+pub use Rattle.wait_law.proofs.Below.path_law as path_law
+pub use Rattle.through_law.proofs.Below.prepare_law as prepare_law
+pub use Rattle.through_law.proofs.Below.read_law as read_law
+pub use Rattle.wait_law.proofs.Below.result_law as result_law
+pub use Rattle.through_law.proofs.Below.rewrite_law as rewrite_law
+pub use Rattle.through_law.proofs.Below.stay_law as stay_law
 pub use Rattle.through_law.proofs as through_law
 pub use Rattle.wait_law.proofs as wait_law
+pub use Rattle.through_law.proofs.Below.word_law as word_law
+pub use Rattle.through_law.proofs.Below.write_law as write_law

@@ -1,50 +1,50 @@
 -- A write through stars, from what its plain step does where the place is ready to the copies of the cluster after its event.
 use Rattle.std.proofs.Common.{◌≡◌, ℕ, ◌≤◌, true, false, ◌++◌, Option, Some, None, is_some, refl, sym, ap, subst, ◌∙◌, arith}
 use Rattle.std.specs.Prelude.{slice_get}
-use Rattle.fr_base.specs.declared.place.Lval.{Lval}
-use Rattle.fr_base.specs.declared.name.ObjNo.{ObjNo}
-use Rattle.fr_base.specs.declared.instruction.Instr.{Instr}
-use Rattle.fr_base.specs.declared.instruction.Instr.TheVariants as instr
-use Rattle.fr_code.specs.CodeTypes.{Entry, Table, InstrTypes, i_assign, i_move}
-use Rattle.heap_partition.specs.declared.value.Cell.{Cell}
-use Rattle.thread_state.specs.View.{ThreadState}
-use Rattle.server_model.specs.declared.event.What.TheVariants.{Step}
-use Rattle.server_model.specs.Servers.{Server, Cluster, server_at}
-use Rattle.server_model.specs.Work.{Hand, thread_in, without_thread}
-use Rattle.server_model.specs.Places.{Spot, in_slot}
-use Rattle.server_model.specs.Prepare.{Prepared, assigned, read_or_taken, prepare, write_stars}
-use Rattle.server_model.specs.Commit.{goes_on, commit}
-use Rattle.server_model.specs.Events.{enabled, begin_work, Stepped, committed, prepared, step}
-use Rattle.heap_law.specs.Things.{Location, at_slot, in_cell, servers_things}
-use Rattle.heap_law.specs.Follow.{Standing}
-use Rattle.heap_law.specs.OneHeap.{two_in, pair_of}
-use Rattle.heap_law.specs.Paths.{written_place, path_of, assigning, taking}
-use Rattle.heap_law.specs.Sight.{sight}
-use Rattle.heap_law.specs.Walking.{path}
-use Rattle.type_law.specs.ClusterTypes.{IsCoherent}
-use Rattle.path_law.specs.HeapStore.{HasPaths}
-use Rattle.path_law.proofs.Forms.{running_typed}
-use Rattle.path_law.proofs.Shown.{stands_there}
-use Rattle.event_law.specs.Laws.{Gives, FewEvents}
-use Rattle.event_law.specs.Kinds.{instr_kind}
-use Rattle.event_law.proofs.Proved.{IsProvedKind}
-use Rattle.event_law.proofs.Results.{both_give}
-use Rattle.event_law.proofs.Bags.{all_standing}
-use Rattle.event_law.proofs.Events.{others_of}
-use Rattle.event_law.proofs.RulesKeep.{sums_kept, sums_spend}
-use Rattle.event_law.proofs.Steps.{step_keeps}
-use Rattle.prepare_law.proofs.Hands.{put, places, first_hand}
-use Rattle.prepare_law.proofs.Asking.{found_number}
-use Rattle.result_law.proofs.Known.{Steps, standing, paths, goes, types, entry, typed}
-use Rattle.result_law.proofs.Readers.{to_entry}
+use Rattle.wait_law.specs.Below.fr_base.declared.place.Lval.{Lval}
+use Rattle.wait_law.specs.Below.fr_base.declared.name.ObjNo.{ObjNo}
+use Rattle.wait_law.specs.Below.fr_base.declared.instruction.Instr.{Instr}
+use Rattle.wait_law.specs.Below.fr_base.declared.instruction.Instr.TheVariants as instr
+use Rattle.wait_law.specs.Below.fr_code.CodeTypes.{Entry, Table, InstrTypes, i_assign, i_move}
+use Rattle.wait_law.specs.Below.heap_partition.declared.value.Cell.{Cell}
+use Rattle.wait_law.specs.Below.thread_state.View.{ThreadState}
+use Rattle.wait_law.specs.Below.server_model.declared.event.What.TheVariants.{Step}
+use Rattle.wait_law.specs.Below.server_model.Servers.{Server, Cluster, server_at}
+use Rattle.wait_law.specs.Below.server_model.Work.{Hand, thread_in, without_thread}
+use Rattle.wait_law.specs.Below.server_model.Places.{Spot, in_slot}
+use Rattle.wait_law.specs.Below.server_model.Prepare.{Prepared, assigned, read_or_taken, prepare, write_stars}
+use Rattle.wait_law.specs.Below.server_model.Commit.{goes_on, commit}
+use Rattle.wait_law.specs.Below.server_model.Events.{enabled, begin_work, Stepped, committed, prepared, step}
+use Rattle.wait_law.specs.Below.heap_law.Things.{Location, at_slot, in_cell, servers_things}
+use Rattle.wait_law.specs.Below.heap_law.Follow.{Standing}
+use Rattle.wait_law.specs.Below.heap_law.OneHeap.{two_in, pair_of}
+use Rattle.wait_law.specs.Below.heap_law.Paths.{written_place, path_of, assigning, taking}
+use Rattle.wait_law.specs.Below.heap_law.Sight.{sight}
+use Rattle.wait_law.specs.Below.heap_law.Walking.{path}
+use Rattle.wait_law.specs.Below.type_law.ClusterTypes.{IsCoherent}
+use Rattle.wait_law.specs.Below.path_law.HeapStore.{HasPaths}
+use Rattle.wait_law.proofs.Below.path_law.Forms.{running_typed}
+use Rattle.wait_law.proofs.Below.path_law.Shown.{stands_there}
+use Rattle.wait_law.specs.Below.event_law.Laws.{Gives, FewEvents}
+use Rattle.wait_law.specs.Below.event_law.Kinds.{instr_kind}
+use Rattle.wait_law.proofs.Below.event_law.Proved.{IsProvedKind}
+use Rattle.wait_law.proofs.Below.event_law.Results.{both_give}
+use Rattle.wait_law.proofs.Below.event_law.Bags.{all_standing}
+use Rattle.wait_law.proofs.Below.event_law.Events.{others_of}
+use Rattle.wait_law.proofs.Below.event_law.RulesKeep.{sums_kept, sums_spend}
+use Rattle.wait_law.proofs.Below.event_law.Steps.{step_keeps}
+use Rattle.through_law.proofs.Below.prepare_law.Hands.{put, places, first_hand}
+use Rattle.through_law.proofs.Below.prepare_law.Asking.{found_number}
+use Rattle.wait_law.proofs.Below.result_law.Known.{Steps, standing, paths, goes, types, entry, typed}
+use Rattle.wait_law.proofs.Below.result_law.Readers.{to_entry}
 use Rattle.wait_law.proofs.Written.{InChain, chain_of}
-use Rattle.write_law.proofs.Route.{Writing, At, a_slot, begins}
-use Rattle.rewrite_law.specs.Writing.{WritesThrough, assigns, moves}
-use Rattle.rewrite_law.proofs.Passing.{Fits, first_state}
-use Rattle.rewrite_law.proofs.Later.{later_itself}
-use Rattle.rewrite_law.proofs.Hops.{Walk}
-use Rattle.rewrite_law.proofs.Ways.{may, ends_none, cell_there, place, route, written_there, words_there}
-use Rattle.rewrite_law.proofs.Asking.{steps}
+use Rattle.through_law.proofs.Below.write_law.Route.{Writing, At, a_slot, begins}
+use Rattle.through_law.specs.Below.rewrite_law.Writing.{WritesThrough, assigns, moves}
+use Rattle.through_law.proofs.Below.rewrite_law.Passing.{Fits, first_state}
+use Rattle.through_law.proofs.Below.rewrite_law.Later.{later_itself}
+use Rattle.through_law.proofs.Below.rewrite_law.Hops.{Walk}
+use Rattle.through_law.proofs.Below.rewrite_law.Ways.{may, ends_none, cell_there, place, route, written_there, words_there}
+use Rattle.through_law.proofs.Below.rewrite_law.Asking.{steps}
 use Rattle.through_law.proofs.Doing.{untaken_at_start}
 use Rattle.hidden_law.proofs.Below.clean_law.Asked.{ready_asks}
 use Rattle.hidden_law.specs.Below.fresh_law.Fresh.{LeavesRight}

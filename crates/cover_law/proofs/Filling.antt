@@ -1,46 +1,46 @@
 -- An owned value comes to a slot, or goes from it: cells and changed references stay.
 use Rattle.std.proofs.Common.{◌≡◌, ◌⊎◌, inl, inr, ⊎_elim, ℕ, ◌+◌, true, false, List, [], ◌++◌, length, Some, None, refl, sym, ap, ◌∙◌}
 use Rattle.std.specs.Prelude.{slice_get, slice_set}
-use Rattle.fr_typing.proofs.PlaceLemmas.{eq_cases}
-use Rattle.heap_partition.specs.declared.value.Owned.{Owned}
-use Rattle.heap_partition.specs.declared.value.Owned.TheVariants as owned
-use Rattle.thread_state.specs.View.{ThreadState}
-use Rattle.thread_state.specs.declared.value.Value.{Value}
-use Rattle.thread_state.specs.declared.value.Value.TheVariants as value
-use Rattle.server_model.specs.Servers.{Server, Cluster, server_at}
-use Rattle.server_model.specs.Work.{Hand, thread_in, without_thread, front_of}
-use Rattle.server_model.specs.Places.{owns_nothing}
-use Rattle.server_model.specs.Drop.{give_up}
-use Rattle.heap_law.specs.Things.{at_slot, in_slot, Thing, thread_things, slot_things, servers_things, things_of}
-use Rattle.heap_law.specs.Coherent.{Holds, first_at_holder}
-use Rattle.type_law.specs.ClusterTypes.{IsCoherent}
-use Rattle.word_law.specs.Reworded.{HasPlaces}
-use Rattle.word_law.specs.Unmoved.{pointing, LeavesWords}
-use Rattle.word_law.proofs.Put.{Split, put_split}
-use Rattle.word_law.proofs.Slots.{set_same, set_other}
-use Rattle.event_law.proofs.Bags.{all_standing, body_things}
-use Rattle.event_law.proofs.Events.{others_of}
-use Rattle.event_law.proofs.Values.{last_split}
-use Rattle.stay_law.proofs.Alike.{itself, turned, beside}
-use Rattle.stay_law.proofs.Servers.{RestAlike, held, held_if, given_up}
-use Rattle.stay_law.proofs.Steps.{owned_unseen, TakesNoneHere}
-use Rattle.stay_law.proofs.Threads.{temps_of, thread_alike}
-use Rattle.prepare_law.proofs.Hands.{put, places, stands}
-use Rattle.carry_law.specs.Carried.{Carried}
-use Rattle.carry_law.proofs.Carrying.{carried_stays}
-use Rattle.carry_law.proofs.Hands.{RootedIn, rooted, Moved, seen, passed, moved_from, leaves_chain}
-use Rattle.carry_law.proofs.Owned.{OwnsAlone, owned_quiet}
-use Rattle.carry_law.proofs.Passing.{slot, temp, nowhere, Passes, is_carried}
-use Rattle.carry_law.proofs.Places.{set_things, slot_emptied, slot_filled}
-use Rattle.carry_law.proofs.Replaced.{places_on}
-use Rattle.carry_law.proofs.Steps.{given_to_rest}
-use Rattle.rewrite_law.proofs.Passing.{State, Fits}
+use Rattle.wait_law.proofs.Below.fr_typing.PlaceLemmas.{eq_cases}
+use Rattle.wait_law.specs.Below.heap_partition.declared.value.Owned.{Owned}
+use Rattle.wait_law.specs.Below.heap_partition.declared.value.Owned.TheVariants as owned
+use Rattle.wait_law.specs.Below.thread_state.View.{ThreadState}
+use Rattle.wait_law.specs.Below.thread_state.declared.value.Value.{Value}
+use Rattle.wait_law.specs.Below.thread_state.declared.value.Value.TheVariants as value
+use Rattle.wait_law.specs.Below.server_model.Servers.{Server, Cluster, server_at}
+use Rattle.wait_law.specs.Below.server_model.Work.{Hand, thread_in, without_thread, front_of}
+use Rattle.wait_law.specs.Below.server_model.Places.{owns_nothing}
+use Rattle.wait_law.specs.Below.server_model.Drop.{give_up}
+use Rattle.wait_law.specs.Below.heap_law.Things.{at_slot, in_slot, Thing, thread_things, slot_things, servers_things, things_of}
+use Rattle.wait_law.specs.Below.heap_law.Coherent.{Holds, first_at_holder}
+use Rattle.wait_law.specs.Below.type_law.ClusterTypes.{IsCoherent}
+use Rattle.through_law.specs.Below.word_law.Reworded.{HasPlaces}
+use Rattle.through_law.specs.Below.word_law.Unmoved.{pointing, LeavesWords}
+use Rattle.through_law.proofs.Below.word_law.Put.{Split, put_split}
+use Rattle.through_law.proofs.Below.word_law.Slots.{set_same, set_other}
+use Rattle.wait_law.proofs.Below.event_law.Bags.{all_standing, body_things}
+use Rattle.wait_law.proofs.Below.event_law.Events.{others_of}
+use Rattle.wait_law.proofs.Below.event_law.Values.{last_split}
+use Rattle.through_law.proofs.Below.stay_law.Alike.{itself, turned, beside}
+use Rattle.through_law.proofs.Below.stay_law.Servers.{RestAlike, held, held_if, given_up}
+use Rattle.through_law.proofs.Below.stay_law.Steps.{owned_unseen, TakesNoneHere}
+use Rattle.through_law.proofs.Below.stay_law.Threads.{temps_of, thread_alike}
+use Rattle.through_law.proofs.Below.prepare_law.Hands.{put, places, stands}
+use Rattle.through_law.specs.Below.carry_law.Carried.{Carried}
+use Rattle.through_law.proofs.Below.carry_law.Carrying.{carried_stays}
+use Rattle.through_law.proofs.Below.carry_law.Hands.{RootedIn, rooted, Moved, seen, passed, moved_from, leaves_chain}
+use Rattle.through_law.proofs.Below.carry_law.Owned.{OwnsAlone, owned_quiet}
+use Rattle.through_law.proofs.Below.carry_law.Passing.{slot, temp, nowhere, Passes, is_carried}
+use Rattle.through_law.proofs.Below.carry_law.Places.{set_things, slot_emptied, slot_filled}
+use Rattle.through_law.proofs.Below.carry_law.Replaced.{places_on}
+use Rattle.through_law.proofs.Below.carry_law.Steps.{given_to_rest}
+use Rattle.through_law.proofs.Below.rewrite_law.Passing.{State, Fits}
 use Rattle.through_law.proofs.EndTypes.{alone_on, rooted_on as rooted_still}
 use Rattle.through_law.proofs.Putting.{Operand, on_top, plain}
-use Rattle.carry_law.proofs.Hands.{moved_over}
-use Rattle.carry_law.proofs.Replaced.{cells_same}
+use Rattle.through_law.proofs.Below.carry_law.Hands.{moved_over}
+use Rattle.through_law.proofs.Below.carry_law.Replaced.{cells_same}
 use Rattle.through_law.proofs.Filling.{filled_ok, without_slot as its_without, without_ok as its_fits}
-use Rattle.copy_law.proofs.Clean.{KeepsClean, clean_goes}
+use Rattle.hidden_law.proofs.Below.copy_law.Clean.{KeepsClean, clean_goes}
 
 same_or_not : (a b : ℕ) → (a ≡ b) ⊎ (a ≡ b → ⊥)
 same_or_not a b = eq_cases (λ c. (a ≡ b) ⊎ (a ≡ b → ⊥)) a b (λ e. inl e) (λ d. inr d)
@@ -147,7 +147,7 @@ module _ (k : Cluster) (coherent : IsCoherent k) (s : Server) (here : server_at 
     q : RestAlike k.code n (held u ++ body_things n h.work.rest) (give_up u h.work).rest
     q = given_up {code = k.code} n (held u ++ body_things n h.work.rest) u h.work st.ok.number (itself (held u ++ body_things n h.work.rest))
 
-    together : Rattle.carry_law.proofs.Hands.Together k.code n h1 without_slot
+    together : Rattle.through_law.proofs.Below.carry_law.Hands.Together k.code n h1 without_slot
     together =
         record {
           number = q.number ∙ sym st.ok.number;

@@ -2,67 +2,67 @@
 use Rattle.std.proofs.Common.{◌≡◌, inr, ℕ, ◌+◌, ◌<◌, ◌^◌, nat_lt, Bool, true, false, if◌then◌else◌, List, [], ◌∷◌, ◌++◌, Option, Some, None, option_map, refl, sym, ap, subst, ◌∙◌, arith, length}
 use Rattle.std.specs.Prelude.{⊤, slice_get}
 use Rattle.std.proofs.lemmas.List.{length-set}
-use Rattle.fr_base.specs.declared.name.ObjNo.{ObjNo}
-use Rattle.global_addr.specs.Words.{colour_of, server_of, address_of, next_word}
-use Rattle.heap_partition.specs.declared.value.BoxPtr.{BoxPtr}
-use Rattle.heap_partition.specs.declared.value.Cell.{Cell}
-use Rattle.heap_partition.specs.declared.value.Owned.{Owned}
-use Rattle.heap_partition.specs.declared.value.Owned.TheVariants as owned
-use Rattle.mut_borrow.specs.declared.mutable.MutRef.{MutRef}
-use Rattle.owner_box.specs.View.{PartitionState}
-use Rattle.owner_box.specs.Partition.{freed, renewed, next_place, new_word}
-use Rattle.journal.specs.declared.act.Act.TheVariants as act
-use Rattle.thread_state.specs.View.{ThreadState}
-use Rattle.thread_state.specs.declared.phase.Phase.TheVariants as phase
-use Rattle.thread_state.specs.declared.value.Value.{Value}
-use Rattle.thread_state.specs.declared.value.Value.TheVariants as value
-use Rattle.server_msgs.specs.declared.message.Message.TheVariants as message
-use Rattle.server_model.specs.Servers.{Rest, Server, Cluster, server_at}
-use Rattle.server_model.specs.Work.{Hand, look, thread_in, without_thread}
-use Rattle.server_model.specs.NewWords.{NewWord, issue_tint, issue_renewal, issue_colour}
-use Rattle.server_model.specs.Places.{Spot, in_slot, on_top, in_cell, in_copy, nowhere, note_slot, note_write, put_word}
-use Rattle.server_model.specs.Prepare.{Prepared, ready, requested, nothing, ready_at, box_of, box_ready, passing, ask_object}
-use Rattle.heap_law.specs.Names.{Among}
-use Rattle.heap_law.specs.Things.{Location, Thing, at_slot, in_cell as in_object, sent, servers_things, things_of}
-use Rattle.heap_law.specs.Follow.{cells_in, value_in}
-use Rattle.heap_law.specs.Sight.{sight, issued}
-use Rattle.heap_law.specs.Words.{IsStale, HasWords}
-use Rattle.type_law.specs.ClusterTypes.{IsCoherent}
-use Rattle.path_law.proofs.Sole.{some_is}
-use Rattle.word_law.specs.Reworded.{HasPlaces, Reworded}
-use Rattle.word_law.specs.PutBack.{StandsHere, LeadsHome}
-use Rattle.word_law.specs.WordsAfter.{Rewrites}
-use Rattle.word_law.proofs.Only.{are_only}
-use Rattle.word_law.proofs.Outlines.{soles_stay}
-use Rattle.word_law.proofs.Slots.{set_same}
-use Rattle.word_law.proofs.Words.{fresh_go_on}
-use Rattle.word_law.proofs.Tints.{slot_stands, tint_rewords}
-use Rattle.word_law.proofs.Cells.{CellPut, cell_put, cells_reword}
-use Rattle.word_law.proofs.Marks.{mark_rewords}
-use Rattle.word_law.proofs.NewWord.{is_new}
-use Rattle.event_law.proofs.Results.{given_by}
-use Rattle.event_law.proofs.RulesKeep.{sums_kept}
-use Rattle.event_law.proofs.Bags.{all_standing, body_things, sent_number}
-use Rattle.event_law.proofs.Events.{others_of}
-use Rattle.event_law.proofs.NewWords.{hand_renews, puts_word}
-use Rattle.local_law.proofs.Mail.{Mailed}
-use Rattle.local_law.proofs.Messages.{Light}
-use Rattle.read_law.proofs.Lookups.{one_state}
-use Rattle.result_law.proofs.Pointing.{its_partition}
-use Rattle.stay_law.proofs.Alike.{Alike, itself, turned, chain, blank, goes as goes_unseen}
-use Rattle.stay_law.proofs.Servers.{held_if, sends}
-use Rattle.stay_law.proofs.Sites.{HandAlike}
-use Rattle.stay_law.proofs.Steps.{TakesNoneHere}
-use Rattle.stay_law.proofs.Threads.{slots_of, temps_of, thread_alike}
-use Rattle.move_law.specs.Relaid.{Renewal, NextIsVacant}
-use Rattle.move_law.proofs.Relaid.{renewals_reword}
-use Rattle.prepare_law.proofs.Hands.{put, places, stands}
-use Rattle.write_law.proofs.Memory.{Leads, looks, Given, renewal_issued}
-use Rattle.rewrite_law.proofs.Onward.{Lies, IsWritten, no_first, onward_reworded}
-use Rattle.rewrite_law.proofs.Later.{renewal_unissued, next_vacant}
-use Rattle.rewrite_law.proofs.Passing.{Fits, State, passed as passed_state, requests, hands_alike}
-use Rattle.rewrite_law.proofs.Hops.{renewed_work, home_now, home_under, cell_stands, Boxed}
-use Rattle.copy_law.proofs.Clean.{all_goes}
+use Rattle.wait_law.specs.Below.fr_base.declared.name.ObjNo.{ObjNo}
+use Rattle.wait_law.specs.Below.global_addr.Words.{colour_of, server_of, address_of, next_word}
+use Rattle.wait_law.specs.Below.heap_partition.declared.value.BoxPtr.{BoxPtr}
+use Rattle.wait_law.specs.Below.heap_partition.declared.value.Cell.{Cell}
+use Rattle.wait_law.specs.Below.heap_partition.declared.value.Owned.{Owned}
+use Rattle.wait_law.specs.Below.heap_partition.declared.value.Owned.TheVariants as owned
+use Rattle.wait_law.specs.Below.mut_borrow.declared.mutable.MutRef.{MutRef}
+use Rattle.wait_law.specs.Below.owner_box.View.{PartitionState}
+use Rattle.wait_law.specs.Below.owner_box.Partition.{freed, renewed, next_place, new_word}
+use Rattle.wait_law.specs.Below.journal.declared.act.Act.TheVariants as act
+use Rattle.wait_law.specs.Below.thread_state.View.{ThreadState}
+use Rattle.wait_law.specs.Below.thread_state.declared.phase.Phase.TheVariants as phase
+use Rattle.wait_law.specs.Below.thread_state.declared.value.Value.{Value}
+use Rattle.wait_law.specs.Below.thread_state.declared.value.Value.TheVariants as value
+use Rattle.wait_law.specs.Below.server_msgs.declared.message.Message.TheVariants as message
+use Rattle.wait_law.specs.Below.server_model.Servers.{Rest, Server, Cluster, server_at}
+use Rattle.wait_law.specs.Below.server_model.Work.{Hand, look, thread_in, without_thread}
+use Rattle.wait_law.specs.Below.server_model.NewWords.{NewWord, issue_tint, issue_renewal, issue_colour}
+use Rattle.wait_law.specs.Below.server_model.Places.{Spot, in_slot, on_top, in_cell, in_copy, nowhere, note_slot, note_write, put_word}
+use Rattle.wait_law.specs.Below.server_model.Prepare.{Prepared, ready, requested, nothing, ready_at, box_of, box_ready, passing, ask_object}
+use Rattle.wait_law.specs.Below.heap_law.Names.{Among}
+use Rattle.wait_law.specs.Below.heap_law.Things.{Location, Thing, at_slot, in_cell as in_object, sent, servers_things, things_of}
+use Rattle.wait_law.specs.Below.heap_law.Follow.{cells_in, value_in}
+use Rattle.wait_law.specs.Below.heap_law.Sight.{sight, issued}
+use Rattle.wait_law.specs.Below.heap_law.Words.{IsStale, HasWords}
+use Rattle.wait_law.specs.Below.type_law.ClusterTypes.{IsCoherent}
+use Rattle.wait_law.proofs.Below.path_law.Sole.{some_is}
+use Rattle.through_law.specs.Below.word_law.Reworded.{HasPlaces, Reworded}
+use Rattle.through_law.specs.Below.word_law.PutBack.{StandsHere, LeadsHome}
+use Rattle.through_law.specs.Below.word_law.WordsAfter.{Rewrites}
+use Rattle.through_law.proofs.Below.word_law.Only.{are_only}
+use Rattle.through_law.proofs.Below.word_law.Outlines.{soles_stay}
+use Rattle.through_law.proofs.Below.word_law.Slots.{set_same}
+use Rattle.through_law.proofs.Below.word_law.Words.{fresh_go_on}
+use Rattle.through_law.proofs.Below.word_law.Tints.{slot_stands, tint_rewords}
+use Rattle.through_law.proofs.Below.word_law.Cells.{CellPut, cell_put, cells_reword}
+use Rattle.through_law.proofs.Below.word_law.Marks.{mark_rewords}
+use Rattle.through_law.proofs.Below.word_law.NewWord.{is_new}
+use Rattle.wait_law.proofs.Below.event_law.Results.{given_by}
+use Rattle.wait_law.proofs.Below.event_law.RulesKeep.{sums_kept}
+use Rattle.wait_law.proofs.Below.event_law.Bags.{all_standing, body_things, sent_number}
+use Rattle.wait_law.proofs.Below.event_law.Events.{others_of}
+use Rattle.wait_law.proofs.Below.event_law.NewWords.{hand_renews, puts_word}
+use Rattle.wait_law.proofs.Below.local_law.Mail.{Mailed}
+use Rattle.wait_law.proofs.Below.local_law.Messages.{Light}
+use Rattle.through_law.proofs.Below.read_law.Lookups.{one_state}
+use Rattle.wait_law.proofs.Below.result_law.Pointing.{its_partition}
+use Rattle.through_law.proofs.Below.stay_law.Alike.{Alike, itself, turned, chain, blank, goes as goes_unseen}
+use Rattle.through_law.proofs.Below.stay_law.Servers.{held_if, sends}
+use Rattle.through_law.proofs.Below.stay_law.Sites.{HandAlike}
+use Rattle.through_law.proofs.Below.stay_law.Steps.{TakesNoneHere}
+use Rattle.through_law.proofs.Below.stay_law.Threads.{slots_of, temps_of, thread_alike}
+use Rattle.through_law.specs.Below.move_law.Relaid.{Renewal, NextIsVacant}
+use Rattle.through_law.proofs.Below.move_law.Relaid.{renewals_reword}
+use Rattle.through_law.proofs.Below.prepare_law.Hands.{put, places, stands}
+use Rattle.through_law.proofs.Below.write_law.Memory.{Leads, looks, Given, renewal_issued}
+use Rattle.through_law.proofs.Below.rewrite_law.Onward.{Lies, IsWritten, no_first, onward_reworded}
+use Rattle.through_law.proofs.Below.rewrite_law.Later.{renewal_unissued, next_vacant}
+use Rattle.through_law.proofs.Below.rewrite_law.Passing.{Fits, State, passed as passed_state, requests, hands_alike}
+use Rattle.through_law.proofs.Below.rewrite_law.Hops.{renewed_work, home_now, home_under, cell_stands, Boxed}
+use Rattle.hidden_law.proofs.Below.copy_law.Clean.{all_goes}
 use Rattle.hidden_law.proofs.Below.clean_law.Asked.{asking}
 use Rattle.hidden_law.proofs.Below.fresh_law.Turned.{none_or_idle}
 use Rattle.hidden_law.proofs.Settled.{Covers, by_word, Settled, GoesOn, settled_goes, settled_on}

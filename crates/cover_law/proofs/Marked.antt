@@ -1,28 +1,28 @@
 -- The reference that led straight to a cell is marked: the object of the cell is covered then.
 use Rattle.std.proofs.Common.{◌≡◌, ℕ, ◌+◌, true, Option, Some, None, refl, sym, subst}
 use Rattle.std.specs.Prelude.{slice_get}
-use Rattle.fr_base.specs.declared.name.ObjNo.{ObjNo}
-use Rattle.mut_borrow.specs.declared.mutable.MutRef.{MutRef}
-use Rattle.thread_state.specs.View.{ThreadState}
-use Rattle.thread_state.specs.declared.value.Value.TheVariants as value
-use Rattle.server_model.specs.Servers.{Server, Cluster, server_at}
-use Rattle.server_model.specs.Work.{Hand, thread_in}
-use Rattle.server_model.specs.Places.{in_cell, note_slot, note_write}
-use Rattle.server_model.specs.Prepare.{box_of}
-use Rattle.heap_law.specs.Things.{Location, at_slot, in_cell as in_object}
-use Rattle.heap_law.specs.Follow.{value_in}
-use Rattle.heap_law.specs.Sight.{sight}
-use Rattle.heap_law.specs.Words.{IsStale}
-use Rattle.type_law.specs.ClusterTypes.{IsCoherent}
-use Rattle.word_law.specs.Reworded.{Reworded}
-use Rattle.word_law.specs.WordsAfter.{Rewrites}
-use Rattle.word_law.proofs.Marks.{mark_rewords}
-use Rattle.word_law.proofs.Slots.{set_same}
-use Rattle.word_law.proofs.Tints.{slot_stands}
-use Rattle.prepare_law.proofs.Hands.{put, places, stands}
-use Rattle.rewrite_law.proofs.Onward.{IsWritten}
-use Rattle.rewrite_law.proofs.Passing.{State}
-use Rattle.rewrite_law.proofs.Hops.{Walk, home_now}
+use Rattle.wait_law.specs.Below.fr_base.declared.name.ObjNo.{ObjNo}
+use Rattle.wait_law.specs.Below.mut_borrow.declared.mutable.MutRef.{MutRef}
+use Rattle.wait_law.specs.Below.thread_state.View.{ThreadState}
+use Rattle.wait_law.specs.Below.thread_state.declared.value.Value.TheVariants as value
+use Rattle.wait_law.specs.Below.server_model.Servers.{Server, Cluster, server_at}
+use Rattle.wait_law.specs.Below.server_model.Work.{Hand, thread_in}
+use Rattle.wait_law.specs.Below.server_model.Places.{in_cell, note_slot, note_write}
+use Rattle.wait_law.specs.Below.server_model.Prepare.{box_of}
+use Rattle.wait_law.specs.Below.heap_law.Things.{Location, at_slot, in_cell as in_object}
+use Rattle.wait_law.specs.Below.heap_law.Follow.{value_in}
+use Rattle.wait_law.specs.Below.heap_law.Sight.{sight}
+use Rattle.wait_law.specs.Below.heap_law.Words.{IsStale}
+use Rattle.wait_law.specs.Below.type_law.ClusterTypes.{IsCoherent}
+use Rattle.through_law.specs.Below.word_law.Reworded.{Reworded}
+use Rattle.through_law.specs.Below.word_law.WordsAfter.{Rewrites}
+use Rattle.through_law.proofs.Below.word_law.Marks.{mark_rewords}
+use Rattle.through_law.proofs.Below.word_law.Slots.{set_same}
+use Rattle.through_law.proofs.Below.word_law.Tints.{slot_stands}
+use Rattle.through_law.proofs.Below.prepare_law.Hands.{put, places, stands}
+use Rattle.through_law.proofs.Below.rewrite_law.Onward.{IsWritten}
+use Rattle.through_law.proofs.Below.rewrite_law.Passing.{State}
+use Rattle.through_law.proofs.Below.rewrite_law.Hops.{Walk, home_now}
 use Rattle.through_law.proofs.Marking.{mark_state}
 use Rattle.hidden_law.proofs.Reworded.{IsCovered, but_any, settles_mark}
 use Rattle.cover_law.proofs.Hops.{Now, CoveredAt, Fair, HadCell, rewrites}

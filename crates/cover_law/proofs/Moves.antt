@@ -1,40 +1,40 @@
 -- A move through stars that is done: the object of its cell is covered, and all others are what they were, or covered.
 use Rattle.std.proofs.Common.{◌≡◌, ℕ, suc, true, if◌then◌else◌, [], ◌∷◌, ◌++◌, Option, Some, None, option_map, refl, sym, ap, subst, ◌∙◌}
 use Rattle.std.specs.Prelude.{slice_get}
-use Rattle.fr_base.specs.declared.name.ObjNo.{ObjNo}
-use Rattle.fr_base.specs.declared.place.Lval.{Lval}
-use Rattle.fr_base.specs.declared.instruction.Instr.{Instr}
-use Rattle.fr_base.specs.declared.instruction.Instr.TheVariants as instr
-use Rattle.heap_partition.specs.declared.value.Cell.{Cell}
-use Rattle.heap_partition.specs.declared.value.Owned.TheVariants as owned
-use Rattle.owner_box.specs.Partition.{stored}
-use Rattle.thread_state.specs.View.{ThreadState}
-use Rattle.thread_state.specs.declared.value.Value.TheVariants as value
-use Rattle.server_model.specs.declared.event.What.TheVariants.{Step}
-use Rattle.server_model.specs.Servers.{Server, Cluster, server_at}
-use Rattle.server_model.specs.Work.{Hand, Work, label_all, push_temp, thread_in, with_partition, working, then_some}
-use Rattle.server_model.specs.Places.{Spot, in_cell, cell_at, value_in as cell_value, load_at, note_write}
-use Rattle.server_model.specs.Commit.{store_labels, take_out, read}
-use Rattle.server_model.specs.Events.{enabled}
-use Rattle.heap_law.specs.Things.{Location, in_cell as in_object}
-use Rattle.type_law.specs.ClusterTypes.{IsCoherent}
-use Rattle.event_law.specs.Laws.{Gives, FewEvents}
-use Rattle.stay_law.proofs.Steps.{TakesNoneHere}
-use Rattle.result_law.proofs.Known.{Steps}
-use Rattle.write_law.proofs.Memory.{Leads, looks, leads_on}
-use Rattle.write_law.proofs.Route.{Writing, At, a_slot, a_cell}
-use Rattle.rewrite_law.specs.Writing.{moves}
-use Rattle.rewrite_law.proofs.Passing.{State}
-use Rattle.rewrite_law.proofs.Hops.{Walk}
-use Rattle.rewrite_law.proofs.Ways.{cell_there, place}
-use Rattle.rewrite_law.proofs.Asking.{steps}
+use Rattle.wait_law.specs.Below.fr_base.declared.name.ObjNo.{ObjNo}
+use Rattle.wait_law.specs.Below.fr_base.declared.place.Lval.{Lval}
+use Rattle.wait_law.specs.Below.fr_base.declared.instruction.Instr.{Instr}
+use Rattle.wait_law.specs.Below.fr_base.declared.instruction.Instr.TheVariants as instr
+use Rattle.wait_law.specs.Below.heap_partition.declared.value.Cell.{Cell}
+use Rattle.wait_law.specs.Below.heap_partition.declared.value.Owned.TheVariants as owned
+use Rattle.wait_law.specs.Below.owner_box.Partition.{stored}
+use Rattle.wait_law.specs.Below.thread_state.View.{ThreadState}
+use Rattle.wait_law.specs.Below.thread_state.declared.value.Value.TheVariants as value
+use Rattle.wait_law.specs.Below.server_model.declared.event.What.TheVariants.{Step}
+use Rattle.wait_law.specs.Below.server_model.Servers.{Server, Cluster, server_at}
+use Rattle.wait_law.specs.Below.server_model.Work.{Hand, Work, label_all, push_temp, thread_in, with_partition, working, then_some}
+use Rattle.wait_law.specs.Below.server_model.Places.{Spot, in_cell, cell_at, value_in as cell_value, load_at, note_write}
+use Rattle.wait_law.specs.Below.server_model.Commit.{store_labels, take_out, read}
+use Rattle.wait_law.specs.Below.server_model.Events.{enabled}
+use Rattle.wait_law.specs.Below.heap_law.Things.{Location, in_cell as in_object}
+use Rattle.wait_law.specs.Below.type_law.ClusterTypes.{IsCoherent}
+use Rattle.wait_law.specs.Below.event_law.Laws.{Gives, FewEvents}
+use Rattle.through_law.proofs.Below.stay_law.Steps.{TakesNoneHere}
+use Rattle.wait_law.proofs.Below.result_law.Known.{Steps}
+use Rattle.through_law.proofs.Below.write_law.Memory.{Leads, looks, leads_on}
+use Rattle.through_law.proofs.Below.write_law.Route.{Writing, At, a_slot, a_cell}
+use Rattle.through_law.specs.Below.rewrite_law.Writing.{moves}
+use Rattle.through_law.proofs.Below.rewrite_law.Passing.{State}
+use Rattle.through_law.proofs.Below.rewrite_law.Hops.{Walk}
+use Rattle.through_law.proofs.Below.rewrite_law.Ways.{cell_there, place}
+use Rattle.through_law.proofs.Below.rewrite_law.Asking.{steps}
 use Rattle.through_law.proofs.Doing.{free_at_start, untaken_at_start}
 use Rattle.through_law.proofs.EndTypes.{end_alone, end_apart}
 use Rattle.through_law.proofs.Marking.{noted_work, noted_thread, noted_same, together_by, mark_state}
 use Rattle.through_law.proofs.OwnEnds.{ends_in_cell}
 use Rattle.through_law.proofs.Storing.{Tip}
 use Rattle.through_law.proofs.TakenOut.{taken_hand, taken_ok, taken_so}
-use Rattle.prepare_law.proofs.Hands.{put, places}
+use Rattle.through_law.proofs.Below.prepare_law.Hands.{put, places}
 use Rattle.cover_law.proofs.Hops.{Fair}
 use Rattle.cover_law.proofs.Settling.{Settles}
 use Rattle.cover_law.proofs.Doing.{Does, its_cell}

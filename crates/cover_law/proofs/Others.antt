@@ -1,19 +1,19 @@
 -- A covered object's cell gets a value or gives it away: each other object stays what it was, or covered.
 use Rattle.std.proofs.Common.{◌≡◌, ◌⊎◌, inl, inr, ⊎_elim, Option, sym, ap, subst, ◌∙◌}
-use Rattle.fr_base.specs.declared.name.ObjNo.{ObjNo}
-use Rattle.heap_partition.specs.declared.value.Cell.{Cell}
-use Rattle.server_model.specs.Servers.{Cluster}
-use Rattle.heap_law.specs.Names.{Among}
-use Rattle.heap_law.specs.Things.{Location, in_cell, things_of}
-use Rattle.heap_law.specs.Follow.{cells_in, value_in}
-use Rattle.heap_law.specs.Sight.{is_object_among, sight, issued}
-use Rattle.heap_law.specs.Words.{HasWords}
-use Rattle.heap_law.specs.Coherent.{Holds, first_at_holder}
-use Rattle.word_law.specs.Reworded.{HasPlaces}
-use Rattle.word_law.specs.Unmoved.{LeavesWords}
-use Rattle.carry_law.specs.Carried.{Carried}
-use Rattle.carry_law.proofs.Carrying.{fresh_on, fresh_back}
-use Rattle.copy_law.proofs.Clean.{ChangedGo, changed_chain, KeepsClean}
+use Rattle.wait_law.specs.Below.fr_base.declared.name.ObjNo.{ObjNo}
+use Rattle.wait_law.specs.Below.heap_partition.declared.value.Cell.{Cell}
+use Rattle.wait_law.specs.Below.server_model.Servers.{Cluster}
+use Rattle.wait_law.specs.Below.heap_law.Names.{Among}
+use Rattle.wait_law.specs.Below.heap_law.Things.{Location, in_cell, things_of}
+use Rattle.wait_law.specs.Below.heap_law.Follow.{cells_in, value_in}
+use Rattle.wait_law.specs.Below.heap_law.Sight.{is_object_among, sight, issued}
+use Rattle.wait_law.specs.Below.heap_law.Words.{HasWords}
+use Rattle.wait_law.specs.Below.heap_law.Coherent.{Holds, first_at_holder}
+use Rattle.through_law.specs.Below.word_law.Reworded.{HasPlaces}
+use Rattle.through_law.specs.Below.word_law.Unmoved.{LeavesWords}
+use Rattle.through_law.specs.Below.carry_law.Carried.{Carried}
+use Rattle.through_law.proofs.Below.carry_law.Carrying.{fresh_on, fresh_back}
+use Rattle.hidden_law.proofs.Below.copy_law.Clean.{ChangedGo, changed_chain, KeepsClean}
 use Rattle.hidden_law.proofs.Below.clean_law.Worded.{objects_differ}
 use Rattle.hidden_law.proofs.Below.fresh_law.Turned.{Same, dirty_kept}
 use Rattle.hidden_law.specs.Hidden.{NoneUnder}

@@ -1,43 +1,43 @@
 -- What a thread passes on its way to write: of its objects no copy is asked for, and of those that an earlier event passed none is there.
 use Rattle.std.proofs.Common.{◌≡◌, inr, ℕ, zero, suc, ◌<◌, ◌≤◌, Option, Some, None, refl, sym, ap, subst, ◌∙◌, arith}
 use Rattle.std.specs.Prelude.{slice_get}
-use Rattle.fr_base.specs.declared.name.ObjNo.{ObjNo}
-use Rattle.fr_base.specs.declared.place.Lval.{Lval}
-use Rattle.fr_base.specs.declared.instruction.Instr.{Instr}
-use Rattle.heap_partition.specs.declared.value.BoxPtr.{BoxPtr}
-use Rattle.heap_partition.specs.declared.value.Cell.{Cell}
-use Rattle.heap_partition.specs.declared.value.Owned.TheVariants as owned
-use Rattle.mut_borrow.specs.declared.mutable.MutRef.{MutRef}
-use Rattle.thread_state.specs.View.{ThreadState}
-use Rattle.thread_state.specs.declared.phase.Phase.{Phase}
-use Rattle.thread_state.specs.declared.phase.Phase.TheVariants as phase
-use Rattle.thread_state.specs.declared.value.Value.{Value}
-use Rattle.thread_state.specs.declared.value.Value.TheVariants as value
-use Rattle.server_model.specs.Servers.{Server, Cluster, server_at}
-use Rattle.server_model.specs.Work.{thread_in}
-use Rattle.heap_law.specs.Names.{tot, Among}
-use Rattle.heap_law.specs.Things.{Location, at_slot, in_cell, lies, things_of}
-use Rattle.heap_law.specs.Follow.{Standing, cell_of, cells_in, slot_of, value_in, value_of, locate}
-use Rattle.heap_law.specs.OneHeap.{two_in}
-use Rattle.heap_law.specs.Paths.{written_place}
-use Rattle.heap_law.specs.Passing.{MayPass, over_box, over_reference, to_slot, to_lent_slot, IsPassed}
-use Rattle.heap_law.specs.Sight.{sight}
-use Rattle.heap_law.specs.Walking.{path}
-use Rattle.heap_law.specs.Weights.{copies}
-use Rattle.heap_law.specs.Words.{HasWords}
-use Rattle.heap_law.proofs.Passing.{paths_law}
-use Rattle.path_law.specs.HeapStore.{GoesOn, HasPaths}
-use Rattle.path_law.proofs.Shown.{stands_there}
-use Rattle.path_law.proofs.Sole.{some_is}
-use Rattle.word_law.proofs.Standing.{lying}
-use Rattle.read_law.proofs.Homes.{fresh_word}
-use Rattle.result_law.proofs.Known.{Steps, standing, paths, goes}
-use Rattle.result_law.proofs.Made.{OwnedBy}
+use Rattle.wait_law.specs.Below.fr_base.declared.name.ObjNo.{ObjNo}
+use Rattle.wait_law.specs.Below.fr_base.declared.place.Lval.{Lval}
+use Rattle.wait_law.specs.Below.fr_base.declared.instruction.Instr.{Instr}
+use Rattle.wait_law.specs.Below.heap_partition.declared.value.BoxPtr.{BoxPtr}
+use Rattle.wait_law.specs.Below.heap_partition.declared.value.Cell.{Cell}
+use Rattle.wait_law.specs.Below.heap_partition.declared.value.Owned.TheVariants as owned
+use Rattle.wait_law.specs.Below.mut_borrow.declared.mutable.MutRef.{MutRef}
+use Rattle.wait_law.specs.Below.thread_state.View.{ThreadState}
+use Rattle.wait_law.specs.Below.thread_state.declared.phase.Phase.{Phase}
+use Rattle.wait_law.specs.Below.thread_state.declared.phase.Phase.TheVariants as phase
+use Rattle.wait_law.specs.Below.thread_state.declared.value.Value.{Value}
+use Rattle.wait_law.specs.Below.thread_state.declared.value.Value.TheVariants as value
+use Rattle.wait_law.specs.Below.server_model.Servers.{Server, Cluster, server_at}
+use Rattle.wait_law.specs.Below.server_model.Work.{thread_in}
+use Rattle.wait_law.specs.Below.heap_law.Names.{tot, Among}
+use Rattle.wait_law.specs.Below.heap_law.Things.{Location, at_slot, in_cell, lies, things_of}
+use Rattle.wait_law.specs.Below.heap_law.Follow.{Standing, cell_of, cells_in, slot_of, value_in, value_of, locate}
+use Rattle.wait_law.specs.Below.heap_law.OneHeap.{two_in}
+use Rattle.wait_law.specs.Below.heap_law.Paths.{written_place}
+use Rattle.wait_law.specs.Below.heap_law.Passing.{MayPass, over_box, over_reference, to_slot, to_lent_slot, IsPassed}
+use Rattle.wait_law.specs.Below.heap_law.Sight.{sight}
+use Rattle.wait_law.specs.Below.heap_law.Walking.{path}
+use Rattle.wait_law.specs.Below.heap_law.Weights.{copies}
+use Rattle.wait_law.specs.Below.heap_law.Words.{HasWords}
+use Rattle.wait_law.proofs.Below.heap_law.Passing.{paths_law}
+use Rattle.wait_law.specs.Below.path_law.HeapStore.{GoesOn, HasPaths}
+use Rattle.wait_law.proofs.Below.path_law.Shown.{stands_there}
+use Rattle.wait_law.proofs.Below.path_law.Sole.{some_is}
+use Rattle.through_law.proofs.Below.word_law.Standing.{lying}
+use Rattle.through_law.proofs.Below.read_law.Homes.{fresh_word}
+use Rattle.wait_law.proofs.Below.result_law.Known.{Steps, standing, paths, goes}
+use Rattle.wait_law.proofs.Below.result_law.Made.{OwnedBy}
 use Rattle.wait_law.proofs.Written.{InChain}
-use Rattle.write_law.proofs.StepRoutes.{awake}
-use Rattle.rewrite_law.proofs.Onward.{IsWritten}
-use Rattle.rewrite_law.proofs.Walks.{BoxAt, in_a_slot, in_a_cell}
-use Rattle.copy_law.proofs.Clean.{thing_cell}
+use Rattle.through_law.proofs.Below.write_law.StepRoutes.{awake}
+use Rattle.through_law.proofs.Below.rewrite_law.Onward.{IsWritten}
+use Rattle.through_law.proofs.Below.rewrite_law.Walks.{BoxAt, in_a_slot, in_a_cell}
+use Rattle.hidden_law.proofs.Below.copy_law.Clean.{thing_cell}
 use Rattle.hidden_law.proofs.Below.fresh_law.Turned.{Unasked}
 use Rattle.hidden_law.proofs.Below.fresh_law.Askers.{ReadsUnder, unasked_by, reads_as_owner}
 use Rattle.hidden_law.specs.Hidden.{NoneUnder}

@@ -1,26 +1,26 @@
 -- A step begins, and is done: what is known of each object goes on.
 use Rattle.std.proofs.Common.{◌≡◌, inl, ℕ, ◌+◌, [], Option, Some, None, refl}
-use Rattle.fr_base.specs.declared.step.Fresh.TheVariants as fresh
-use Rattle.thread_state.specs.View.{ThreadState}
-use Rattle.server_model.specs.Servers.{Server, Cluster, server_at}
-use Rattle.server_model.specs.Work.{Hand, thread_in, set_thread, put_back}
-use Rattle.server_model.specs.Commit.{goes_on, go_on, settle}
-use Rattle.server_model.specs.Events.{begin_work, begin_at, Stepped, done_step, committed}
-use Rattle.heap_law.specs.Things.{things_of}
-use Rattle.heap_law.specs.Sight.{sight}
-use Rattle.heap_law.specs.Words.{HasWords}
-use Rattle.type_law.specs.ClusterTypes.{IsCoherent}
-use Rattle.word_law.specs.Reworded.{HasPlaces}
-use Rattle.event_law.specs.Laws.{Gives, FewEvents}
-use Rattle.event_law.proofs.Results.{over_gives}
-use Rattle.stay_law.proofs.Alike.{Alike}
-use Rattle.stay_law.proofs.Sites.{HandAlike, put_alike, begun_alike, servers_alike}
-use Rattle.stay_law.proofs.Steps.{TakesNoneHere, hand_itself, settles}
-use Rattle.prepare_law.proofs.Hands.{put, places, first_hand}
-use Rattle.carry_law.proofs.Hands.{Together, each_together, together_chain, puts_alike}
-use Rattle.carry_law.proofs.Steps.{goes_next}
-use Rattle.rewrite_law.proofs.Passing.{Fits}
-use Rattle.copy_law.proofs.Clean.{all_goes}
+use Rattle.wait_law.specs.Below.fr_base.declared.step.Fresh.TheVariants as fresh
+use Rattle.wait_law.specs.Below.thread_state.View.{ThreadState}
+use Rattle.wait_law.specs.Below.server_model.Servers.{Server, Cluster, server_at}
+use Rattle.wait_law.specs.Below.server_model.Work.{Hand, thread_in, set_thread, put_back}
+use Rattle.wait_law.specs.Below.server_model.Commit.{goes_on, go_on, settle}
+use Rattle.wait_law.specs.Below.server_model.Events.{begin_work, begin_at, Stepped, done_step, committed}
+use Rattle.wait_law.specs.Below.heap_law.Things.{things_of}
+use Rattle.wait_law.specs.Below.heap_law.Sight.{sight}
+use Rattle.wait_law.specs.Below.heap_law.Words.{HasWords}
+use Rattle.wait_law.specs.Below.type_law.ClusterTypes.{IsCoherent}
+use Rattle.through_law.specs.Below.word_law.Reworded.{HasPlaces}
+use Rattle.wait_law.specs.Below.event_law.Laws.{Gives, FewEvents}
+use Rattle.wait_law.proofs.Below.event_law.Results.{over_gives}
+use Rattle.through_law.proofs.Below.stay_law.Alike.{Alike}
+use Rattle.through_law.proofs.Below.stay_law.Sites.{HandAlike, put_alike, begun_alike, servers_alike}
+use Rattle.through_law.proofs.Below.stay_law.Steps.{TakesNoneHere, hand_itself, settles}
+use Rattle.through_law.proofs.Below.prepare_law.Hands.{put, places, first_hand}
+use Rattle.through_law.proofs.Below.carry_law.Hands.{Together, each_together, together_chain, puts_alike}
+use Rattle.through_law.proofs.Below.carry_law.Steps.{goes_next}
+use Rattle.through_law.proofs.Below.rewrite_law.Passing.{Fits}
+use Rattle.hidden_law.proofs.Below.copy_law.Clean.{all_goes}
 use Rattle.hidden_law.proofs.Below.clean_law.Kept.{places_before}
 use Rattle.hidden_law.proofs.Settled.{Settled, settled_on}
 use Rattle.cover_law.proofs.Hops.{Now}

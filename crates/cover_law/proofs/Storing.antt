@@ -1,24 +1,24 @@
 -- What a cell has becomes its thread's gift: cells of other objects and changed references stay.
 use Rattle.std.proofs.Common.{◌≡◌, ℕ, ◌+◌, List, ◌++◌, Some, None, refl}
-use Rattle.fr_base.specs.declared.name.ObjNo.{ObjNo}
-use Rattle.global_addr.specs.Words.{address_of}
-use Rattle.heap_partition.specs.declared.value.Cell.{Cell}
-use Rattle.heap_partition.specs.declared.value.Owned.TheVariants as owned
-use Rattle.owner_box.specs.Partition.{stored}
-use Rattle.thread_state.specs.View.{ThreadState}
-use Rattle.server_model.specs.Servers.{Server, Cluster, server_at}
-use Rattle.server_model.specs.Work.{Hand, thread_in, without_thread}
-use Rattle.heap_law.specs.Things.{in_cell, Thing, servers_things}
-use Rattle.type_law.specs.ClusterTypes.{IsCoherent}
-use Rattle.word_law.specs.Reworded.{HasPlaces}
-use Rattle.event_law.proofs.Bags.{all_standing}
-use Rattle.event_law.proofs.Events.{others_of}
-use Rattle.prepare_law.proofs.Hands.{put, places, stands}
-use Rattle.carry_law.specs.Carried.{Carried}
-use Rattle.carry_law.proofs.Hands.{RootedIn, rooted}
-use Rattle.carry_law.proofs.Passing.{Quiet}
-use Rattle.write_law.proofs.Memory.{Leads}
-use Rattle.rewrite_law.proofs.Passing.{State, Fits}
+use Rattle.wait_law.specs.Below.fr_base.declared.name.ObjNo.{ObjNo}
+use Rattle.wait_law.specs.Below.global_addr.Words.{address_of}
+use Rattle.wait_law.specs.Below.heap_partition.declared.value.Cell.{Cell}
+use Rattle.wait_law.specs.Below.heap_partition.declared.value.Owned.TheVariants as owned
+use Rattle.wait_law.specs.Below.owner_box.Partition.{stored}
+use Rattle.wait_law.specs.Below.thread_state.View.{ThreadState}
+use Rattle.wait_law.specs.Below.server_model.Servers.{Server, Cluster, server_at}
+use Rattle.wait_law.specs.Below.server_model.Work.{Hand, thread_in, without_thread}
+use Rattle.wait_law.specs.Below.heap_law.Things.{in_cell, Thing, servers_things}
+use Rattle.wait_law.specs.Below.type_law.ClusterTypes.{IsCoherent}
+use Rattle.through_law.specs.Below.word_law.Reworded.{HasPlaces}
+use Rattle.wait_law.proofs.Below.event_law.Bags.{all_standing}
+use Rattle.wait_law.proofs.Below.event_law.Events.{others_of}
+use Rattle.through_law.proofs.Below.prepare_law.Hands.{put, places, stands}
+use Rattle.through_law.specs.Below.carry_law.Carried.{Carried}
+use Rattle.through_law.proofs.Below.carry_law.Hands.{RootedIn, rooted}
+use Rattle.through_law.proofs.Below.carry_law.Passing.{Quiet}
+use Rattle.through_law.proofs.Below.write_law.Memory.{Leads}
+use Rattle.through_law.proofs.Below.rewrite_law.Passing.{State, Fits}
 use Rattle.through_law.proofs.Swapped.{Swapped, value_before, elsewhere, cell_given}
 use Rattle.through_law.proofs.Unvisited.{goes_quiet}
 use Rattle.through_law.proofs.EndTypes.{alone_on, rooted_on, apart_on}

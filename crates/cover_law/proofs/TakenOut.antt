@@ -1,32 +1,32 @@
 -- What a cell has is moved out of it: cells of other objects and changed references stay.
 use Rattle.std.proofs.Common.{◌≡◌, ◌⊎◌, inl, inr, ℕ, false, List, [], ◌∷◌, ◌++◌, length, Some, None, refl}
 use Rattle.std.specs.Prelude.{slice_get}
-use Rattle.heap_partition.specs.declared.value.Cell.{Cell}
-use Rattle.heap_partition.specs.declared.value.Owned.{Owned}
-use Rattle.heap_partition.specs.declared.value.Owned.TheVariants as owned
-use Rattle.owner_box.specs.Partition.{stored}
-use Rattle.thread_state.specs.View.{ThreadState}
-use Rattle.thread_state.specs.declared.value.Value.TheVariants as value
-use Rattle.server_model.specs.Servers.{Server, Cluster, server_at}
-use Rattle.server_model.specs.Work.{Hand, Work, thread_in, without_thread}
-use Rattle.heap_law.specs.Things.{Thing, thread_things, servers_things}
-use Rattle.type_law.specs.ClusterTypes.{IsCoherent}
-use Rattle.word_law.specs.Reworded.{HasPlaces}
-use Rattle.word_law.specs.Unmoved.{pointing}
-use Rattle.event_law.proofs.Bags.{all_standing, body_things}
-use Rattle.event_law.proofs.Events.{others_of}
-use Rattle.stay_law.proofs.Alike.{itself}
-use Rattle.prepare_law.proofs.Hands.{put, places}
-use Rattle.carry_law.proofs.Hands.{Moved, passed}
-use Rattle.carry_law.proofs.Passing.{slot, temp, nowhere}
-use Rattle.carry_law.proofs.Places.{gift_to_temp}
-use Rattle.write_law.proofs.Memory.{Leads}
-use Rattle.rewrite_law.proofs.Passing.{State, Fits}
+use Rattle.wait_law.specs.Below.heap_partition.declared.value.Cell.{Cell}
+use Rattle.wait_law.specs.Below.heap_partition.declared.value.Owned.{Owned}
+use Rattle.wait_law.specs.Below.heap_partition.declared.value.Owned.TheVariants as owned
+use Rattle.wait_law.specs.Below.owner_box.Partition.{stored}
+use Rattle.wait_law.specs.Below.thread_state.View.{ThreadState}
+use Rattle.wait_law.specs.Below.thread_state.declared.value.Value.TheVariants as value
+use Rattle.wait_law.specs.Below.server_model.Servers.{Server, Cluster, server_at}
+use Rattle.wait_law.specs.Below.server_model.Work.{Hand, Work, thread_in, without_thread}
+use Rattle.wait_law.specs.Below.heap_law.Things.{Thing, thread_things, servers_things}
+use Rattle.wait_law.specs.Below.type_law.ClusterTypes.{IsCoherent}
+use Rattle.through_law.specs.Below.word_law.Reworded.{HasPlaces}
+use Rattle.through_law.specs.Below.word_law.Unmoved.{pointing}
+use Rattle.wait_law.proofs.Below.event_law.Bags.{all_standing, body_things}
+use Rattle.wait_law.proofs.Below.event_law.Events.{others_of}
+use Rattle.through_law.proofs.Below.stay_law.Alike.{itself}
+use Rattle.through_law.proofs.Below.prepare_law.Hands.{put, places}
+use Rattle.through_law.proofs.Below.carry_law.Hands.{Moved, passed}
+use Rattle.through_law.proofs.Below.carry_law.Passing.{slot, temp, nowhere}
+use Rattle.through_law.proofs.Below.carry_law.Places.{gift_to_temp}
+use Rattle.through_law.proofs.Below.write_law.Memory.{Leads}
+use Rattle.through_law.proofs.Below.rewrite_law.Passing.{State, Fits}
 use Rattle.through_law.proofs.Swapped.{given}
 use Rattle.through_law.proofs.Storing.{Tip, Reaches, emptied_so}
-use Rattle.carry_law.proofs.Hands.{moved_over}
+use Rattle.through_law.proofs.Below.carry_law.Hands.{moved_over}
 use Rattle.through_law.proofs.TakenOut.{taken_hand as its_taken_hand, taken_ok as its_taken_ok}
-use Rattle.copy_law.proofs.Clean.{clean_goes}
+use Rattle.hidden_law.proofs.Below.copy_law.Clean.{clean_goes}
 use Rattle.cover_law.proofs.Others.{KeepsOthers, others_chain, others_clean}
 use Rattle.cover_law.proofs.Storing.{emptied_others}
 

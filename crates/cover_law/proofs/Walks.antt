@@ -2,41 +2,41 @@
 use Rattle.std.proofs.Common.{◌≡◌, ℕ, zero, suc, ◌+◌, ◌<◌, ◌≤◌, ◌==◌, nat_lt, Bool, true, false, if◌then◌else◌, Option, Some, None, refl, sym, ap, subst, ◌∙◌, arith}
 use Rattle.std.specs.Prelude.{⊤, slice_get}
 use Rattle.std.proofs.lemmas.Bool.Decides.{nat_tests}
-use Rattle.fr_base.specs.declared.name.ObjNo.{ObjNo}
-use Rattle.global_addr.specs.Words.{server_of}
-use Rattle.heap_partition.specs.declared.value.BoxPtr.{BoxPtr}
-use Rattle.heap_partition.specs.declared.value.Cell.{Cell}
-use Rattle.heap_partition.specs.declared.value.Owned.TheVariants as owned
-use Rattle.mut_borrow.specs.declared.mutable.MutRef.{MutRef}
-use Rattle.owner_box.specs.View.{PartitionState}
-use Rattle.journal.specs.declared.act.Act.TheVariants as act
-use Rattle.thread_state.specs.View.{ThreadState}
-use Rattle.thread_state.specs.declared.value.Value.{Value}
-use Rattle.thread_state.specs.declared.value.Value.TheVariants as value
-use Rattle.server_msgs.specs.declared.message.Message.TheVariants as message
-use Rattle.place_walk.specs.declared.hop.Hop.TheVariants as jump
-use Rattle.place_walk.specs.Hops.{write_hop}
-use Rattle.server_model.specs.Servers.{Rest, Server, Cluster, server_at}
-use Rattle.server_model.specs.Work.{Hand, thread_in}
-use Rattle.server_model.specs.NewWords.{issue_colour}
-use Rattle.server_model.specs.Places.{Spot, in_slot, in_cell, value_in, value_at, load_at, pointer_of}
-use Rattle.server_model.specs.Prepare.{Prepared, ready, requested, nothing, and_then, ask_object, box_of, local, passing, box_ready, write_by, pass_by, write_value, write_star, write_stars}
-use Rattle.heap_law.specs.Things.{Location, at_slot, in_cell as in_object}
-use Rattle.heap_law.specs.Follow.{value_in as value_there}
-use Rattle.heap_law.specs.Sight.{sight}
-use Rattle.type_law.specs.ClusterTypes.{IsCoherent}
-use Rattle.path_law.proofs.Sole.{some_is}
-use Rattle.word_law.proofs.Tints.{slot_stands}
-use Rattle.local_law.proofs.Mail.{mail_sent}
-use Rattle.local_law.proofs.Messages.{Light}
-use Rattle.read_law.proofs.Homes.{fresh_word}
-use Rattle.prepare_law.proofs.Hands.{put, places, stands}
-use Rattle.write_law.proofs.Memory.{Leads, looks}
-use Rattle.write_law.proofs.Route.{LeadsBy, Hop, by_slot, by_reference, by_box, by_cell, Route, Writing, At, a_slot, a_cell, Fine, hop_star}
-use Rattle.rewrite_law.proofs.Onward.{IsWritten}
-use Rattle.rewrite_law.proofs.Passing.{State, loaded, noted, passed}
-use Rattle.rewrite_law.proofs.Hops.{Walk, Mine, Boxed, cell_stands}
-use Rattle.rewrite_law.proofs.Walks.{BoxAt, in_a_slot, in_a_cell, one_hop as walk_hop}
+use Rattle.wait_law.specs.Below.fr_base.declared.name.ObjNo.{ObjNo}
+use Rattle.wait_law.specs.Below.global_addr.Words.{server_of}
+use Rattle.wait_law.specs.Below.heap_partition.declared.value.BoxPtr.{BoxPtr}
+use Rattle.wait_law.specs.Below.heap_partition.declared.value.Cell.{Cell}
+use Rattle.wait_law.specs.Below.heap_partition.declared.value.Owned.TheVariants as owned
+use Rattle.wait_law.specs.Below.mut_borrow.declared.mutable.MutRef.{MutRef}
+use Rattle.wait_law.specs.Below.owner_box.View.{PartitionState}
+use Rattle.wait_law.specs.Below.journal.declared.act.Act.TheVariants as act
+use Rattle.wait_law.specs.Below.thread_state.View.{ThreadState}
+use Rattle.wait_law.specs.Below.thread_state.declared.value.Value.{Value}
+use Rattle.wait_law.specs.Below.thread_state.declared.value.Value.TheVariants as value
+use Rattle.wait_law.specs.Below.server_msgs.declared.message.Message.TheVariants as message
+use Rattle.wait_law.specs.Below.place_walk.declared.hop.Hop.TheVariants as jump
+use Rattle.wait_law.specs.Below.place_walk.Hops.{write_hop}
+use Rattle.wait_law.specs.Below.server_model.Servers.{Rest, Server, Cluster, server_at}
+use Rattle.wait_law.specs.Below.server_model.Work.{Hand, thread_in}
+use Rattle.wait_law.specs.Below.server_model.NewWords.{issue_colour}
+use Rattle.wait_law.specs.Below.server_model.Places.{Spot, in_slot, in_cell, value_in, value_at, load_at, pointer_of}
+use Rattle.wait_law.specs.Below.server_model.Prepare.{Prepared, ready, requested, nothing, and_then, ask_object, box_of, local, passing, box_ready, write_by, pass_by, write_value, write_star, write_stars}
+use Rattle.wait_law.specs.Below.heap_law.Things.{Location, at_slot, in_cell as in_object}
+use Rattle.wait_law.specs.Below.heap_law.Follow.{value_in as value_there}
+use Rattle.wait_law.specs.Below.heap_law.Sight.{sight}
+use Rattle.wait_law.specs.Below.type_law.ClusterTypes.{IsCoherent}
+use Rattle.wait_law.proofs.Below.path_law.Sole.{some_is}
+use Rattle.through_law.proofs.Below.word_law.Tints.{slot_stands}
+use Rattle.wait_law.proofs.Below.local_law.Mail.{mail_sent}
+use Rattle.wait_law.proofs.Below.local_law.Messages.{Light}
+use Rattle.through_law.proofs.Below.read_law.Homes.{fresh_word}
+use Rattle.through_law.proofs.Below.prepare_law.Hands.{put, places, stands}
+use Rattle.through_law.proofs.Below.write_law.Memory.{Leads, looks}
+use Rattle.through_law.proofs.Below.write_law.Route.{LeadsBy, Hop, by_slot, by_reference, by_box, by_cell, Route, Writing, At, a_slot, a_cell, Fine, hop_star}
+use Rattle.through_law.proofs.Below.rewrite_law.Onward.{IsWritten}
+use Rattle.through_law.proofs.Below.rewrite_law.Passing.{State, loaded, noted, passed}
+use Rattle.through_law.proofs.Below.rewrite_law.Hops.{Walk, Mine, Boxed, cell_stands}
+use Rattle.through_law.proofs.Below.rewrite_law.Walks.{BoxAt, in_a_slot, in_a_cell, one_hop as walk_hop}
 use Rattle.hidden_law.proofs.Below.clean_law.Asked.{asking}
 use Rattle.hidden_law.proofs.Below.fresh_law.Turned.{none_or_idle}
 use Rattle.hidden_law.specs.Hidden.{NoneUnder}
@@ -84,7 +84,7 @@ module _ (k : Cluster) (coherent : IsCoherent k) (s : Server) (here : server_at 
   local_state : (v : Value) (h : Hand) → S h → S (local v h)
   local_state v h g = by (pointer_of v)
     where
-      by : (o : Option BoxPtr) → S (Rattle.server_model.specs.Prepare.hopped (λ p. Rattle.server_model.specs.Work.note (act.Local p.object p.word)) o h)
+      by : (o : Option BoxPtr) → S (Rattle.wait_law.specs.Below.server_model.Prepare.hopped (λ p. Rattle.wait_law.specs.Below.server_model.Work.note (act.Local p.object p.word)) o h)
       by None = g
       by (Some p) = noted k coherent s here t y at (act.Local p.object p.word) h g
 

@@ -1,3 +1,21 @@
 -- What this law stands on, passed on to the laws above it, which need not list that then.
-pub use Rattle.hidden_law.specs as hidden_law
+pub use Rattle.through_law.specs.Below.end_law as end_law
+pub use Rattle.wait_law.specs.Below.event_law as event_law
+pub use Rattle.wait_law.specs.Below.fr_base as fr_base
+pub use Rattle.wait_law.specs.Below.fr_code as fr_code
+pub use Rattle.wait_law.specs.Below.fr_store as fr_store
 pub use Rattle.hidden_law.specs.Below.fresh_law as fresh_law
+pub use Rattle.wait_law.specs.Below.global_addr as global_addr
+pub use Rattle.wait_law.specs.Below.heap_law as heap_law
+pub use Rattle.wait_law.specs.Below.heap_partition as heap_partition
+pub use Rattle.hidden_law.specs as hidden_law
+pub use Rattle.through_law.specs.Below.move_law as move_law
+pub use Rattle.wait_law.specs.Below.mut_borrow as mut_borrow
+pub use Rattle.wait_law.specs.Below.owner_box as owner_box
+pub use Rattle.wait_law.specs.Below.path_law as path_law
+pub use Rattle.through_law.specs.Below.read_law as read_law
+pub use Rattle.wait_law.specs.Below.server_model as server_model
+pub use Rattle.wait_law.specs.Below.server_msgs as server_msgs
+pub use Rattle.wait_law.specs.Below.thread_state as thread_state
+pub use Rattle.wait_law.specs.Below.type_law as type_law
+pub use Rattle.through_law.specs.Below.word_law as word_law

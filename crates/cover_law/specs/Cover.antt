@@ -1,10 +1,10 @@
 -- COPIES STAY PRESENT CELLS at writes through stars (this project's rules).
 use Rattle.std.specs.Prelude.{◌≡◌, ℕ, suc, true}
-use Rattle.fr_base.specs.declared.place.Lval.{Lval}
-use Rattle.fr_base.specs.declared.instruction.Operand.{Operand}
-use Rattle.fr_base.specs.declared.instruction.Instr.TheVariants as instr
-use Rattle.thread_state.specs.View.{ThreadState}
-use Rattle.server_model.specs.Servers.{Server, Cluster}
+use Rattle.wait_law.specs.Below.fr_base.declared.place.Lval.{Lval}
+use Rattle.wait_law.specs.Below.fr_base.declared.instruction.Operand.{Operand}
+use Rattle.wait_law.specs.Below.fr_base.declared.instruction.Instr.TheVariants as instr
+use Rattle.wait_law.specs.Below.thread_state.View.{ThreadState}
+use Rattle.wait_law.specs.Below.server_model.Servers.{Server, Cluster}
 use Rattle.hidden_law.specs.Below.fresh_law.Fresh.{StepLeavesRight}
 
 -- an assignment through so many stars and one, whether it is done or asks for an object on its way, leaves copies that are right

@@ -1,21 +1,21 @@
 -- A box in hand: its object goes, and what was in it comes to the hand.
 use Rattle.std.proofs.Common.{◌≡◌, ◌≢◌, ℕ, true, false, if◌then◌else◌, List, length, Option, Some, None, option_map, refl, sym, ap, ◌∙◌, subst, arith}
-use Rattle.fr_store.proofs.Keys.{object_cases}
-use Rattle.fr_base.specs.declared.name.MutexNo.{MutexNo}
-use Rattle.fr_base.specs.declared.name.ObjNo.{ObjNo}
-use Rattle.fr_plain.specs.Heap.{Heap, made_by, cell_at}
-use Rattle.fr_plain.specs.MachineThreads.{thread_at}
-use Rattle.fr_plain.specs.PlainState.{is_over_in}
-use Rattle.fr_code.specs.Machine.{CodeWhole}
-use Rattle.heap_partition.specs.Plain.{plain_of}
-use Rattle.heap_partition.specs.declared.value.BoxPtr.{BoxPtr}
-use Rattle.heap_partition.specs.declared.value.Owned.{Owned}
-use Rattle.heap_partition.specs.declared.value.Owned.TheVariants as owned
-use Rattle.thread_state.specs.View.{ThreadState}
-use Rattle.server_model.specs.Servers.{Cluster}
-use Rattle.heap_law.specs.Names.{tot, one}
-use Rattle.heap_law.specs.Things.{Thing}
-use Rattle.heap_law.specs.OneHeap.{Node, object_n, mutex_n, task_n, owns, if_in, cell_value, first_shown, object_value, share_in}
+use Rattle.result_law.proofs.Below.fr_store.Keys.{object_cases}
+use Rattle.result_law.specs.Below.fr_base.declared.name.MutexNo.{MutexNo}
+use Rattle.result_law.specs.Below.fr_base.declared.name.ObjNo.{ObjNo}
+use Rattle.result_law.specs.Below.fr_plain.Heap.{Heap, made_by, cell_at}
+use Rattle.result_law.specs.Below.fr_plain.MachineThreads.{thread_at}
+use Rattle.result_law.specs.Below.fr_plain.PlainState.{is_over_in}
+use Rattle.result_law.specs.Below.fr_code.Machine.{CodeWhole}
+use Rattle.result_law.specs.Below.heap_partition.Plain.{plain_of}
+use Rattle.result_law.specs.Below.heap_partition.declared.value.BoxPtr.{BoxPtr}
+use Rattle.result_law.specs.Below.heap_partition.declared.value.Owned.{Owned}
+use Rattle.result_law.specs.Below.heap_partition.declared.value.Owned.TheVariants as owned
+use Rattle.result_law.specs.Below.thread_state.View.{ThreadState}
+use Rattle.result_law.specs.Below.server_model.Servers.{Cluster}
+use Rattle.result_law.specs.Below.heap_law.Names.{tot, one}
+use Rattle.result_law.specs.Below.heap_law.Things.{Thing}
+use Rattle.result_law.specs.Below.heap_law.OneHeap.{Node, object_n, mutex_n, task_n, owns, if_in, cell_value, first_shown, object_value, share_in}
 use Rattle.drop_law.proofs.Under.{under}
 use Rattle.drop_law.proofs.InHand as held
 use Rattle.drop_law.proofs.HandState as shows

@@ -1,19 +1,19 @@
 -- A value that is to be dropped, in hand: what is known of it and of the others, and that the same is known of what comes to the hand next.
 use Rattle.std.proofs.Common.{◌≡◌, ℕ, ◌<◌, ◌≤◌, Bool, true, false, List, [], ◌∷◌, Option, Some, None, option_map, ap, ◌∙◌, arith}
-use Rattle.fr_plain.specs.PlainState.{SameState, plain_state}
-use Rattle.fr_code.specs.Machine.{CodeWhole}
-use Rattle.heap_partition.specs.Plain.{plain_of}
-use Rattle.heap_partition.specs.declared.value.Owned.{Owned}
-use Rattle.thread_state.specs.View.{ThreadState, is_over as thread_over}
-use Rattle.server_model.specs.Servers.{Cluster}
-use Rattle.heap_law.specs.Names.{tot, one, if_so}
-use Rattle.heap_law.specs.Things.{Thing}
-use Rattle.heap_law.specs.Follow.{Standing, threads_in, thread_at as standing_at}
-use Rattle.heap_law.specs.Sight.{Sight}
-use Rattle.heap_law.specs.OneHeap.{Node, object_n, mutex_n, task_n, owner_of, owns, names, first_shown, result_value, is_given_thread, state_of}
-use Rattle.still_law.specs.Shows.{held_branch}
-use Rattle.still_law.proofs.Counting.{stray}
-use Rattle.lock_law.proofs.OneNode.{owned_under}
+use Rattle.result_law.specs.Below.fr_plain.PlainState.{SameState, plain_state}
+use Rattle.result_law.specs.Below.fr_code.Machine.{CodeWhole}
+use Rattle.result_law.specs.Below.heap_partition.Plain.{plain_of}
+use Rattle.result_law.specs.Below.heap_partition.declared.value.Owned.{Owned}
+use Rattle.result_law.specs.Below.thread_state.View.{ThreadState, is_over as thread_over}
+use Rattle.result_law.specs.Below.server_model.Servers.{Cluster}
+use Rattle.result_law.specs.Below.heap_law.Names.{tot, one, if_so}
+use Rattle.result_law.specs.Below.heap_law.Things.{Thing}
+use Rattle.result_law.specs.Below.heap_law.Follow.{Standing, threads_in, thread_at as standing_at}
+use Rattle.result_law.specs.Below.heap_law.Sight.{Sight}
+use Rattle.result_law.specs.Below.heap_law.OneHeap.{Node, object_n, mutex_n, task_n, owner_of, owns, names, first_shown, result_value, is_given_thread, state_of}
+use Rattle.task_law.specs.Below.still_law.Shows.{held_branch}
+use Rattle.task_law.proofs.Below.still_law.Counting.{stray}
+use Rattle.task_law.proofs.Below.lock_law.OneNode.{owned_under}
 use Rattle.drop_law.proofs.Under.{owned_by, under, stands_under, under_names, shown_by, under_counts, first_under}
 use Rattle.drop_law.proofs.InHand as held
 use Rattle.drop_law.proofs.InHand.{named_by_none}

@@ -1,34 +1,34 @@
 -- Each of the instructions that drop a value, whatever is dropped.
 use Rattle.std.proofs.Common.{◌≡◌, ℕ, ◌==◌, true, length, Option, Some, None, option_map, refl, sym, ap, ◌∙◌, subst}
 use Rattle.std.specs.Prelude.{◌-◌, slice_get}
-use Rattle.fr_typing.proofs.PlaceLemmas.{eq_cases}
-use Rattle.fr_base.specs.Lists.{last_of}
-use Rattle.fr_base.specs.declared.place.Lval.{Lval}
-use Rattle.fr_base.specs.declared.instruction.Operand.{Operand}
-use Rattle.fr_base.specs.declared.instruction.Instr.{Instr}
-use Rattle.fr_base.specs.declared.instruction.Instr.TheVariants as instr
-use Rattle.heap_partition.specs.declared.value.Owned.{Owned}
-use Rattle.thread_state.specs.View.{ThreadState}
-use Rattle.thread_state.specs.declared.value.Value.{Value}
-use Rattle.thread_state.specs.declared.value.Value.TheVariants as value
-use Rattle.server_model.specs.declared.event.Event.{Event}
-use Rattle.server_model.specs.declared.event.What.{What}
-use Rattle.server_model.specs.declared.event.What.TheVariants.{Step, Deliver, Evict, Migrate}
-use Rattle.server_model.specs.Servers.{Server, Cluster, server_at}
-use Rattle.server_model.specs.Work.{Hand, Popped, pop, front_of, with_slots, with_temps, then_some, thread_in}
-use Rattle.server_model.specs.Places.{put_slot, nowhere, in_slot, on_top}
-use Rattle.server_model.specs.Prepare.{prepare, ending}
-use Rattle.server_model.specs.Drop.{drop_value}
-use Rattle.server_model.specs.Commit.{goes_on, label_dropped, replace_slot}
-use Rattle.server_model.specs.Events.{Stepped, stepped, begin_work, committed, prepared, step}
-use Rattle.server_model.specs.Clusters.{hand_over_newer, apply}
-use Rattle.heap_law.specs.Coherent.{IsSound}
-use Rattle.event_law.specs.Laws.{Gives, FewEvents}
-use Rattle.turn_law.specs.Turns.{IsPlainStep, instr_at, instr_of, ArePlainSteps, none_goes, thread_at, thread_of}
-use Rattle.turn_law.proofs.Clauses.{same_thread}
-use Rattle.turn_law.proofs.Clauses as turns
-use Rattle.turn_law.proofs.Instructions.{PopsTo, itself as same_value, popped}
-use Rattle.turn_law.proofs.Events.{Sends, events_are_plain}
+use Rattle.result_law.proofs.Below.fr_typing.PlaceLemmas.{eq_cases}
+use Rattle.result_law.specs.Below.fr_base.Lists.{last_of}
+use Rattle.result_law.specs.Below.fr_base.declared.place.Lval.{Lval}
+use Rattle.result_law.specs.Below.fr_base.declared.instruction.Operand.{Operand}
+use Rattle.result_law.specs.Below.fr_base.declared.instruction.Instr.{Instr}
+use Rattle.result_law.specs.Below.fr_base.declared.instruction.Instr.TheVariants as instr
+use Rattle.result_law.specs.Below.heap_partition.declared.value.Owned.{Owned}
+use Rattle.result_law.specs.Below.thread_state.View.{ThreadState}
+use Rattle.result_law.specs.Below.thread_state.declared.value.Value.{Value}
+use Rattle.result_law.specs.Below.thread_state.declared.value.Value.TheVariants as value
+use Rattle.result_law.specs.Below.server_model.declared.event.Event.{Event}
+use Rattle.result_law.specs.Below.server_model.declared.event.What.{What}
+use Rattle.result_law.specs.Below.server_model.declared.event.What.TheVariants.{Step, Deliver, Evict, Migrate}
+use Rattle.result_law.specs.Below.server_model.Servers.{Server, Cluster, server_at}
+use Rattle.result_law.specs.Below.server_model.Work.{Hand, Popped, pop, front_of, with_slots, with_temps, then_some, thread_in}
+use Rattle.result_law.specs.Below.server_model.Places.{put_slot, nowhere, in_slot, on_top}
+use Rattle.result_law.specs.Below.server_model.Prepare.{prepare, ending}
+use Rattle.result_law.specs.Below.server_model.Drop.{drop_value}
+use Rattle.result_law.specs.Below.server_model.Commit.{goes_on, label_dropped, replace_slot}
+use Rattle.result_law.specs.Below.server_model.Events.{Stepped, stepped, begin_work, committed, prepared, step}
+use Rattle.result_law.specs.Below.server_model.Clusters.{hand_over_newer, apply}
+use Rattle.result_law.specs.Below.heap_law.Coherent.{IsSound}
+use Rattle.result_law.specs.Below.event_law.Laws.{Gives, FewEvents}
+use Rattle.task_law.specs.Below.turn_law.Turns.{IsPlainStep, instr_at, instr_of, ArePlainSteps, none_goes, thread_at, thread_of}
+use Rattle.task_law.proofs.Below.turn_law.Clauses.{same_thread}
+use Rattle.task_law.proofs.Below.turn_law.Clauses as turns
+use Rattle.task_law.proofs.Below.turn_law.Instructions.{PopsTo, itself as same_value, popped}
+use Rattle.task_law.proofs.Below.turn_law.Events.{Sends, events_are_plain}
 use Rattle.drop_law.specs.Drops.{discards as is_discard, drops_slot, assigns_variable}
 use Rattle.drop_law.proofs.DropLines.{discard_line, drop_line, variable, assign_line}
 

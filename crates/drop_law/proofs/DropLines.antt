@@ -1,69 +1,69 @@
 -- A step that drops an owned value, whatever it owns, at the server and on the plain machine.
 use Rattle.std.proofs.Common.{◌≡◌, ℕ, ◌+◌, true, false, List, [], ◌∷◌, ◌++◌, length, Option, Some, None, option_map, refl, sym, ap, ap₂, subst, ◌∙◌, arith}
 use Rattle.std.specs.Prelude.{◌-◌, slice_get, slice_set, nat_lt, Bool, if◌then◌else◌}
-use Rattle.fr_base.specs.Lists.{last_of}
-use Rattle.fr_base.specs.declared.label.Label.{Label}
-use Rattle.fr_base.specs.declared.release.Released.TheVariants as released
-use Rattle.fr_base.specs.declared.step.Fresh.TheVariants as fresh
-use Rattle.fr_base.specs.declared.instruction.Instr.{Instr}
-use Rattle.fr_base.specs.declared.instruction.Instr.TheVariants as instr
-use Rattle.fr_plain.specs.declared.value.Value.{Value as PlainValue}
-use Rattle.fr_plain.specs.declared.value.Value.TheVariants as plain_v
-use Rattle.fr_base.specs.declared.place.Lval.{Lval}
-use Rattle.fr_base.specs.declared.instruction.Operand.{Operand}
-use Rattle.fr_plain.specs.State.{drops, without, slot_at}
-use Rattle.fr_plain.specs.State.{in_slot as state_slot}
-use Rattle.fr_plain.specs.MachineActs.{Did, assign_did, end_of_some, do_assign, act as act_of, drops_last, do_discard, do_drop, end_of, unit}
-use Rattle.fr_plain.specs.MachineThreads.{going}
-use Rattle.fr_plain.specs.Machine.{done_act, alone_stepped, step_of}
-use Rattle.fr_plain.specs.PlainState.{SameState, plain_state}
-use Rattle.fr_code.specs.Machine.{CodeWhole, CodeRunning}
-use Rattle.fr_code.specs.Steps.{Place, CodeAct, code_moves, over_at, run_instr, quiet}
-use Rattle.global_addr.specs.Words.{server_of}
-use Rattle.heap_partition.specs.Plain.{plain_of}
-use Rattle.heap_partition.specs.declared.value.Owned.{Owned}
-use Rattle.heap_partition.specs.declared.value.Owned.TheVariants as owned
-use Rattle.read_cache.specs.Cache.{Copy}
-use Rattle.migration.specs.Packing.{unpin_all}
-use Rattle.thread_state.specs.View.{ThreadState}
-use Rattle.thread_state.specs.declared.value.Value.{Value}
-use Rattle.thread_state.specs.declared.value.Value.TheVariants as value
-use Rattle.journal.specs.declared.act.Act.TheVariants as act
-use Rattle.server_msgs.specs.declared.message.Message.TheVariants as message
-use Rattle.server_model.specs.declared.event.Event.{Event}
-use Rattle.server_model.specs.Servers.{Server, Cluster}
-use Rattle.server_model.specs.Work.{Work, Hand, Popped, pop, note, label_all, front_of, with_slots, with_temps, with_cache, then_some}
-use Rattle.server_model.specs.Places.{put_slot, nowhere, in_slot, on_top}
-use Rattle.server_model.specs.Prepare.{prepare, ending}
-use Rattle.server_model.specs.Drop.{home_of, give_up, drop_labels, drop_value}
-use Rattle.server_model.specs.Commit.{goes_on, go_on, label_dropped, replace_slot}
-use Rattle.server_model.specs.Events.{Stepped, stepped, begin_work, committed, prepared, step}
-use Rattle.heap_law.specs.Names.{one}
-use Rattle.heap_law.specs.Things.{Thing}
-use Rattle.heap_law.specs.Sight.{Sight}
-use Rattle.heap_law.specs.Requests.{is_par_end}
-use Rattle.heap_law.specs.OneHeap.{Node, plain_value, owns, running_at, one_heap, state_of}
-use Rattle.heap_law.specs.Coherent.{IsSound}
-use Rattle.event_law.specs.Laws.{Gives}
-use Rattle.event_law.proofs.Bags.{counts_of, rest_things}
-use Rattle.event_law.proofs.GiftsTaken.{gift_fits}
-use Rattle.event_law.proofs.Values.{last_split}
-use Rattle.still_law.proofs.Readied.{copies_ready}
-use Rattle.still_law.proofs.Sites.{shown, Moves, sends}
-use Rattle.turn_law.specs.Turns.{StepsTo, IsPlainStep}
-use Rattle.turn_law.proofs.Parts.{owned_in}
-use Rattle.turn_law.proofs.OneTurn.{Calm, Going, after}
-use Rattle.turn_law.proofs.PlainTurn.{thread_as, state_at}
-use Rattle.turn_law.proofs.Instructions.{shown_last, shown_push, owned_push, Pops, PopsTo, itself as same_value, popped}
-use Rattle.turn_law.proofs.Events.{AtStep, Sends, then_same}
-use Rattle.path_law.proofs.Shown.{shown_value}
-use Rattle.turn_law.proofs.SlotReads.{set_shown}
-use Rattle.turn_law.proofs.DropLines.{set_owned}
-use Rattle.lock_law.proofs.Changed as changed
-use Rattle.lock_law.proofs.DupLines.{running_to}
-use Rattle.lock_law.proofs.OneThread.{GoesOn}
-use Rattle.lock_law.proofs.PlainMutex.{found, move_as}
-use Rattle.lock_law.proofs.ThreadTurns.{ThreadTurn, Next, is_step}
+use Rattle.result_law.specs.Below.fr_base.Lists.{last_of}
+use Rattle.result_law.specs.Below.fr_base.declared.label.Label.{Label}
+use Rattle.result_law.specs.Below.fr_base.declared.release.Released.TheVariants as released
+use Rattle.result_law.specs.Below.fr_base.declared.step.Fresh.TheVariants as fresh
+use Rattle.result_law.specs.Below.fr_base.declared.instruction.Instr.{Instr}
+use Rattle.result_law.specs.Below.fr_base.declared.instruction.Instr.TheVariants as instr
+use Rattle.result_law.specs.Below.fr_plain.declared.value.Value.{Value as PlainValue}
+use Rattle.result_law.specs.Below.fr_plain.declared.value.Value.TheVariants as plain_v
+use Rattle.result_law.specs.Below.fr_base.declared.place.Lval.{Lval}
+use Rattle.result_law.specs.Below.fr_base.declared.instruction.Operand.{Operand}
+use Rattle.result_law.specs.Below.fr_plain.State.{drops, without, slot_at}
+use Rattle.result_law.specs.Below.fr_plain.State.{in_slot as state_slot}
+use Rattle.result_law.specs.Below.fr_plain.MachineActs.{Did, assign_did, end_of_some, do_assign, act as act_of, drops_last, do_discard, do_drop, end_of, unit}
+use Rattle.result_law.specs.Below.fr_plain.MachineThreads.{going}
+use Rattle.result_law.specs.Below.fr_plain.Machine.{done_act, alone_stepped, step_of}
+use Rattle.result_law.specs.Below.fr_plain.PlainState.{SameState, plain_state}
+use Rattle.result_law.specs.Below.fr_code.Machine.{CodeWhole, CodeRunning}
+use Rattle.result_law.specs.Below.fr_code.Steps.{Place, CodeAct, code_moves, over_at, run_instr, quiet}
+use Rattle.result_law.specs.Below.global_addr.Words.{server_of}
+use Rattle.result_law.specs.Below.heap_partition.Plain.{plain_of}
+use Rattle.result_law.specs.Below.heap_partition.declared.value.Owned.{Owned}
+use Rattle.result_law.specs.Below.heap_partition.declared.value.Owned.TheVariants as owned
+use Rattle.result_law.specs.Below.read_cache.Cache.{Copy}
+use Rattle.result_law.specs.Below.migration.Packing.{unpin_all}
+use Rattle.result_law.specs.Below.thread_state.View.{ThreadState}
+use Rattle.result_law.specs.Below.thread_state.declared.value.Value.{Value}
+use Rattle.result_law.specs.Below.thread_state.declared.value.Value.TheVariants as value
+use Rattle.result_law.specs.Below.journal.declared.act.Act.TheVariants as act
+use Rattle.result_law.specs.Below.server_msgs.declared.message.Message.TheVariants as message
+use Rattle.result_law.specs.Below.server_model.declared.event.Event.{Event}
+use Rattle.result_law.specs.Below.server_model.Servers.{Server, Cluster}
+use Rattle.result_law.specs.Below.server_model.Work.{Work, Hand, Popped, pop, note, label_all, front_of, with_slots, with_temps, with_cache, then_some}
+use Rattle.result_law.specs.Below.server_model.Places.{put_slot, nowhere, in_slot, on_top}
+use Rattle.result_law.specs.Below.server_model.Prepare.{prepare, ending}
+use Rattle.result_law.specs.Below.server_model.Drop.{home_of, give_up, drop_labels, drop_value}
+use Rattle.result_law.specs.Below.server_model.Commit.{goes_on, go_on, label_dropped, replace_slot}
+use Rattle.result_law.specs.Below.server_model.Events.{Stepped, stepped, begin_work, committed, prepared, step}
+use Rattle.result_law.specs.Below.heap_law.Names.{one}
+use Rattle.result_law.specs.Below.heap_law.Things.{Thing}
+use Rattle.result_law.specs.Below.heap_law.Sight.{Sight}
+use Rattle.result_law.specs.Below.heap_law.Requests.{is_par_end}
+use Rattle.result_law.specs.Below.heap_law.OneHeap.{Node, plain_value, owns, running_at, one_heap, state_of}
+use Rattle.result_law.specs.Below.heap_law.Coherent.{IsSound}
+use Rattle.result_law.specs.Below.event_law.Laws.{Gives}
+use Rattle.result_law.proofs.Below.event_law.Bags.{counts_of, rest_things}
+use Rattle.result_law.proofs.Below.event_law.GiftsTaken.{gift_fits}
+use Rattle.result_law.proofs.Below.event_law.Values.{last_split}
+use Rattle.task_law.proofs.Below.still_law.Readied.{copies_ready}
+use Rattle.task_law.proofs.Below.still_law.Sites.{shown, Moves, sends}
+use Rattle.task_law.specs.Below.turn_law.Turns.{StepsTo, IsPlainStep}
+use Rattle.task_law.proofs.Below.turn_law.Parts.{owned_in}
+use Rattle.task_law.proofs.Below.turn_law.OneTurn.{Calm, Going, after}
+use Rattle.task_law.proofs.Below.turn_law.PlainTurn.{thread_as, state_at}
+use Rattle.task_law.proofs.Below.turn_law.Instructions.{shown_last, shown_push, owned_push, Pops, PopsTo, itself as same_value, popped}
+use Rattle.task_law.proofs.Below.turn_law.Events.{AtStep, Sends, then_same}
+use Rattle.result_law.proofs.Below.path_law.Shown.{shown_value}
+use Rattle.task_law.proofs.Below.turn_law.SlotReads.{set_shown}
+use Rattle.task_law.proofs.Below.turn_law.DropLines.{set_owned}
+use Rattle.task_law.proofs.Below.lock_law.Changed as changed
+use Rattle.task_law.proofs.Below.lock_law.DupLines.{running_to}
+use Rattle.task_law.proofs.Below.lock_law.OneThread.{GoesOn}
+use Rattle.task_law.proofs.Below.lock_law.PlainMutex.{found, move_as}
+use Rattle.task_law.proofs.Below.lock_law.ThreadTurns.{ThreadTurn, Next, is_step}
 use Rattle.drop_law.proofs.Carrying.{Carries}
 use Rattle.drop_law.proofs.Dropped.{drop_shows}
 use Rattle.drop_law.proofs.PlainDrop.{goes_first, drops_then, first_shows}

@@ -2,25 +2,25 @@
 -- same way.
 use Rattle.std.proofs.Common.{◌≡◌, ℕ, ℤ, zero, suc, ◌+◌, ◌≤◌, Bool, true, false, List, Option, Some, None, option_map, refl, sym, ap, ◌∙◌, subst, arith}
 use Rattle.std.specs.Prelude.{⊤}
-use Rattle.fr_base.specs.declared.name.MutexNo.{MutexNo}
-use Rattle.fr_base.specs.declared.name.ObjNo.{ObjNo}
-use Rattle.fr_base.specs.declared.label.Plain.{Plain}
-use Rattle.fr_base.specs.declared.label.Plain.TheVariants as plain
-use Rattle.fr_plain.specs.declared.value.Value.TheVariants.{Own}
-use Rattle.fr_plain.specs.Heap.{Heap, cell_at, with_cell, live, then_drop, drop_links, then_link, last_link}
-use Rattle.fr_plain.specs.MachineThreads.{alive, over, owing, ended, Shared, thread_at, with_thread, with_life, mutex_there, with_mutex, value_gone, thread_released, thread_released_in, content_gone, share_gone, share_released, release_by, count_both, dropped}
-use Rattle.fr_plain.proofs.HeapLemmas.{live_made, live_falls, cell_same, cell_other, made_kept}
-use Rattle.fr_plain.proofs.ByName.{found_number}
-use Rattle.fr_code.specs.Machine.{CodeLife, CodeThread, CodeWhole}
-use Rattle.heap_partition.specs.Plain.{plain_of}
-use Rattle.heap_partition.specs.declared.value.BoxPtr.{BoxPtr}
-use Rattle.heap_partition.specs.declared.value.Owned.{Owned}
-use Rattle.heap_partition.specs.declared.value.Owned.TheVariants as owned
-use Rattle.thread_state.specs.View.{ThreadState}
-use Rattle.server_model.specs.Servers.{Cluster}
-use Rattle.heap_law.specs.Names.{one}
-use Rattle.heap_law.specs.Things.{Thing}
-use Rattle.heap_law.specs.OneHeap.{Node, object_n, mutex_n, task_n, owns}
+use Rattle.result_law.specs.Below.fr_base.declared.name.MutexNo.{MutexNo}
+use Rattle.result_law.specs.Below.fr_base.declared.name.ObjNo.{ObjNo}
+use Rattle.result_law.specs.Below.fr_base.declared.label.Plain.{Plain}
+use Rattle.result_law.specs.Below.fr_base.declared.label.Plain.TheVariants as plain
+use Rattle.result_law.specs.Below.fr_plain.declared.value.Value.TheVariants.{Own}
+use Rattle.result_law.specs.Below.fr_plain.Heap.{Heap, cell_at, with_cell, live, then_drop, drop_links, then_link, last_link}
+use Rattle.result_law.specs.Below.fr_plain.MachineThreads.{alive, over, owing, ended, Shared, thread_at, with_thread, with_life, mutex_there, with_mutex, value_gone, thread_released, thread_released_in, content_gone, share_gone, share_released, release_by, count_both, dropped}
+use Rattle.result_law.proofs.Below.fr_plain.HeapLemmas.{live_made, live_falls, cell_same, cell_other, made_kept}
+use Rattle.result_law.proofs.Below.fr_plain.ByName.{found_number}
+use Rattle.result_law.specs.Below.fr_code.Machine.{CodeLife, CodeThread, CodeWhole}
+use Rattle.result_law.specs.Below.heap_partition.Plain.{plain_of}
+use Rattle.result_law.specs.Below.heap_partition.declared.value.BoxPtr.{BoxPtr}
+use Rattle.result_law.specs.Below.heap_partition.declared.value.Owned.{Owned}
+use Rattle.result_law.specs.Below.heap_partition.declared.value.Owned.TheVariants as owned
+use Rattle.result_law.specs.Below.thread_state.View.{ThreadState}
+use Rattle.result_law.specs.Below.server_model.Servers.{Cluster}
+use Rattle.result_law.specs.Below.heap_law.Names.{one}
+use Rattle.result_law.specs.Below.heap_law.Things.{Thing}
+use Rattle.result_law.specs.Below.heap_law.OneHeap.{Node, object_n, mutex_n, task_n, owns}
 use Rattle.drop_types.proofs.Left.{mutexes_left, mutex_falls, mutex_here}
 use Rattle.drop_law.proofs.PlainLeft.{unless_over, threads_left, thread_falls, thread_there, left_bounded}
 use Rattle.drop_law.proofs.Under.{under}

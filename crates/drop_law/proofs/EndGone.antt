@@ -1,62 +1,62 @@
 -- The end of main, or of a thread that was let go, at the server and on the plain machine: its result is dropped.
 use Rattle.std.proofs.Common.{◌≡◌, ◌≢◌, ◌⊎◌, inl, inr, ℕ, zero, suc, ◌+◌, ◌==◌, ◌||◌, not, Bool, true, false, if◌then◌else◌, List, [], ◌∷◌, ◌++◌, Option, Some, None, option_map, refl, sym, ap, ap₂, subst, ◌∙◌, arith}
 use Rattle.std.specs.Prelude.{slice_get}
-use Rattle.fr_typing.proofs.PlaceLemmas.{eq_cases}
-use Rattle.fr_base.specs.declared.label.Label.TheVariants as label
-use Rattle.fr_base.specs.declared.release.Released.TheVariants as released
-use Rattle.fr_base.specs.declared.step.Fresh.TheVariants as fresh
-use Rattle.fr_base.specs.declared.instruction.Operand.{Operand}
-use Rattle.fr_base.specs.declared.instruction.Instr.{Instr}
-use Rattle.fr_base.specs.declared.instruction.Instr.TheVariants as instr
-use Rattle.fr_plain.specs.declared.value.Value.{Value as PlainValue}
-use Rattle.fr_plain.specs.declared.value.Value.TheVariants as plain_v
-use Rattle.fr_plain.specs.MachineThreads.{Move, on_value, dropped}
-use Rattle.fr_plain.specs.Machine.{step_of}
-use Rattle.fr_plain.specs.PlainState.{SameState, plain_state}
-use Rattle.fr_code.specs.Machine.{CodeLife, CodeWhole}
-use Rattle.fr_code.specs.Steps.{Place, code_moves, over_at}
-use Rattle.global_addr.specs.Words.{server_of}
-use Rattle.heap_partition.specs.Plain.{plain_of}
-use Rattle.heap_partition.specs.declared.value.Owned.{Owned}
-use Rattle.heap_partition.specs.declared.value.Owned.TheVariants as owned
-use Rattle.read_cache.specs.Cache.{Copy}
-use Rattle.migration.specs.Packing.{unpin_all}
-use Rattle.thread_state.specs.View.{ThreadState}
-use Rattle.thread_state.specs.declared.phase.Phase.TheVariants as phase
-use Rattle.thread_state.specs.declared.value.Value.{Value}
-use Rattle.thread_state.specs.declared.value.Value.TheVariants as value
-use Rattle.journal.specs.declared.act.Act.TheVariants as act
-use Rattle.server_msgs.specs.declared.message.Message.TheVariants as message
-use Rattle.server_model.specs.declared.event.Event.{Event}
-use Rattle.server_model.specs.Servers.{Server, Cluster}
-use Rattle.server_model.specs.Work.{Hand, Work, Popped, send, note, label_all, working, with_phase, with_temps, with_cache, pop_owned, then_some}
-use Rattle.server_model.specs.Drop.{home_of, give_up, drop_labels}
-use Rattle.server_model.specs.Commit.{done_where, end_with}
-use Rattle.server_model.specs.Events.{Stepped, stepped, begin_work, committed, step}
-use Rattle.heap_law.specs.Names.{one, some}
-use Rattle.heap_law.specs.Things.{Thing, holds, as_result, things_of}
-use Rattle.heap_law.specs.Sight.{Sight, sight, with_things}
-use Rattle.heap_law.specs.OneHeap.{Node, task_n, owns, is_in_state, in_pair_of, is_branch, if_in, running_at, one_heap, state_of}
-use Rattle.heap_law.specs.Coherent.{IsSound}
-use Rattle.event_law.specs.Laws.{Gives}
-use Rattle.event_law.proofs.Bags.{counts_of, had_by, rest_things}
-use Rattle.event_law.proofs.Results.{both_give}
-use Rattle.still_law.specs.Shows.{sign_of}
-use Rattle.still_law.proofs.Alike.{same_nodes}
-use Rattle.still_law.proofs.Counting.{no_stray_in}
-use Rattle.still_law.proofs.Once.{shown_once}
-use Rattle.still_law.proofs.Readied.{copies_ready}
-use Rattle.still_law.proofs.Sites.{shown, Moves, sends}
-use Rattle.turn_law.specs.Turns.{StepsTo, IsPlainStep}
-use Rattle.turn_law.proofs.Parts.{owned_in}
-use Rattle.turn_law.proofs.OneTurn.{as_main, as_loose, as_owing, going_of}
-use Rattle.turn_law.proofs.Instructions.{shown_last, Pops, PopsTo}
-use Rattle.turn_law.proofs.Clauses.{same_thread}
-use Rattle.turn_law.proofs.Events.{AtStep, Sends, events_are, then_same}
-use Rattle.lock_law.proofs.Beside.{giftless}
-use Rattle.lock_law.proofs.Changed as changed
-use Rattle.lock_law.proofs.NewLines.{popped_owned}
-use Rattle.lock_law.proofs.ThreadTurns.{then_there, ThreadTurn, Next, is_step}
+use Rattle.result_law.proofs.Below.fr_typing.PlaceLemmas.{eq_cases}
+use Rattle.result_law.specs.Below.fr_base.declared.label.Label.TheVariants as label
+use Rattle.result_law.specs.Below.fr_base.declared.release.Released.TheVariants as released
+use Rattle.result_law.specs.Below.fr_base.declared.step.Fresh.TheVariants as fresh
+use Rattle.result_law.specs.Below.fr_base.declared.instruction.Operand.{Operand}
+use Rattle.result_law.specs.Below.fr_base.declared.instruction.Instr.{Instr}
+use Rattle.result_law.specs.Below.fr_base.declared.instruction.Instr.TheVariants as instr
+use Rattle.result_law.specs.Below.fr_plain.declared.value.Value.{Value as PlainValue}
+use Rattle.result_law.specs.Below.fr_plain.declared.value.Value.TheVariants as plain_v
+use Rattle.result_law.specs.Below.fr_plain.MachineThreads.{Move, on_value, dropped}
+use Rattle.result_law.specs.Below.fr_plain.Machine.{step_of}
+use Rattle.result_law.specs.Below.fr_plain.PlainState.{SameState, plain_state}
+use Rattle.result_law.specs.Below.fr_code.Machine.{CodeLife, CodeWhole}
+use Rattle.result_law.specs.Below.fr_code.Steps.{Place, code_moves, over_at}
+use Rattle.result_law.specs.Below.global_addr.Words.{server_of}
+use Rattle.result_law.specs.Below.heap_partition.Plain.{plain_of}
+use Rattle.result_law.specs.Below.heap_partition.declared.value.Owned.{Owned}
+use Rattle.result_law.specs.Below.heap_partition.declared.value.Owned.TheVariants as owned
+use Rattle.result_law.specs.Below.read_cache.Cache.{Copy}
+use Rattle.result_law.specs.Below.migration.Packing.{unpin_all}
+use Rattle.result_law.specs.Below.thread_state.View.{ThreadState}
+use Rattle.result_law.specs.Below.thread_state.declared.phase.Phase.TheVariants as phase
+use Rattle.result_law.specs.Below.thread_state.declared.value.Value.{Value}
+use Rattle.result_law.specs.Below.thread_state.declared.value.Value.TheVariants as value
+use Rattle.result_law.specs.Below.journal.declared.act.Act.TheVariants as act
+use Rattle.result_law.specs.Below.server_msgs.declared.message.Message.TheVariants as message
+use Rattle.result_law.specs.Below.server_model.declared.event.Event.{Event}
+use Rattle.result_law.specs.Below.server_model.Servers.{Server, Cluster}
+use Rattle.result_law.specs.Below.server_model.Work.{Hand, Work, Popped, send, note, label_all, working, with_phase, with_temps, with_cache, pop_owned, then_some}
+use Rattle.result_law.specs.Below.server_model.Drop.{home_of, give_up, drop_labels}
+use Rattle.result_law.specs.Below.server_model.Commit.{done_where, end_with}
+use Rattle.result_law.specs.Below.server_model.Events.{Stepped, stepped, begin_work, committed, step}
+use Rattle.result_law.specs.Below.heap_law.Names.{one, some}
+use Rattle.result_law.specs.Below.heap_law.Things.{Thing, holds, as_result, things_of}
+use Rattle.result_law.specs.Below.heap_law.Sight.{Sight, sight, with_things}
+use Rattle.result_law.specs.Below.heap_law.OneHeap.{Node, task_n, owns, is_in_state, in_pair_of, is_branch, if_in, running_at, one_heap, state_of}
+use Rattle.result_law.specs.Below.heap_law.Coherent.{IsSound}
+use Rattle.result_law.specs.Below.event_law.Laws.{Gives}
+use Rattle.result_law.proofs.Below.event_law.Bags.{counts_of, had_by, rest_things}
+use Rattle.result_law.proofs.Below.event_law.Results.{both_give}
+use Rattle.task_law.specs.Below.still_law.Shows.{sign_of}
+use Rattle.task_law.proofs.Below.still_law.Alike.{same_nodes}
+use Rattle.task_law.proofs.Below.still_law.Counting.{no_stray_in}
+use Rattle.task_law.proofs.Below.still_law.Once.{shown_once}
+use Rattle.task_law.proofs.Below.still_law.Readied.{copies_ready}
+use Rattle.task_law.proofs.Below.still_law.Sites.{shown, Moves, sends}
+use Rattle.task_law.specs.Below.turn_law.Turns.{StepsTo, IsPlainStep}
+use Rattle.task_law.proofs.Below.turn_law.Parts.{owned_in}
+use Rattle.task_law.proofs.Below.turn_law.OneTurn.{as_main, as_loose, as_owing, going_of}
+use Rattle.task_law.proofs.Below.turn_law.Instructions.{shown_last, Pops, PopsTo}
+use Rattle.task_law.proofs.Below.turn_law.Clauses.{same_thread}
+use Rattle.task_law.proofs.Below.turn_law.Events.{AtStep, Sends, events_are, then_same}
+use Rattle.task_law.proofs.Below.lock_law.Beside.{giftless}
+use Rattle.task_law.proofs.Below.lock_law.Changed as changed
+use Rattle.task_law.proofs.Below.lock_law.NewLines.{popped_owned}
+use Rattle.task_law.proofs.Below.lock_law.ThreadTurns.{then_there, ThreadTurn, Next, is_step}
 use Rattle.task_law.specs.Tasks.{ends_with}
 use Rattle.task_law.proofs.EndLines.{owned_ends, value_there}
 use Rattle.task_law.proofs.ThreadEnds as thread_ends

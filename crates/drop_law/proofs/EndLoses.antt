@@ -1,36 +1,36 @@
 -- A thread ends whose result nobody will have, and which is in hand then: the thread is over, and all else of the plain state is as it was.
 use Rattle.std.proofs.Common.{◌≡◌, ◌≢◌, ◌⊎◌, inl, inr, ℕ, zero, suc, ◌+◌, ◌||◌, not, Bool, true, false, if◌then◌else◌, List, [], ◌∷◌, Option, Some, None, refl, sym, ap, ap₂, ◌∙◌, arith}
 use Rattle.std.specs.List.{AllByRecursion}
-use Rattle.fr_base.specs.declared.label.Plain.{Plain}
-use Rattle.fr_base.specs.declared.label.Plain.TheVariants as plain
-use Rattle.fr_base.specs.declared.instruction.Operand.{Operand}
-use Rattle.fr_base.specs.declared.instruction.Instr.{Instr}
-use Rattle.fr_base.specs.declared.instruction.Instr.TheVariants as instr
-use Rattle.fr_plain.specs.MachineThreads.{over}
-use Rattle.fr_code.specs.Machine.{CodeRunning}
-use Rattle.heap_partition.specs.Plain.{plain_of}
-use Rattle.heap_partition.specs.declared.value.Owned.{Owned}
-use Rattle.thread_state.specs.View.{ThreadState}
-use Rattle.thread_state.specs.declared.value.Value.{Value}
-use Rattle.server_model.specs.declared.event.Event.{Event}
-use Rattle.server_model.specs.Servers.{Server, Cluster}
-use Rattle.heap_law.specs.Names.{tot, one, some}
-use Rattle.heap_law.specs.Things.{Thing, stands}
-use Rattle.heap_law.specs.Follow.{threads_in, thread_at}
-use Rattle.heap_law.specs.Sight.{Sight}
-use Rattle.heap_law.specs.Naming.{started_at}
-use Rattle.heap_law.specs.OneHeap.{Node, task_n, owns, is_in_state, is_branch, if_in, or_else, first_shown, in_pair_of, branch_result, result_value, result_of, ended_with, running_at, life_of, life_at, made_of, pair_of, is_given_thread, if_given, state_of}
-use Rattle.heap_law.specs.Coherent.{IsSound}
-use Rattle.event_law.proofs.Bags.{counts_of}
-use Rattle.still_law.proofs.Alike.{Once}
-use Rattle.turn_law.proofs.Parts.{Own, owned_in}
-use Rattle.turn_law.proofs.OneTurn.{of_thread, Calm, as_loose, as_owing, going_of, going_is}
-use Rattle.turn_law.proofs.Events.{AtStep}
-use Rattle.lock_law.proofs.Beside.{IsBeside, first_with, tot_of, itself}
-use Rattle.lock_law.proofs.OneThread as one_thread
-use Rattle.lock_law.proofs.OneThread.{none_got, first_alike}
-use Rattle.lock_law.proofs.Changed as changed
-use Rattle.lock_law.proofs.SharedLines.{nothing_under}
+use Rattle.result_law.specs.Below.fr_base.declared.label.Plain.{Plain}
+use Rattle.result_law.specs.Below.fr_base.declared.label.Plain.TheVariants as plain
+use Rattle.result_law.specs.Below.fr_base.declared.instruction.Operand.{Operand}
+use Rattle.result_law.specs.Below.fr_base.declared.instruction.Instr.{Instr}
+use Rattle.result_law.specs.Below.fr_base.declared.instruction.Instr.TheVariants as instr
+use Rattle.result_law.specs.Below.fr_plain.MachineThreads.{over}
+use Rattle.result_law.specs.Below.fr_code.Machine.{CodeRunning}
+use Rattle.result_law.specs.Below.heap_partition.Plain.{plain_of}
+use Rattle.result_law.specs.Below.heap_partition.declared.value.Owned.{Owned}
+use Rattle.result_law.specs.Below.thread_state.View.{ThreadState}
+use Rattle.result_law.specs.Below.thread_state.declared.value.Value.{Value}
+use Rattle.result_law.specs.Below.server_model.declared.event.Event.{Event}
+use Rattle.result_law.specs.Below.server_model.Servers.{Server, Cluster}
+use Rattle.result_law.specs.Below.heap_law.Names.{tot, one, some}
+use Rattle.result_law.specs.Below.heap_law.Things.{Thing, stands}
+use Rattle.result_law.specs.Below.heap_law.Follow.{threads_in, thread_at}
+use Rattle.result_law.specs.Below.heap_law.Sight.{Sight}
+use Rattle.result_law.specs.Below.heap_law.Naming.{started_at}
+use Rattle.result_law.specs.Below.heap_law.OneHeap.{Node, task_n, owns, is_in_state, is_branch, if_in, or_else, first_shown, in_pair_of, branch_result, result_value, result_of, ended_with, running_at, life_of, life_at, made_of, pair_of, is_given_thread, if_given, state_of}
+use Rattle.result_law.specs.Below.heap_law.Coherent.{IsSound}
+use Rattle.result_law.proofs.Below.event_law.Bags.{counts_of}
+use Rattle.task_law.proofs.Below.still_law.Alike.{Once}
+use Rattle.task_law.proofs.Below.turn_law.Parts.{Own, owned_in}
+use Rattle.task_law.proofs.Below.turn_law.OneTurn.{of_thread, Calm, as_loose, as_owing, going_of, going_is}
+use Rattle.task_law.proofs.Below.turn_law.Events.{AtStep}
+use Rattle.task_law.proofs.Below.lock_law.Beside.{IsBeside, first_with, tot_of, itself}
+use Rattle.task_law.proofs.Below.lock_law.OneThread as one_thread
+use Rattle.task_law.proofs.Below.lock_law.OneThread.{none_got, first_alike}
+use Rattle.task_law.proofs.Below.lock_law.Changed as changed
+use Rattle.task_law.proofs.Below.lock_law.SharedLines.{nothing_under}
 use Rattle.task_law.proofs.ThreadEnds as thread_ends
 use Rattle.task_law.proofs.ThreadEnds.{Ends, end_as}
 use Rattle.drop_law.proofs.ThreadLoses as loses

@@ -2,53 +2,53 @@
 use Rattle.std.proofs.Common.{◌≡◌, inl, inr, ℕ, zero, suc, ◌+◌, ◌<◌, ◌≤◌, ◌==◌, ◌||◌, Bool, true, false, List, [], ◌∷◌, length, reverse, Option, Some, None, option_map, refl, sym, ap, subst, ◌∙◌, arith}
 use Rattle.std.proofs.lemmas.Bool.{eqb-true}
 use Rattle.std.specs.Bool.{⊤}
-use Rattle.coloured_heap.proofs.Times.{both}
-use Rattle.fr_base.specs.declared.step.Fresh.TheVariants as fresh
-use Rattle.fr_base.specs.declared.instruction.Operand.{Operand}
-use Rattle.fr_base.specs.declared.instruction.Instr.{Instr}
-use Rattle.fr_base.specs.declared.instruction.Instr.TheVariants as instr
-use Rattle.fr_typing.specs.Kinds.{own, whole, unit}
-use Rattle.fr_code.specs.CodeTypes.{Entry, Table, InstrTypes, i_par_end}
-use Rattle.fr_code.specs.CodeTable.{Leads, Successors, to_next, ends}
-use Rattle.heap_partition.specs.declared.value.Owned.{Owned}
-use Rattle.heap_partition.specs.declared.value.Owned.TheVariants as owned
-use Rattle.join_home.specs.Tasks.{Task, TaskState, going, let_go, kept, asked, in_pair}
-use Rattle.read_cache.specs.Cache.{Copy}
-use Rattle.migration.specs.Packing.{unpin_all}
-use Rattle.thread_state.specs.View.{ThreadState}
-use Rattle.thread_state.specs.declared.phase.Phase.TheVariants as phase
-use Rattle.thread_state.specs.declared.value.Value.{Value}
-use Rattle.thread_state.specs.declared.value.Value.TheVariants as value
-use Rattle.server_model.specs.declared.event.Event.{Event}
-use Rattle.server_model.specs.Servers.{Server, Cluster}
-use Rattle.server_model.specs.Work.{Hand, Popped, with_temps, with_phase, with_cache, pop_owned, then_some}
-use Rattle.server_model.specs.Places.{owns_nothing}
-use Rattle.server_model.specs.Commit.{done_where, end_with}
-use Rattle.server_model.specs.Events.{Stepped, stepped, begin_work, committed}
-use Rattle.server_model.specs.Events.{step as server_step}
-use Rattle.server_model.specs.Clusters.{hand_over_newer, apply}
-use Rattle.heap_law.specs.Names.{tot, one, some, if_so, Among}
-use Rattle.heap_law.specs.Things.{Thing, noted, as_result, things_of}
-use Rattle.heap_law.specs.Sight.{sight}
-use Rattle.heap_law.specs.OneHeap.{Node, task_n, owns, is_in_state, pair_note, in_pair_of, is_branch}
-use Rattle.heap_law.specs.Coherent.{IsSound}
-use Rattle.event_law.specs.Laws.{Gives}
-use Rattle.event_law.proofs.Results.{both_give}
-use Rattle.type_law.specs.Names.{NameTypes, fits, is_there}
-use Rattle.type_law.specs.ClusterTypes.{has_form, temps_wrong, IsCoherent}
-use Rattle.type_law.proofs.Branches.{branches_law}
+use Rattle.result_law.proofs.Below.coloured_heap.Times.{both}
+use Rattle.result_law.specs.Below.fr_base.declared.step.Fresh.TheVariants as fresh
+use Rattle.result_law.specs.Below.fr_base.declared.instruction.Operand.{Operand}
+use Rattle.result_law.specs.Below.fr_base.declared.instruction.Instr.{Instr}
+use Rattle.result_law.specs.Below.fr_base.declared.instruction.Instr.TheVariants as instr
+use Rattle.result_law.specs.Below.fr_typing.Kinds.{own, whole, unit}
+use Rattle.result_law.specs.Below.fr_code.CodeTypes.{Entry, Table, InstrTypes, i_par_end}
+use Rattle.result_law.specs.Below.fr_code.CodeTable.{Leads, Successors, to_next, ends}
+use Rattle.result_law.specs.Below.heap_partition.declared.value.Owned.{Owned}
+use Rattle.result_law.specs.Below.heap_partition.declared.value.Owned.TheVariants as owned
+use Rattle.result_law.specs.Below.join_home.Tasks.{Task, TaskState, going, let_go, kept, asked, in_pair}
+use Rattle.result_law.specs.Below.read_cache.Cache.{Copy}
+use Rattle.result_law.specs.Below.migration.Packing.{unpin_all}
+use Rattle.result_law.specs.Below.thread_state.View.{ThreadState}
+use Rattle.result_law.specs.Below.thread_state.declared.phase.Phase.TheVariants as phase
+use Rattle.result_law.specs.Below.thread_state.declared.value.Value.{Value}
+use Rattle.result_law.specs.Below.thread_state.declared.value.Value.TheVariants as value
+use Rattle.result_law.specs.Below.server_model.declared.event.Event.{Event}
+use Rattle.result_law.specs.Below.server_model.Servers.{Server, Cluster}
+use Rattle.result_law.specs.Below.server_model.Work.{Hand, Popped, with_temps, with_phase, with_cache, pop_owned, then_some}
+use Rattle.result_law.specs.Below.server_model.Places.{owns_nothing}
+use Rattle.result_law.specs.Below.server_model.Commit.{done_where, end_with}
+use Rattle.result_law.specs.Below.server_model.Events.{Stepped, stepped, begin_work, committed}
+use Rattle.result_law.specs.Below.server_model.Events.{step as server_step}
+use Rattle.result_law.specs.Below.server_model.Clusters.{hand_over_newer, apply}
+use Rattle.result_law.specs.Below.heap_law.Names.{tot, one, some, if_so, Among}
+use Rattle.result_law.specs.Below.heap_law.Things.{Thing, noted, as_result, things_of}
+use Rattle.result_law.specs.Below.heap_law.Sight.{sight}
+use Rattle.result_law.specs.Below.heap_law.OneHeap.{Node, task_n, owns, is_in_state, pair_note, in_pair_of, is_branch}
+use Rattle.result_law.specs.Below.heap_law.Coherent.{IsSound}
+use Rattle.result_law.specs.Below.event_law.Laws.{Gives}
+use Rattle.result_law.proofs.Below.event_law.Results.{both_give}
+use Rattle.result_law.specs.Below.type_law.Names.{NameTypes, fits, is_there}
+use Rattle.result_law.specs.Below.type_law.ClusterTypes.{has_form, temps_wrong, IsCoherent}
+use Rattle.result_law.proofs.Below.type_law.Branches.{branches_law}
 use Rattle.drop_law.proofs.TypedStep as typed
 use Rattle.result_law.proofs.Operands.{gets, got_owned}
-use Rattle.turn_law.specs.Turns.{IsPlainStep, ArePlainSteps, none_goes, instr_of, thread_of}
-use Rattle.turn_law.proofs.Parts.{owned_in}
-use Rattle.turn_law.proofs.Instructions.{Pops, PopsTo}
-use Rattle.turn_law.proofs.Events.{AtStep, Sends, events_are}
-use Rattle.turn_law.proofs.Clauses.{same_thread}
-use Rattle.lock_law.proofs.Reach.{or_cases}
-use Rattle.lock_law.proofs.Changed as changed
-use Rattle.lock_law.proofs.NewLines.{popped_owned}
-use Rattle.lock_law.proofs.NewMutex.{rest_less}
-use Rattle.lock_law.proofs.ThreadTurns.{Next}
+use Rattle.task_law.specs.Below.turn_law.Turns.{IsPlainStep, ArePlainSteps, none_goes, instr_of, thread_of}
+use Rattle.task_law.proofs.Below.turn_law.Parts.{owned_in}
+use Rattle.task_law.proofs.Below.turn_law.Instructions.{Pops, PopsTo}
+use Rattle.task_law.proofs.Below.turn_law.Events.{AtStep, Sends, events_are}
+use Rattle.task_law.proofs.Below.turn_law.Clauses.{same_thread}
+use Rattle.task_law.proofs.Below.lock_law.Reach.{or_cases}
+use Rattle.task_law.proofs.Below.lock_law.Changed as changed
+use Rattle.task_law.proofs.Below.lock_law.NewLines.{popped_owned}
+use Rattle.task_law.proofs.Below.lock_law.NewMutex.{rest_less}
+use Rattle.task_law.proofs.Below.lock_law.ThreadTurns.{Next}
 use Rattle.task_law.specs.Tasks.{ends_with, IsKept}
 use Rattle.task_law.proofs.EndLines.{owned_ends, ends_are}
 use Rattle.task_law.proofs.ThreadEnds as thread_ends

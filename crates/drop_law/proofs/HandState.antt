@@ -1,27 +1,27 @@
 -- A value in hand goes, and another one may come: what of the plain state stays, and what is left of the node that goes.
 use Rattle.std.proofs.Common.{◌≡◌, ℕ, zero, suc, ◌+◌, ◌==◌, ◌&&◌, ◌||◌, not, Bool, true, false, if◌then◌else◌, List, [], ◌∷◌, Option, Some, None, refl, sym, ap, ap₂, ◌∙◌, subst, arith}
 use Rattle.std.specs.Prelude.{◌%◌, ◌^◌}
-use Rattle.fr_base.specs.declared.name.MutexNo.{MutexNo}
-use Rattle.fr_base.specs.declared.name.ObjNo.{ObjNo}
-use Rattle.fr_base.specs.declared.label.Plain.{Plain}
-use Rattle.fr_plain.specs.MachineThreads.{alive, over, owing, loose}
-use Rattle.fr_code.specs.Machine.{CodeRunning}
-use Rattle.heap_partition.specs.declared.value.Owned.{Owned}
-use Rattle.thread_state.specs.View.{ThreadState, is_over}
-use Rattle.server_model.specs.Servers.{Cluster}
-use Rattle.heap_law.specs.Names.{tot, one, some, if_so}
-use Rattle.heap_law.specs.Things.{in_hand, Thing, holds, stands}
-use Rattle.heap_law.specs.Follow.{Standing, threads_in, thread_at}
-use Rattle.heap_law.specs.Sight.{Sight}
-use Rattle.heap_law.specs.Requests.{home_of}
-use Rattle.heap_law.specs.Naming.{started_at, made_at}
-use Rattle.heap_law.specs.OneHeap.{PlainLife, Node, object_n, mutex_n, task_n, Owner, a_thread, inside, outside, owner_of, owns, names, owner_in, if_in, cell_value, or_else, first_shown, object_value, content_value, share_in, if_there, in_pair_of, is_branch, branch_result, result_value, result_of, ended_with, going_on, running_at, life_of, life_at, made_of, pair_of, is_given_thread, is_given_mutex, if_given, state_of}
-use Rattle.still_law.specs.Shows.{held_branch}
-use Rattle.still_law.proofs.Counting.{both_parts, none_held}
-use Rattle.still_law.proofs.Rounds.{owner_same}
-use Rattle.path_law.proofs.Contained.{among_thread}
-use Rattle.lock_law.proofs.Beside.{so_one}
-use Rattle.lock_law.proofs.OneNode.{owned_under}
+use Rattle.result_law.specs.Below.fr_base.declared.name.MutexNo.{MutexNo}
+use Rattle.result_law.specs.Below.fr_base.declared.name.ObjNo.{ObjNo}
+use Rattle.result_law.specs.Below.fr_base.declared.label.Plain.{Plain}
+use Rattle.result_law.specs.Below.fr_plain.MachineThreads.{alive, over, owing, loose}
+use Rattle.result_law.specs.Below.fr_code.Machine.{CodeRunning}
+use Rattle.result_law.specs.Below.heap_partition.declared.value.Owned.{Owned}
+use Rattle.result_law.specs.Below.thread_state.View.{ThreadState, is_over}
+use Rattle.result_law.specs.Below.server_model.Servers.{Cluster}
+use Rattle.result_law.specs.Below.heap_law.Names.{tot, one, some, if_so}
+use Rattle.result_law.specs.Below.heap_law.Things.{in_hand, Thing, holds, stands}
+use Rattle.result_law.specs.Below.heap_law.Follow.{Standing, threads_in, thread_at}
+use Rattle.result_law.specs.Below.heap_law.Sight.{Sight}
+use Rattle.result_law.specs.Below.heap_law.Requests.{home_of}
+use Rattle.result_law.specs.Below.heap_law.Naming.{started_at, made_at}
+use Rattle.result_law.specs.Below.heap_law.OneHeap.{PlainLife, Node, object_n, mutex_n, task_n, Owner, a_thread, inside, outside, owner_of, owns, names, owner_in, if_in, cell_value, or_else, first_shown, object_value, content_value, share_in, if_there, in_pair_of, is_branch, branch_result, result_value, result_of, ended_with, going_on, running_at, life_of, life_at, made_of, pair_of, is_given_thread, is_given_mutex, if_given, state_of}
+use Rattle.task_law.specs.Below.still_law.Shows.{held_branch}
+use Rattle.task_law.proofs.Below.still_law.Counting.{both_parts, none_held}
+use Rattle.task_law.proofs.Below.still_law.Rounds.{owner_same}
+use Rattle.result_law.proofs.Below.path_law.Contained.{among_thread}
+use Rattle.task_law.proofs.Below.lock_law.Beside.{so_one}
+use Rattle.task_law.proofs.Below.lock_law.OneNode.{owned_under}
 use Rattle.drop_law.proofs.SameGround as grounds
 use Rattle.drop_law.proofs.Under.{owned_by, under_names, node_cases}
 use Rattle.drop_law.proofs.InHand as held

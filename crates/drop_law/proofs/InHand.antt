@@ -1,15 +1,15 @@
 -- A value in hand, beside one thread and the things of others: who is in the state once it goes, and once what stands under it comes in its place.
 use Rattle.std.proofs.Common.{◌≡◌, ◌⊎◌, inl, inr, ℕ, zero, suc, ◌+◌, ◌≤◌, ◌||◌, Bool, true, false, if◌then◌else◌, List, [], ◌∷◌, ◌++◌, Option, Some, None, refl, sym, ap, ap₂, ◌∙◌, subst, arith}
-use Rattle.heap_partition.specs.declared.value.Owned.{Owned}
-use Rattle.thread_state.specs.View.{ThreadState}
-use Rattle.server_model.specs.Servers.{Cluster}
-use Rattle.heap_law.specs.Names.{tot, one, some, if_so}
-use Rattle.heap_law.specs.Things.{in_hand, Thing, holds, stands}
-use Rattle.heap_law.specs.Sight.{Sight, with_things}
-use Rattle.heap_law.specs.OneHeap.{Node, Owner, a_thread, inside, outside, owner_of, owns, names, owner_in, named_in, any_named, is_in_state, or_else, first_shown}
-use Rattle.still_law.proofs.Rounds.{any_more}
-use Rattle.lock_law.proofs.Reach.{or_cases, or_left, or_right, closes, least}
-use Rattle.lock_law.proofs.OneNode.{owned_under}
+use Rattle.result_law.specs.Below.heap_partition.declared.value.Owned.{Owned}
+use Rattle.result_law.specs.Below.thread_state.View.{ThreadState}
+use Rattle.result_law.specs.Below.server_model.Servers.{Cluster}
+use Rattle.result_law.specs.Below.heap_law.Names.{tot, one, some, if_so}
+use Rattle.result_law.specs.Below.heap_law.Things.{in_hand, Thing, holds, stands}
+use Rattle.result_law.specs.Below.heap_law.Sight.{Sight, with_things}
+use Rattle.result_law.specs.Below.heap_law.OneHeap.{Node, Owner, a_thread, inside, outside, owner_of, owns, names, owner_in, named_in, any_named, is_in_state, or_else, first_shown}
+use Rattle.task_law.proofs.Below.still_law.Rounds.{any_more}
+use Rattle.task_law.proofs.Below.lock_law.Reach.{or_cases, or_left, or_right, closes, least}
+use Rattle.task_law.proofs.Below.lock_law.OneNode.{owned_under}
 use Rattle.drop_law.proofs.SameGround as grounds
 use Rattle.drop_law.proofs.Under.{owned_by, under_names, node_cases, node_is, node_itself}
 

@@ -1,27 +1,27 @@
 -- In a coherent cluster what stands under a node has a type of fewer levels than the node: an object's cell, a mutex's content, a thread's result, gifts too.
 use Rattle.std.proofs.Common.{◌≡◌, inl, inr, ℕ, suc, ◌+◌, ◌<◌, ◌≤◌, ◌&&◌, Bool, true, false, List, [], ◌∷◌, Option, Some, None, refl, sym, ap, ◌∙◌, subst, arith}
-use Rattle.coloured_heap.proofs.Times.{number_is, object_is, mutex_is}
-use Rattle.fr_base.specs.declared.name.ObjNo.{ObjNo}
-use Rattle.fr_base.specs.declared.name.MutexNo.{MutexNo}
-use Rattle.fr_base.specs.declared.instruction.Instr.{Instr}
-use Rattle.fr_base.specs.declared.instruction.Instr.TheVariants as instr
-use Rattle.fr_typing.specs.Kinds.{Owned, unit, int, box, mutex, task, same_owned}
-use Rattle.fr_typing.specs.Checks.{owned_levels}
-use Rattle.heap_partition.specs.declared.value.BoxPtr.{BoxPtr}
-use Rattle.heap_partition.specs.declared.value.Owned.{Owned as Value}
-use Rattle.heap_partition.specs.declared.value.Owned.TheVariants as owned
-use Rattle.server_model.specs.Servers.{Cluster}
-use Rattle.heap_law.specs.Names.{tot, one, other, if_so, Among}
-use Rattle.heap_law.specs.Things.{in_slot, in_temp, as_gift, as_content, as_result, in_hand, Thing, holds, lies, flies, stands, things_of}
-use Rattle.heap_law.specs.Follow.{Standing, threads_in, thread_at}
-use Rattle.heap_law.specs.Sight.{Sight, sight}
-use Rattle.heap_law.specs.Walking.{instr_of}
-use Rattle.heap_law.specs.Paths.{joined_thread}
-use Rattle.heap_law.specs.Requests.{locked_mutex}
-use Rattle.heap_law.specs.OneHeap.{Node, object_n, mutex_n, task_n, Owner, a_thread, inside, outside, content_owner, result_owner, gift_owner, gift_owner_of, spot_owner, owner_of, owns, names}
-use Rattle.type_law.specs.Names.{NameTypes, names_of, fits, is_there}
-use Rattle.type_law.specs.ClusterTypes.{misfit, content_gift, result_gift, gift_misfit, IsCoherent}
-use Rattle.still_law.proofs.Told.{found}
+use Rattle.result_law.proofs.Below.coloured_heap.Times.{number_is, object_is, mutex_is}
+use Rattle.result_law.specs.Below.fr_base.declared.name.ObjNo.{ObjNo}
+use Rattle.result_law.specs.Below.fr_base.declared.name.MutexNo.{MutexNo}
+use Rattle.result_law.specs.Below.fr_base.declared.instruction.Instr.{Instr}
+use Rattle.result_law.specs.Below.fr_base.declared.instruction.Instr.TheVariants as instr
+use Rattle.result_law.specs.Below.fr_typing.Kinds.{Owned, unit, int, box, mutex, task, same_owned}
+use Rattle.result_law.specs.Below.fr_typing.Checks.{owned_levels}
+use Rattle.result_law.specs.Below.heap_partition.declared.value.BoxPtr.{BoxPtr}
+use Rattle.result_law.specs.Below.heap_partition.declared.value.Owned.{Owned as Value}
+use Rattle.result_law.specs.Below.heap_partition.declared.value.Owned.TheVariants as owned
+use Rattle.result_law.specs.Below.server_model.Servers.{Cluster}
+use Rattle.result_law.specs.Below.heap_law.Names.{tot, one, other, if_so, Among}
+use Rattle.result_law.specs.Below.heap_law.Things.{in_slot, in_temp, as_gift, as_content, as_result, in_hand, Thing, holds, lies, flies, stands, things_of}
+use Rattle.result_law.specs.Below.heap_law.Follow.{Standing, threads_in, thread_at}
+use Rattle.result_law.specs.Below.heap_law.Sight.{Sight, sight}
+use Rattle.result_law.specs.Below.heap_law.Walking.{instr_of}
+use Rattle.result_law.specs.Below.heap_law.Paths.{joined_thread}
+use Rattle.result_law.specs.Below.heap_law.Requests.{locked_mutex}
+use Rattle.result_law.specs.Below.heap_law.OneHeap.{Node, object_n, mutex_n, task_n, Owner, a_thread, inside, outside, content_owner, result_owner, gift_owner, gift_owner_of, spot_owner, owner_of, owns, names}
+use Rattle.result_law.specs.Below.type_law.Names.{NameTypes, names_of, fits, is_there}
+use Rattle.result_law.specs.Below.type_law.ClusterTypes.{misfit, content_gift, result_gift, gift_misfit, IsCoherent}
+use Rattle.task_law.proofs.Below.still_law.Told.{found}
 use Rattle.drop_law.proofs.Under.{held_value, owned_by, under_names, node_is}
 use Rattle.drop_law.proofs.GiftValues.{given_by, placed, telling, gifts_told}
 

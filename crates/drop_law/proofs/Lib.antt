@@ -1,3 +1,4 @@
+pub mod Below
 pub mod SameGround
 pub mod Under
 pub mod InHand

@@ -1,22 +1,22 @@
 -- A content or a result that stands beside a thread's things, of a mutex or a thread that isn't in the state: the plain state is as without it.
 use Rattle.std.proofs.Common.{◌≡◌, ℕ, zero, suc, ◌+◌, ◌==◌, ◌&&◌, ◌||◌, not, Bool, true, false, if◌then◌else◌, List, [], ◌∷◌, Option, Some, None, refl, sym, ap, ap₂, ◌∙◌, arith}
 use Rattle.std.specs.Prelude.{◌%◌, ◌^◌}
-use Rattle.fr_base.specs.declared.name.MutexNo.{MutexNo}
-use Rattle.fr_plain.specs.MachineThreads.{owing, loose}
-use Rattle.fr_plain.specs.PlainState.{SameState}
-use Rattle.heap_partition.specs.declared.value.Owned.{Owned}
-use Rattle.thread_state.specs.View.{ThreadState, is_over}
-use Rattle.server_model.specs.Servers.{Rest, Cluster}
-use Rattle.heap_law.specs.Names.{tot, one, some, if_so}
-use Rattle.heap_law.specs.Things.{Spot, Thing, holds, stands}
-use Rattle.heap_law.specs.Follow.{Standing, thread_at}
-use Rattle.heap_law.specs.Sight.{Sight, with_things}
-use Rattle.heap_law.specs.Requests.{home_of}
-use Rattle.heap_law.specs.Naming.{started_at, made_at}
-use Rattle.heap_law.specs.OneHeap.{Node, object_n, mutex_n, task_n, inside, spot_owner, owner_of, owns, names, owner_in, named_in, any_named, is_in_state, if_in, cell_value, or_else, first_shown, content_value, share_in, if_there, in_pair_of, is_branch, branch_result, result_value, result_of, ended_with, going_on, running_at, life_of, life_at, is_given_thread, is_given_mutex, if_given, state_of}
-use Rattle.event_law.proofs.Bags.{counts_of}
-use Rattle.still_law.proofs.Rounds.{owner_same}
-use Rattle.lock_law.proofs.Reach.{or_cases, or_right, closes, least}
+use Rattle.result_law.specs.Below.fr_base.declared.name.MutexNo.{MutexNo}
+use Rattle.result_law.specs.Below.fr_plain.MachineThreads.{owing, loose}
+use Rattle.result_law.specs.Below.fr_plain.PlainState.{SameState}
+use Rattle.result_law.specs.Below.heap_partition.declared.value.Owned.{Owned}
+use Rattle.result_law.specs.Below.thread_state.View.{ThreadState, is_over}
+use Rattle.result_law.specs.Below.server_model.Servers.{Rest, Cluster}
+use Rattle.result_law.specs.Below.heap_law.Names.{tot, one, some, if_so}
+use Rattle.result_law.specs.Below.heap_law.Things.{Spot, Thing, holds, stands}
+use Rattle.result_law.specs.Below.heap_law.Follow.{Standing, thread_at}
+use Rattle.result_law.specs.Below.heap_law.Sight.{Sight, with_things}
+use Rattle.result_law.specs.Below.heap_law.Requests.{home_of}
+use Rattle.result_law.specs.Below.heap_law.Naming.{started_at, made_at}
+use Rattle.result_law.specs.Below.heap_law.OneHeap.{Node, object_n, mutex_n, task_n, inside, spot_owner, owner_of, owns, names, owner_in, named_in, any_named, is_in_state, if_in, cell_value, or_else, first_shown, content_value, share_in, if_there, in_pair_of, is_branch, branch_result, result_value, result_of, ended_with, going_on, running_at, life_of, life_at, is_given_thread, is_given_mutex, if_given, state_of}
+use Rattle.result_law.proofs.Below.event_law.Bags.{counts_of}
+use Rattle.task_law.proofs.Below.still_law.Rounds.{owner_same}
+use Rattle.task_law.proofs.Below.lock_law.Reach.{or_cases, or_right, closes, least}
 use Rattle.drop_law.proofs.SameGround as grounds
 use Rattle.drop_law.proofs.Under.{none_so}
 use Rattle.drop_law.proofs.HandState.{first_alike}

@@ -1,27 +1,27 @@
 -- A step of the plain machine that drops an owned value: the thread goes on, and then the value goes.
 use Rattle.std.proofs.Common.{◌≡◌, ℕ, if◌then◌else◌, List, [], ◌∷◌, ◌++◌, length, Option, Some, None, ap, ap₂, ◌∙◌}
 use Rattle.std.specs.Prelude.{slice_get}
-use Rattle.fr_base.specs.declared.label.Label.{Label}
-use Rattle.fr_base.specs.declared.label.Label.TheVariants as label
-use Rattle.fr_base.specs.declared.label.Plain.{Plain}
-use Rattle.fr_base.specs.declared.name.MutexNo.{MutexNo}
-use Rattle.fr_base.specs.declared.name.ObjNo.{ObjNo}
-use Rattle.fr_base.specs.declared.step.Fresh.TheVariants as fresh
-use Rattle.fr_base.specs.declared.instruction.Instr.{Instr}
-use Rattle.fr_plain.specs.declared.value.Value.{Value}
-use Rattle.fr_plain.specs.declared.value.Value.TheVariants.{Own, Held}
-use Rattle.fr_plain.specs.Heap.{made_by}
-use Rattle.fr_plain.specs.State.{without}
-use Rattle.fr_plain.specs.MachineActs.{act, drops_last, end_of, unit, do_unlock}
-use Rattle.fr_plain.specs.MachineThreads.{mutex_there, going, with_thread, pair_of, dropped}
-use Rattle.fr_plain.specs.Machine.{unlocked, given_back, goes_on as machine_goes, prints, done_act, alone_stepped, stepped, then_released, step_of}
-use Rattle.fr_plain.specs.PlainState.{SameState, two_of, plain_state}
-use Rattle.fr_code.specs.Machine.{CodeLife, CodeWhole, CodeStepped, CodeRunning, CodeState}
-use Rattle.fr_code.specs.Steps.{Place, CodeAct, code_move, code_moves, over_at}
-use Rattle.turn_law.proofs.OneTurn.{Going}
-use Rattle.turn_law.proofs.PlainTurn.{thread_as, settled_as, state_at}
-use Rattle.lock_law.proofs.OneThread.{GoesOn}
-use Rattle.lock_law.proofs.PlainMutex.{acts, move_as, thread_same, over_same}
+use Rattle.result_law.specs.Below.fr_base.declared.label.Label.{Label}
+use Rattle.result_law.specs.Below.fr_base.declared.label.Label.TheVariants as label
+use Rattle.result_law.specs.Below.fr_base.declared.label.Plain.{Plain}
+use Rattle.result_law.specs.Below.fr_base.declared.name.MutexNo.{MutexNo}
+use Rattle.result_law.specs.Below.fr_base.declared.name.ObjNo.{ObjNo}
+use Rattle.result_law.specs.Below.fr_base.declared.step.Fresh.TheVariants as fresh
+use Rattle.result_law.specs.Below.fr_base.declared.instruction.Instr.{Instr}
+use Rattle.result_law.specs.Below.fr_plain.declared.value.Value.{Value}
+use Rattle.result_law.specs.Below.fr_plain.declared.value.Value.TheVariants.{Own, Held}
+use Rattle.result_law.specs.Below.fr_plain.Heap.{made_by}
+use Rattle.result_law.specs.Below.fr_plain.State.{without}
+use Rattle.result_law.specs.Below.fr_plain.MachineActs.{act, drops_last, end_of, unit, do_unlock}
+use Rattle.result_law.specs.Below.fr_plain.MachineThreads.{mutex_there, going, with_thread, pair_of, dropped}
+use Rattle.result_law.specs.Below.fr_plain.Machine.{unlocked, given_back, goes_on as machine_goes, prints, done_act, alone_stepped, stepped, then_released, step_of}
+use Rattle.result_law.specs.Below.fr_plain.PlainState.{SameState, two_of, plain_state}
+use Rattle.result_law.specs.Below.fr_code.Machine.{CodeLife, CodeWhole, CodeStepped, CodeRunning, CodeState}
+use Rattle.result_law.specs.Below.fr_code.Steps.{Place, CodeAct, code_move, code_moves, over_at}
+use Rattle.task_law.proofs.Below.turn_law.OneTurn.{Going}
+use Rattle.task_law.proofs.Below.turn_law.PlainTurn.{thread_as, settled_as, state_at}
+use Rattle.task_law.proofs.Below.lock_law.OneThread.{GoesOn}
+use Rattle.task_law.proofs.Below.lock_law.PlainMutex.{acts, move_as, thread_same, over_same}
 
 -- the thread has gone on, and the value isn't dropped yet
 abbrev pub goes_first : CodeWhole → Going → ℕ → CodeRunning → List Label → CodeWhole

@@ -1,25 +1,25 @@
 -- The end of a thread of the plain machine whose result nobody will have: the thread is over, and then the result goes.
 use Rattle.std.proofs.Common.{◌≡◌, ◌≢◌, ℕ, true, if◌then◌else◌, List, [], ◌∷◌, ◌++◌, length, Option, Some, None, refl, sym, ap, ◌∙◌, subst}
 use Rattle.std.specs.Prelude.{slice_get}
-use Rattle.fr_typing.proofs.PlaceLemmas.{eq_cases}
-use Rattle.fr_base.specs.declared.label.Label.{Label}
-use Rattle.fr_base.specs.declared.label.Label.TheVariants as label
-use Rattle.fr_base.specs.declared.label.Plain.{Plain}
-use Rattle.fr_base.specs.declared.step.Fresh.TheVariants as fresh
-use Rattle.fr_base.specs.declared.instruction.Instr.{Instr}
-use Rattle.fr_plain.specs.declared.value.Value.{Value}
-use Rattle.fr_plain.specs.declared.value.Value.TheVariants.{Own}
-use Rattle.fr_plain.specs.Heap.{made_by}
-use Rattle.fr_plain.specs.State.{drops}
-use Rattle.fr_plain.specs.MachineActs.{do_end, do_leave}
-use Rattle.fr_plain.specs.MachineThreads.{over, alive, loose, on_value, alone, next, Move, thread_at, with_thread, is_over, pair_of, dropped}
-use Rattle.fr_plain.specs.Machine.{prints, moved, step_of}
-use Rattle.fr_plain.specs.PlainState.{SameState, running, running_in, is_over_in, two_of, plain_state}
-use Rattle.fr_plain.proofs.ByName.{put_in, put_at, put_off}
-use Rattle.fr_code.specs.Machine.{CodeLife, CodeThread, CodeWhole, CodeRunning, CodeState}
-use Rattle.fr_code.specs.Steps.{Place, code_moves, over_at}
-use Rattle.turn_law.proofs.OneTurn.{Going, as_main, as_owing, as_loose}
-use Rattle.turn_law.proofs.PlainTurn.{thread_as, found_as}
+use Rattle.result_law.proofs.Below.fr_typing.PlaceLemmas.{eq_cases}
+use Rattle.result_law.specs.Below.fr_base.declared.label.Label.{Label}
+use Rattle.result_law.specs.Below.fr_base.declared.label.Label.TheVariants as label
+use Rattle.result_law.specs.Below.fr_base.declared.label.Plain.{Plain}
+use Rattle.result_law.specs.Below.fr_base.declared.step.Fresh.TheVariants as fresh
+use Rattle.result_law.specs.Below.fr_base.declared.instruction.Instr.{Instr}
+use Rattle.result_law.specs.Below.fr_plain.declared.value.Value.{Value}
+use Rattle.result_law.specs.Below.fr_plain.declared.value.Value.TheVariants.{Own}
+use Rattle.result_law.specs.Below.fr_plain.Heap.{made_by}
+use Rattle.result_law.specs.Below.fr_plain.State.{drops}
+use Rattle.result_law.specs.Below.fr_plain.MachineActs.{do_end, do_leave}
+use Rattle.result_law.specs.Below.fr_plain.MachineThreads.{over, alive, loose, on_value, alone, next, Move, thread_at, with_thread, is_over, pair_of, dropped}
+use Rattle.result_law.specs.Below.fr_plain.Machine.{prints, moved, step_of}
+use Rattle.result_law.specs.Below.fr_plain.PlainState.{SameState, running, running_in, is_over_in, two_of, plain_state}
+use Rattle.result_law.proofs.Below.fr_plain.ByName.{put_in, put_at, put_off}
+use Rattle.result_law.specs.Below.fr_code.Machine.{CodeLife, CodeThread, CodeWhole, CodeRunning, CodeState}
+use Rattle.result_law.specs.Below.fr_code.Steps.{Place, code_moves, over_at}
+use Rattle.task_law.proofs.Below.turn_law.OneTurn.{Going, as_main, as_owing, as_loose}
+use Rattle.task_law.proofs.Below.turn_law.PlainTurn.{thread_as, found_as}
 use Rattle.task_law.proofs.ThreadEnds.{Ends, end_as}
 
 ended_over : (g : Going) (v : Plain) → is_over {P = Place} (end_as g v) ≡ true

@@ -1,8 +1,8 @@
 -- How many threads aren't over, whatever their places are: a drop takes one of these with each result that goes, as it takes a mutex with each last share.
 use Rattle.std.proofs.Common.{◌≡◌, ◌≢◌, ◌∙◌, ℕ, ◌+◌, ◌<◌, ◌≤◌, Bool, true, false, List, [], ◌∷◌, length, Option, Some, None, refl, sym, ap, arith}
 use Rattle.std.specs.Prelude.{◌==◌, if◌then◌else◌}
-use Rattle.fr_typing.proofs.PlaceLemmas.{eq_cases}
-use Rattle.fr_plain.specs.MachineThreads.{Life, alive, over, owing, loose, ended, Thread, Mutex, Shared, thread_at, with_thread, count_both}
+use Rattle.result_law.proofs.Below.fr_typing.PlaceLemmas.{eq_cases}
+use Rattle.result_law.specs.Below.fr_plain.MachineThreads.{Life, alive, over, owing, loose, ended, Thread, Mutex, Shared, thread_at, with_thread, count_both}
 use Rattle.drop_types.proofs.Left.{one_there, mutexes_left}
 
 module _ {P : Type 0} where

@@ -1,18 +1,18 @@
 -- Two sights of one code with the same threads and cells: who owns what is the same in both, and so are contents, results and gifts.
 use Rattle.std.proofs.Common.{◌≡◌, ℕ, ◌||◌, Bool, List, [], ◌∷◌, Option, Some, None, is_some, refl, ap, ap₂, ◌∙◌}
 use Rattle.std.specs.Prelude.{slice_get}
-use Rattle.fr_base.specs.declared.name.MutexNo.{MutexNo}
-use Rattle.fr_base.specs.declared.instruction.Instr.{Instr}
-use Rattle.fr_base.specs.declared.instruction.Instr.TheVariants as instr
-use Rattle.heap_partition.specs.Plain.{plain_of}
-use Rattle.heap_law.specs.Names.{one, some, if_so}
-use Rattle.heap_law.specs.Things.{in_slot, in_temp, as_gift, as_content, as_result, in_hand, Thing, holds}
-use Rattle.heap_law.specs.Follow.{Standing, thread_at, value_at}
-use Rattle.heap_law.specs.Sight.{Sight}
-use Rattle.heap_law.specs.Walking.{instr_of}
-use Rattle.heap_law.specs.Paths.{joined_thread}
-use Rattle.heap_law.specs.Requests.{mutex_of, locked_mutex, is_mutex, is_task}
-use Rattle.heap_law.specs.OneHeap.{Node, content_owner, gift_owner, gift_owner_of, owner_of, names, named_in, any_named, if_in, is_gift_of, content_value, is_joined_by, result_value}
+use Rattle.result_law.specs.Below.fr_base.declared.name.MutexNo.{MutexNo}
+use Rattle.result_law.specs.Below.fr_base.declared.instruction.Instr.{Instr}
+use Rattle.result_law.specs.Below.fr_base.declared.instruction.Instr.TheVariants as instr
+use Rattle.result_law.specs.Below.heap_partition.Plain.{plain_of}
+use Rattle.result_law.specs.Below.heap_law.Names.{one, some, if_so}
+use Rattle.result_law.specs.Below.heap_law.Things.{in_slot, in_temp, as_gift, as_content, as_result, in_hand, Thing, holds}
+use Rattle.result_law.specs.Below.heap_law.Follow.{Standing, thread_at, value_at}
+use Rattle.result_law.specs.Below.heap_law.Sight.{Sight}
+use Rattle.result_law.specs.Below.heap_law.Walking.{instr_of}
+use Rattle.result_law.specs.Below.heap_law.Paths.{joined_thread}
+use Rattle.result_law.specs.Below.heap_law.Requests.{mutex_of, locked_mutex, is_mutex, is_task}
+use Rattle.result_law.specs.Below.heap_law.OneHeap.{Node, content_owner, gift_owner, gift_owner_of, owner_of, names, named_in, any_named, if_in, is_gift_of, content_value, is_joined_by, result_value}
 
 module _ (s s2 : Sight) (code : s.code ≡ s2.code) (ground : s.ground ≡ s2.ground) where
   instr_same : (w : Standing) → instr_of s w ≡ instr_of s2 w

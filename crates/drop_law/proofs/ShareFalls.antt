@@ -2,25 +2,25 @@
 use Rattle.std.proofs.Common.{◌≡◌, ◌≢◌, ◌⊎◌, inl, inr, ℕ, zero, suc, ◌+◌, ◌<◌, ◌≤◌, ◌||◌, Bool, true, false, List, [], ◌∷◌, Option, Some, None, option_map, refl, sym, ap, ap₂, ◌∙◌, arith}
 use Rattle.std.specs.Prelude.{nat_le}
 use Rattle.std.proofs.lemmas.Bool.Decides.{nat_tests}
-use Rattle.fr_base.specs.declared.name.MutexNo.{MutexNo}
-use Rattle.fr_base.specs.declared.label.Plain.{Plain}
-use Rattle.fr_plain.specs.MachineThreads.{mutex_there, with_mutex}
-use Rattle.fr_code.specs.Machine.{CodeWhole}
-use Rattle.heap_partition.specs.Plain.{plain_of}
-use Rattle.heap_partition.specs.declared.value.Owned.{Owned}
-use Rattle.heap_partition.specs.declared.value.Owned.TheVariants as owned
-use Rattle.thread_state.specs.View.{ThreadState}
-use Rattle.server_model.specs.Servers.{Cluster}
-use Rattle.heap_law.specs.Names.{tot, one, if_so}
-use Rattle.heap_law.specs.Things.{Thing}
-use Rattle.heap_law.specs.Sight.{Sight}
-use Rattle.heap_law.specs.OneHeap.{Node, object_n, mutex_n, task_n, owner_of, owns, names, owner_in, named_in, any_named, is_in_state, first_shown, content_value, share_in, if_there, state_of}
-use Rattle.plain_types.proofs.Mutexes.{mutex_cases, given_set}
-use Rattle.still_law.proofs.Rounds.{any_more}
-use Rattle.lock_law.proofs.Reach.{or_cases, or_left, or_right}
-use Rattle.lock_law.proofs.OneMutex.{shared_as}
-use Rattle.lock_law.proofs.PlainMutex.{set_shows}
-use Rattle.lock_law.proofs.ShareGoes.{has_share}
+use Rattle.result_law.specs.Below.fr_base.declared.name.MutexNo.{MutexNo}
+use Rattle.result_law.specs.Below.fr_base.declared.label.Plain.{Plain}
+use Rattle.result_law.specs.Below.fr_plain.MachineThreads.{mutex_there, with_mutex}
+use Rattle.result_law.specs.Below.fr_code.Machine.{CodeWhole}
+use Rattle.result_law.specs.Below.heap_partition.Plain.{plain_of}
+use Rattle.result_law.specs.Below.heap_partition.declared.value.Owned.{Owned}
+use Rattle.result_law.specs.Below.heap_partition.declared.value.Owned.TheVariants as owned
+use Rattle.result_law.specs.Below.thread_state.View.{ThreadState}
+use Rattle.result_law.specs.Below.server_model.Servers.{Cluster}
+use Rattle.result_law.specs.Below.heap_law.Names.{tot, one, if_so}
+use Rattle.result_law.specs.Below.heap_law.Things.{Thing}
+use Rattle.result_law.specs.Below.heap_law.Sight.{Sight}
+use Rattle.result_law.specs.Below.heap_law.OneHeap.{Node, object_n, mutex_n, task_n, owner_of, owns, names, owner_in, named_in, any_named, is_in_state, first_shown, content_value, share_in, if_there, state_of}
+use Rattle.task_law.proofs.Below.plain_types.Mutexes.{mutex_cases, given_set}
+use Rattle.task_law.proofs.Below.still_law.Rounds.{any_more}
+use Rattle.task_law.proofs.Below.lock_law.Reach.{or_cases, or_left, or_right}
+use Rattle.task_law.proofs.Below.lock_law.OneMutex.{shared_as}
+use Rattle.task_law.proofs.Below.lock_law.PlainMutex.{set_shows}
+use Rattle.task_law.proofs.Below.lock_law.ShareGoes.{has_share}
 use Rattle.drop_law.proofs.Under.{under, under_names}
 use Rattle.drop_law.proofs.InHand as held
 use Rattle.drop_law.proofs.InHand.{named_there, named_whence}

@@ -2,32 +2,32 @@
 use Rattle.std.proofs.Common.{◌≡◌, ℕ, zero, suc, ◌+◌, ◌<◌, ◌≤◌, ◌==◌, ◌&&◌, not, Bool, true, false, if◌then◌else◌, List, [], ◌∷◌, ◌++◌, Some, None, refl, sym, ap, ◌∙◌, subst, arith}
 use Rattle.std.specs.Prelude.{nat_lt}
 use Rattle.std.proofs.lemmas.Bool.Decides.{nat_tests}
-use Rattle.fr_typing.proofs.PlaceLemmas.{eq_cases}
-use Rattle.fr_base.specs.declared.name.ObjNo.{ObjNo}
-use Rattle.heap_partition.specs.declared.value.Owned.{Owned}
-use Rattle.heap_partition.specs.declared.value.Owned.TheVariants as owned
-use Rattle.join_home.specs.Tasks.{TaskState, going, let_go, kept, asked, in_pair}
-use Rattle.thread_state.specs.View.{ThreadState, is_over}
-use Rattle.server_model.specs.Servers.{Cluster}
-use Rattle.heap_law.specs.Names.{tot, one, other, some, if_so, boxes, task_values}
-use Rattle.heap_law.specs.Things.{Spot, in_slot, in_temp, as_gift, as_content, as_result, in_hand, Thing, holds, lies, flies, sent, stands, noted, things_of}
-use Rattle.heap_law.specs.Follow.{Standing, threads_in, thread_at}
-use Rattle.heap_law.specs.Sight.{Sight, sight}
-use Rattle.heap_law.specs.Requests.{home_of}
-use Rattle.heap_law.specs.Sharing.{got_phase, going_on, finished_of, going_notes, goes_on, owes, owed, kept_note, results, has_ended}
-use Rattle.heap_law.specs.Naming.{count_of, threads, started_at, uncounted_thread, zeroth_thread, named_mutexes, uncounted_mutex, zeroth_mutex}
-use Rattle.heap_law.specs.Ranks.{Step, steps_of, Falls}
-use Rattle.heap_law.specs.Rooted.{ownings_of, ownings}
-use Rattle.heap_law.specs.Weights.{owners, tasks_of, is_thread}
-use Rattle.heap_law.specs.OneHeap.{Node, object_n, mutex_n, task_n, Owner, a_thread, inside, outside, spot_owner, owner_of, owns, names, first_shown, pair_note, branch_result, result_value, is_given_thread}
-use Rattle.heap_law.specs.Coherent.{IsSound}
-use Rattle.heap_law.proofs.Names.{same_mutexes}
-use Rattle.fr_store.proofs.Keys.{object_cases}
+use Rattle.result_law.proofs.Below.fr_typing.PlaceLemmas.{eq_cases}
+use Rattle.result_law.specs.Below.fr_base.declared.name.ObjNo.{ObjNo}
+use Rattle.result_law.specs.Below.heap_partition.declared.value.Owned.{Owned}
+use Rattle.result_law.specs.Below.heap_partition.declared.value.Owned.TheVariants as owned
+use Rattle.result_law.specs.Below.join_home.Tasks.{TaskState, going, let_go, kept, asked, in_pair}
+use Rattle.result_law.specs.Below.thread_state.View.{ThreadState, is_over}
+use Rattle.result_law.specs.Below.server_model.Servers.{Cluster}
+use Rattle.result_law.specs.Below.heap_law.Names.{tot, one, other, some, if_so, boxes, task_values}
+use Rattle.result_law.specs.Below.heap_law.Things.{Spot, in_slot, in_temp, as_gift, as_content, as_result, in_hand, Thing, holds, lies, flies, sent, stands, noted, things_of}
+use Rattle.result_law.specs.Below.heap_law.Follow.{Standing, threads_in, thread_at}
+use Rattle.result_law.specs.Below.heap_law.Sight.{Sight, sight}
+use Rattle.result_law.specs.Below.heap_law.Requests.{home_of}
+use Rattle.result_law.specs.Below.heap_law.Sharing.{got_phase, going_on, finished_of, going_notes, goes_on, owes, owed, kept_note, results, has_ended}
+use Rattle.result_law.specs.Below.heap_law.Naming.{count_of, threads, started_at, uncounted_thread, zeroth_thread, named_mutexes, uncounted_mutex, zeroth_mutex}
+use Rattle.result_law.specs.Below.heap_law.Ranks.{Step, steps_of, Falls}
+use Rattle.result_law.specs.Below.heap_law.Rooted.{ownings_of, ownings}
+use Rattle.result_law.specs.Below.heap_law.Weights.{owners, tasks_of, is_thread}
+use Rattle.result_law.specs.Below.heap_law.OneHeap.{Node, object_n, mutex_n, task_n, Owner, a_thread, inside, outside, spot_owner, owner_of, owns, names, first_shown, pair_note, branch_result, result_value, is_given_thread}
+use Rattle.result_law.specs.Below.heap_law.Coherent.{IsSound}
+use Rattle.result_law.proofs.Below.heap_law.Names.{same_mutexes}
+use Rattle.result_law.proofs.Below.fr_store.Keys.{object_cases}
 use Rattle.std.proofs.lemmas.Bool.{eqb-true}
-use Rattle.still_law.specs.Shows.{held_branch}
-use Rattle.still_law.proofs.Alike.{Once}
-use Rattle.still_law.proofs.Counting.{none_first}
-use Rattle.turn_law.proofs.Events.{given_by_count}
+use Rattle.task_law.specs.Below.still_law.Shows.{held_branch}
+use Rattle.task_law.proofs.Below.still_law.Alike.{Once}
+use Rattle.task_law.proofs.Below.still_law.Counting.{none_first}
+use Rattle.task_law.proofs.Below.turn_law.Events.{given_by_count}
 use Rattle.drop_law.proofs.Under.{held_value, owned_by, under_names, node_is}
 use Rattle.drop_law.proofs.Carrying.{is_sole}
 

@@ -1,27 +1,27 @@
 -- A task in hand: its thread is let go where it goes on, and where it has ended its result comes to the hand.
 use Rattle.std.proofs.Common.{◌≡◌, ◌≢◌, ℕ, Bool, true, false, if◌then◌else◌, List, length, Option, Some, None, option_map, refl, sym, ap, ◌∙◌, subst, arith}
-use Rattle.fr_typing.proofs.PlaceLemmas.{eq_cases}
-use Rattle.fr_base.specs.declared.name.MutexNo.{MutexNo}
-use Rattle.fr_base.specs.declared.label.Plain.{Plain}
-use Rattle.fr_plain.specs.declared.value.Value.{Value}
-use Rattle.fr_plain.specs.declared.value.Value.TheVariants.{Own}
-use Rattle.fr_plain.specs.Heap.{made_by}
-use Rattle.fr_plain.specs.MachineThreads.{alive, over, owing, loose, ended, thread_at, with_thread, with_life, is_over, pair_of as plain_pair}
-use Rattle.fr_plain.specs.PlainState.{running, running_in, is_over_in, two_of}
-use Rattle.fr_plain.proofs.ByName.{put_in, put_at, put_off, found_number}
-use Rattle.fr_code.specs.Machine.{CodeLife, CodeThread, CodeWhole, CodeRunning}
-use Rattle.fr_code.specs.Steps.{Place}
-use Rattle.heap_partition.specs.Plain.{plain_of}
-use Rattle.heap_partition.specs.declared.value.Owned.{Owned}
-use Rattle.heap_partition.specs.declared.value.Owned.TheVariants as owned
-use Rattle.thread_state.specs.View.{ThreadState}
-use Rattle.server_model.specs.Servers.{Cluster}
-use Rattle.heap_law.specs.Names.{tot, one}
-use Rattle.heap_law.specs.Things.{Thing}
-use Rattle.heap_law.specs.Follow.{thread_at as standing_at}
-use Rattle.heap_law.specs.Sight.{Sight}
-use Rattle.heap_law.specs.OneHeap.{PlainLife, Node, object_n, mutex_n, task_n, owns, first_shown, result_value, share_in, ended_with, life_at, is_given_thread, if_given, state_of}
-use Rattle.still_law.specs.Shows.{held_branch}
+use Rattle.result_law.proofs.Below.fr_typing.PlaceLemmas.{eq_cases}
+use Rattle.result_law.specs.Below.fr_base.declared.name.MutexNo.{MutexNo}
+use Rattle.result_law.specs.Below.fr_base.declared.label.Plain.{Plain}
+use Rattle.result_law.specs.Below.fr_plain.declared.value.Value.{Value}
+use Rattle.result_law.specs.Below.fr_plain.declared.value.Value.TheVariants.{Own}
+use Rattle.result_law.specs.Below.fr_plain.Heap.{made_by}
+use Rattle.result_law.specs.Below.fr_plain.MachineThreads.{alive, over, owing, loose, ended, thread_at, with_thread, with_life, is_over, pair_of as plain_pair}
+use Rattle.result_law.specs.Below.fr_plain.PlainState.{running, running_in, is_over_in, two_of}
+use Rattle.result_law.proofs.Below.fr_plain.ByName.{put_in, put_at, put_off, found_number}
+use Rattle.result_law.specs.Below.fr_code.Machine.{CodeLife, CodeThread, CodeWhole, CodeRunning}
+use Rattle.result_law.specs.Below.fr_code.Steps.{Place}
+use Rattle.result_law.specs.Below.heap_partition.Plain.{plain_of}
+use Rattle.result_law.specs.Below.heap_partition.declared.value.Owned.{Owned}
+use Rattle.result_law.specs.Below.heap_partition.declared.value.Owned.TheVariants as owned
+use Rattle.result_law.specs.Below.thread_state.View.{ThreadState}
+use Rattle.result_law.specs.Below.server_model.Servers.{Cluster}
+use Rattle.result_law.specs.Below.heap_law.Names.{tot, one}
+use Rattle.result_law.specs.Below.heap_law.Things.{Thing}
+use Rattle.result_law.specs.Below.heap_law.Follow.{thread_at as standing_at}
+use Rattle.result_law.specs.Below.heap_law.Sight.{Sight}
+use Rattle.result_law.specs.Below.heap_law.OneHeap.{PlainLife, Node, object_n, mutex_n, task_n, owns, first_shown, result_value, share_in, ended_with, life_at, is_given_thread, if_given, state_of}
+use Rattle.task_law.specs.Below.still_law.Shows.{held_branch}
 use Rattle.drop_law.proofs.Under.{under}
 use Rattle.drop_law.proofs.InHand as held
 use Rattle.drop_law.proofs.HandState as shows

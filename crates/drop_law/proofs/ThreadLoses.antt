@@ -1,39 +1,39 @@
 -- A thread goes on, or ends, without an owned value that it had, which is in hand then: the plain state is as it was but for the thread, and what is known of the others.
 use Rattle.std.proofs.Common.{◌≡◌, ℕ, ◌+◌, ◌≤◌, ◌==◌, ◌&&◌, ◌||◌, not, Bool, true, false, List, [], ◌∷◌, ◌++◌, Option, Some, None, refl, sym, ap, ap₂, ◌∙◌, arith}
 use Rattle.std.specs.List.{AllByRecursion}
-use Rattle.fr_base.specs.declared.name.MutexNo.{MutexNo}
-use Rattle.fr_base.specs.declared.name.ObjNo.{ObjNo}
-use Rattle.fr_base.specs.declared.instruction.Instr.{Instr}
-use Rattle.heap_partition.specs.declared.value.Owned.{Owned}
-use Rattle.thread_state.specs.View.{ThreadState}
-use Rattle.server_model.specs.declared.event.Event.{Event}
-use Rattle.server_model.specs.Servers.{Server, Cluster}
-use Rattle.heap_law.specs.Names.{tot, one, some, if_so}
-use Rattle.heap_law.specs.Things.{in_hand, Thing, holds, stands, gift_things, things_of}
-use Rattle.heap_law.specs.Sight.{Sight, sight}
-use Rattle.heap_law.specs.Requests.{home_of, is_par_end}
-use Rattle.heap_law.specs.Sharing.{got_phase}
-use Rattle.heap_law.specs.Naming.{count_of, started_at, made_at}
-use Rattle.heap_law.specs.OneHeap.{Node, task_n, mutex_n, a_thread, owner_of, owns, names, named_in, any_named, is_in_state, cell_value, first_shown, object_value, content_value, share_in, in_pair_of, result_value, running_at, is_given_thread, is_given_mutex, state_of}
-use Rattle.heap_law.specs.Coherent.{IsSound}
-use Rattle.event_law.proofs.Bags.{counts_of, had_by}
-use Rattle.event_law.proofs.Trades.{tot-append}
-use Rattle.still_law.specs.Shows.{held_branch}
-use Rattle.still_law.proofs.Alike.{Once}
-use Rattle.still_law.proofs.Counting.{stray}
-use Rattle.still_law.proofs.Told.{told, ones}
-use Rattle.turn_law.proofs.Parts.{Own, owned_in, own_named}
-use Rattle.turn_law.proofs.OneTurn.{of_thread, Calm}
-use Rattle.turn_law.proofs.Events.{AtStep}
-use Rattle.lock_law.proofs.Reach.{SameOwners, or_left, or_right, or_cases, here, stays_in, comes_from}
-use Rattle.lock_law.proofs.Beside.{giftless, IsBeside, IsLoose, loose_beside, all_so, so_one, mine, any_mine, all_of, tot_of, cells_of}
-use Rattle.lock_law.proofs.OneNode.{some_there, there_some, one_of_two, is_one}
-use Rattle.lock_law.proofs.OneThread as one_thread
-use Rattle.lock_law.proofs.OneThread.{GoesOn, next, none_got}
-use Rattle.lock_law.proofs.Changed as changed
-use Rattle.lock_law.proofs.NewMutex.{rest_less}
-use Rattle.lock_law.proofs.SharedLines.{nothing_under}
-use Rattle.lock_law.proofs.ThreadTurns.{G, R, before, then_there, quiet, loose}
+use Rattle.result_law.specs.Below.fr_base.declared.name.MutexNo.{MutexNo}
+use Rattle.result_law.specs.Below.fr_base.declared.name.ObjNo.{ObjNo}
+use Rattle.result_law.specs.Below.fr_base.declared.instruction.Instr.{Instr}
+use Rattle.result_law.specs.Below.heap_partition.declared.value.Owned.{Owned}
+use Rattle.result_law.specs.Below.thread_state.View.{ThreadState}
+use Rattle.result_law.specs.Below.server_model.declared.event.Event.{Event}
+use Rattle.result_law.specs.Below.server_model.Servers.{Server, Cluster}
+use Rattle.result_law.specs.Below.heap_law.Names.{tot, one, some, if_so}
+use Rattle.result_law.specs.Below.heap_law.Things.{in_hand, Thing, holds, stands, gift_things, things_of}
+use Rattle.result_law.specs.Below.heap_law.Sight.{Sight, sight}
+use Rattle.result_law.specs.Below.heap_law.Requests.{home_of, is_par_end}
+use Rattle.result_law.specs.Below.heap_law.Sharing.{got_phase}
+use Rattle.result_law.specs.Below.heap_law.Naming.{count_of, started_at, made_at}
+use Rattle.result_law.specs.Below.heap_law.OneHeap.{Node, task_n, mutex_n, a_thread, owner_of, owns, names, named_in, any_named, is_in_state, cell_value, first_shown, object_value, content_value, share_in, in_pair_of, result_value, running_at, is_given_thread, is_given_mutex, state_of}
+use Rattle.result_law.specs.Below.heap_law.Coherent.{IsSound}
+use Rattle.result_law.proofs.Below.event_law.Bags.{counts_of, had_by}
+use Rattle.result_law.proofs.Below.event_law.Trades.{tot-append}
+use Rattle.task_law.specs.Below.still_law.Shows.{held_branch}
+use Rattle.task_law.proofs.Below.still_law.Alike.{Once}
+use Rattle.task_law.proofs.Below.still_law.Counting.{stray}
+use Rattle.task_law.proofs.Below.still_law.Told.{told, ones}
+use Rattle.task_law.proofs.Below.turn_law.Parts.{Own, owned_in, own_named}
+use Rattle.task_law.proofs.Below.turn_law.OneTurn.{of_thread, Calm}
+use Rattle.task_law.proofs.Below.turn_law.Events.{AtStep}
+use Rattle.task_law.proofs.Below.lock_law.Reach.{SameOwners, or_left, or_right, or_cases, here, stays_in, comes_from}
+use Rattle.task_law.proofs.Below.lock_law.Beside.{giftless, IsBeside, IsLoose, loose_beside, all_so, so_one, mine, any_mine, all_of, tot_of, cells_of}
+use Rattle.task_law.proofs.Below.lock_law.OneNode.{some_there, there_some, one_of_two, is_one}
+use Rattle.task_law.proofs.Below.lock_law.OneThread as one_thread
+use Rattle.task_law.proofs.Below.lock_law.OneThread.{GoesOn, next, none_got}
+use Rattle.task_law.proofs.Below.lock_law.Changed as changed
+use Rattle.task_law.proofs.Below.lock_law.NewMutex.{rest_less}
+use Rattle.task_law.proofs.Below.lock_law.SharedLines.{nothing_under}
+use Rattle.task_law.proofs.Below.lock_law.ThreadTurns.{G, R, before, then_there, quiet, loose}
 use Rattle.drop_law.proofs.InHand as held
 use Rattle.drop_law.proofs.Under.{owned_by, under_names, once_under, none_so}
 use Rattle.drop_law.proofs.Carrying.{is_sole, Others, KnownTask}

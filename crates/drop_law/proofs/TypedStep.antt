@@ -1,24 +1,24 @@
 -- What typing knows of a thread that steps, in a coherent cluster: the entry of the code's table at its instruction, which its slots and temporary values fit.
 use Rattle.std.proofs.Common.{◌≡◌, ℕ, not, true, false, reverse, Some, refl, sym, ap, subst, ◌∙◌, arith}
-use Rattle.fr_base.specs.declared.instruction.Instr.{Instr}
-use Rattle.fr_code.specs.CodeTypes.{Entry}
-use Rattle.fr_code.specs.CodeTable.{Leads, Successors}
-use Rattle.thread_state.specs.View.{ThreadState, is_over}
-use Rattle.thread_state.specs.declared.phase.Phase.{Phase}
-use Rattle.thread_state.specs.declared.phase.Phase.TheVariants as phase
-use Rattle.server_model.specs.declared.event.Event.{Event}
-use Rattle.server_model.specs.Servers.{Server, Cluster}
-use Rattle.server_model.specs.Events.{can_step}
-use Rattle.heap_law.specs.Names.{tot, if_so}
-use Rattle.heap_law.specs.Follow.{Standing}
-use Rattle.heap_law.specs.Sight.{sight}
-use Rattle.type_law.specs.Names.{NameTypes, names_of}
-use Rattle.type_law.specs.ClusterTypes.{slots_wrong, temps_wrong, forms_of, entry_wrong, locked_of, IsCoherent}
-use Rattle.event_law.proofs.ThreadThere.{thread_there}
-use Rattle.path_law.specs.HeapStore.{GoesOn, HasPaths}
-use Rattle.path_law.proofs.Contained.{among_thread}
-use Rattle.path_law.proofs.Forms.{none_of, running_typed}
-use Rattle.turn_law.proofs.Events.{AtStep}
+use Rattle.result_law.specs.Below.fr_base.declared.instruction.Instr.{Instr}
+use Rattle.result_law.specs.Below.fr_code.CodeTypes.{Entry}
+use Rattle.result_law.specs.Below.fr_code.CodeTable.{Leads, Successors}
+use Rattle.result_law.specs.Below.thread_state.View.{ThreadState, is_over}
+use Rattle.result_law.specs.Below.thread_state.declared.phase.Phase.{Phase}
+use Rattle.result_law.specs.Below.thread_state.declared.phase.Phase.TheVariants as phase
+use Rattle.result_law.specs.Below.server_model.declared.event.Event.{Event}
+use Rattle.result_law.specs.Below.server_model.Servers.{Server, Cluster}
+use Rattle.result_law.specs.Below.server_model.Events.{can_step}
+use Rattle.result_law.specs.Below.heap_law.Names.{tot, if_so}
+use Rattle.result_law.specs.Below.heap_law.Follow.{Standing}
+use Rattle.result_law.specs.Below.heap_law.Sight.{sight}
+use Rattle.result_law.specs.Below.type_law.Names.{NameTypes, names_of}
+use Rattle.result_law.specs.Below.type_law.ClusterTypes.{slots_wrong, temps_wrong, forms_of, entry_wrong, locked_of, IsCoherent}
+use Rattle.result_law.proofs.Below.event_law.ThreadThere.{thread_there}
+use Rattle.result_law.specs.Below.path_law.HeapStore.{GoesOn, HasPaths}
+use Rattle.result_law.proofs.Below.path_law.Contained.{among_thread}
+use Rattle.result_law.proofs.Below.path_law.Forms.{none_of, running_typed}
+use Rattle.task_law.proofs.Below.turn_law.Events.{AtStep}
 
 not_over : (p : Phase) → can_step p ≡ true → is_over p ≡ false
 not_over phase.Over e = absurd (cc e)

@@ -1,26 +1,26 @@
 -- What stands under a node: the value of an object's cell, a mutex's content, a thread's result. Where each is shown once, at most one thing stands there.
 use Rattle.std.proofs.Common.{◌≡◌, ◌≢◌, ℕ, ◌+◌, ◌≤◌, ◌==◌, ◌&&◌, not, Bool, true, false, if◌then◌else◌, List, [], ◌∷◌, Option, Some, None, option_map, refl, sym, ap, ◌∙◌, arith}
-use Rattle.fr_typing.proofs.PlaceLemmas.{eq_cases}
-use Rattle.fr_store.proofs.Keys.{object_cases}
-use Rattle.plain_types.proofs.Mutexes.{mutex_cases}
-use Rattle.fr_base.specs.declared.label.Plain.{Plain}
-use Rattle.fr_base.specs.declared.name.MutexNo.{MutexNo}
-use Rattle.fr_base.specs.declared.name.ObjNo.{ObjNo}
-use Rattle.heap_partition.specs.Plain.{plain_of}
-use Rattle.heap_partition.specs.declared.value.Owned.{Owned}
-use Rattle.thread_state.specs.View.{is_over}
-use Rattle.heap_law.specs.Names.{tot, one, other, if_so}
-use Rattle.heap_law.specs.Things.{in_slot, in_temp, as_gift, as_content, as_result, in_hand, Thing, holds, lies, flies, stands}
-use Rattle.heap_law.specs.Follow.{thread_at}
-use Rattle.heap_law.specs.Sight.{Sight}
-use Rattle.heap_law.specs.Sharing.{has_ended}
-use Rattle.heap_law.specs.Weights.{is_thread}
-use Rattle.heap_law.specs.OneHeap.{Node, object_n, mutex_n, task_n, same_node, Owner, inside, gift_owner_of, owner_of, owns, names, if_in, cell_value, or_else, first_shown, is_gift_of, content_value, branch_result, is_joined_by, result_value}
-use Rattle.still_law.proofs.Alike.{Once}
-use Rattle.still_law.proofs.Counting.{shown_result, gifted, stray, by_gift_spot, spot_owned, gift_owned, is_content_at, is_result_at, gift_is_content, gift_is_result}
-use Rattle.still_law.proofs.Told.{told, ones}
-use Rattle.lock_law.proofs.Beside.{so_one}
-use Rattle.lock_law.proofs.OneNode.{owned_under}
+use Rattle.result_law.proofs.Below.fr_typing.PlaceLemmas.{eq_cases}
+use Rattle.result_law.proofs.Below.fr_store.Keys.{object_cases}
+use Rattle.task_law.proofs.Below.plain_types.Mutexes.{mutex_cases}
+use Rattle.result_law.specs.Below.fr_base.declared.label.Plain.{Plain}
+use Rattle.result_law.specs.Below.fr_base.declared.name.MutexNo.{MutexNo}
+use Rattle.result_law.specs.Below.fr_base.declared.name.ObjNo.{ObjNo}
+use Rattle.result_law.specs.Below.heap_partition.Plain.{plain_of}
+use Rattle.result_law.specs.Below.heap_partition.declared.value.Owned.{Owned}
+use Rattle.result_law.specs.Below.thread_state.View.{is_over}
+use Rattle.result_law.specs.Below.heap_law.Names.{tot, one, other, if_so}
+use Rattle.result_law.specs.Below.heap_law.Things.{in_slot, in_temp, as_gift, as_content, as_result, in_hand, Thing, holds, lies, flies, stands}
+use Rattle.result_law.specs.Below.heap_law.Follow.{thread_at}
+use Rattle.result_law.specs.Below.heap_law.Sight.{Sight}
+use Rattle.result_law.specs.Below.heap_law.Sharing.{has_ended}
+use Rattle.result_law.specs.Below.heap_law.Weights.{is_thread}
+use Rattle.result_law.specs.Below.heap_law.OneHeap.{Node, object_n, mutex_n, task_n, same_node, Owner, inside, gift_owner_of, owner_of, owns, names, if_in, cell_value, or_else, first_shown, is_gift_of, content_value, branch_result, is_joined_by, result_value}
+use Rattle.task_law.proofs.Below.still_law.Alike.{Once}
+use Rattle.task_law.proofs.Below.still_law.Counting.{shown_result, gifted, stray, by_gift_spot, spot_owned, gift_owned, is_content_at, is_result_at, gift_is_content, gift_is_result}
+use Rattle.task_law.proofs.Below.still_law.Told.{told, ones}
+use Rattle.task_law.proofs.Below.lock_law.Beside.{so_one}
+use Rattle.task_law.proofs.Below.lock_law.OneNode.{owned_under}
 
 -- the owned value of a thing
 abbrev pub held_value : Thing → Option Owned

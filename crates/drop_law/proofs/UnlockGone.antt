@@ -1,58 +1,58 @@
 -- An unlock of a mutex that is gone, at the server and on the plain machine: its content is dropped.
 use Rattle.std.proofs.Common.{◌≡◌, ℕ, ◌+◌, Bool, true, false, List, [], ◌∷◌, ◌++◌, Option, Some, None, option_map, refl, sym, ap, subst, ◌∙◌, arith}
-use Rattle.fr_base.specs.Lists.{last_of}
-use Rattle.fr_base.specs.declared.label.Label.TheVariants as label
-use Rattle.fr_base.specs.declared.name.MutexNo.{MutexNo}
-use Rattle.fr_base.specs.declared.step.Fresh.TheVariants as fresh
-use Rattle.fr_base.specs.declared.instruction.Instr.{Instr}
-use Rattle.fr_base.specs.declared.instruction.Instr.TheVariants as instr
-use Rattle.fr_plain.specs.declared.value.Value.{Value as PlainValue}
-use Rattle.fr_plain.specs.declared.value.Value.TheVariants as plain_v
-use Rattle.fr_plain.specs.MachineThreads.{Shared, dropped}
-use Rattle.fr_plain.specs.Machine.{step_of}
-use Rattle.fr_plain.specs.PlainState.{SameState, plain_state}
-use Rattle.fr_code.specs.Machine.{CodeWhole, CodeRunning, CodeState}
-use Rattle.fr_code.specs.Steps.{Place, code_moves, over_at, run_instr}
-use Rattle.heap_partition.specs.Plain.{plain_of}
-use Rattle.heap_partition.specs.declared.value.Owned.{Owned}
-use Rattle.journal.specs.declared.act.Act.TheVariants as act
-use Rattle.read_cache.specs.Cache.{Copy}
-use Rattle.migration.specs.Packing.{unpin_all}
-use Rattle.thread_state.specs.View.{ThreadState}
-use Rattle.thread_state.specs.declared.value.Value.{Value}
-use Rattle.thread_state.specs.declared.value.Value.TheVariants as value
-use Rattle.server_msgs.specs.declared.message.Message.TheVariants as message
-use Rattle.server_model.specs.declared.event.Event.{Event}
-use Rattle.server_model.specs.Servers.{Server, Cluster}
-use Rattle.server_model.specs.Work.{Hand, Popped, note, label_all, with_slots, with_cache, front_of, pop_slot, taken_as, owned_of, then_some}
-use Rattle.server_model.specs.Commit.{goes_on, go_on, held_of, send_content}
-use Rattle.server_model.specs.Events.{Stepped, stepped, begin_work, committed, step}
-use Rattle.heap_law.specs.Names.{one, same_mutex}
-use Rattle.plain_types.proofs.Mutexes.{mutex_cases}
-use Rattle.heap_law.specs.Things.{Thing, holds, as_content}
-use Rattle.heap_law.specs.Sight.{Sight, sight, with_things}
-use Rattle.heap_law.specs.OneHeap.{Node, mutex_n, owns, is_in_state, if_in, if_there, running_at, one_heap, state_of}
-use Rattle.heap_law.specs.Coherent.{IsSound}
-use Rattle.event_law.specs.Laws.{Gives}
-use Rattle.event_law.proofs.Bags.{counts_of, had_by, rest_things}
-use Rattle.event_law.proofs.GiftsTaken.{gift_fits}
-use Rattle.event_law.proofs.Values.{last_split}
-use Rattle.still_law.proofs.Readied.{copies_ready}
-use Rattle.still_law.proofs.Sites.{shown, Moves, sends}
-use Rattle.turn_law.specs.Turns.{StepsTo, IsPlainStep}
-use Rattle.turn_law.proofs.Parts.{owned_in}
-use Rattle.turn_law.proofs.OneTurn.{Calm, after}
-use Rattle.turn_law.proofs.Instructions.{shown_last, shown_push, owned_push}
-use Rattle.turn_law.proofs.Clauses.{same_thread}
-use Rattle.turn_law.proofs.Events.{AtStep, Sends, events_are, then_same}
-use Rattle.lock_law.proofs.Beside.{giftless}
-use Rattle.lock_law.proofs.Changed as changed
-use Rattle.lock_law.proofs.DupLines.{running_to}
-use Rattle.lock_law.proofs.OneThread.{GoesOn}
-use Rattle.lock_law.proofs.PlainMutex.{found}
-use Rattle.lock_law.proofs.ThreadTurns.{then_there, ThreadTurn, Next, is_step}
-use Rattle.lock_law.proofs.UnlockLines as unlock_lines
-use Rattle.lock_law.specs.Locks.{marked}
+use Rattle.result_law.specs.Below.fr_base.Lists.{last_of}
+use Rattle.result_law.specs.Below.fr_base.declared.label.Label.TheVariants as label
+use Rattle.result_law.specs.Below.fr_base.declared.name.MutexNo.{MutexNo}
+use Rattle.result_law.specs.Below.fr_base.declared.step.Fresh.TheVariants as fresh
+use Rattle.result_law.specs.Below.fr_base.declared.instruction.Instr.{Instr}
+use Rattle.result_law.specs.Below.fr_base.declared.instruction.Instr.TheVariants as instr
+use Rattle.result_law.specs.Below.fr_plain.declared.value.Value.{Value as PlainValue}
+use Rattle.result_law.specs.Below.fr_plain.declared.value.Value.TheVariants as plain_v
+use Rattle.result_law.specs.Below.fr_plain.MachineThreads.{Shared, dropped}
+use Rattle.result_law.specs.Below.fr_plain.Machine.{step_of}
+use Rattle.result_law.specs.Below.fr_plain.PlainState.{SameState, plain_state}
+use Rattle.result_law.specs.Below.fr_code.Machine.{CodeWhole, CodeRunning, CodeState}
+use Rattle.result_law.specs.Below.fr_code.Steps.{Place, code_moves, over_at, run_instr}
+use Rattle.result_law.specs.Below.heap_partition.Plain.{plain_of}
+use Rattle.result_law.specs.Below.heap_partition.declared.value.Owned.{Owned}
+use Rattle.result_law.specs.Below.journal.declared.act.Act.TheVariants as act
+use Rattle.result_law.specs.Below.read_cache.Cache.{Copy}
+use Rattle.result_law.specs.Below.migration.Packing.{unpin_all}
+use Rattle.result_law.specs.Below.thread_state.View.{ThreadState}
+use Rattle.result_law.specs.Below.thread_state.declared.value.Value.{Value}
+use Rattle.result_law.specs.Below.thread_state.declared.value.Value.TheVariants as value
+use Rattle.result_law.specs.Below.server_msgs.declared.message.Message.TheVariants as message
+use Rattle.result_law.specs.Below.server_model.declared.event.Event.{Event}
+use Rattle.result_law.specs.Below.server_model.Servers.{Server, Cluster}
+use Rattle.result_law.specs.Below.server_model.Work.{Hand, Popped, note, label_all, with_slots, with_cache, front_of, pop_slot, taken_as, owned_of, then_some}
+use Rattle.result_law.specs.Below.server_model.Commit.{goes_on, go_on, held_of, send_content}
+use Rattle.result_law.specs.Below.server_model.Events.{Stepped, stepped, begin_work, committed, step}
+use Rattle.result_law.specs.Below.heap_law.Names.{one, same_mutex}
+use Rattle.task_law.proofs.Below.plain_types.Mutexes.{mutex_cases}
+use Rattle.result_law.specs.Below.heap_law.Things.{Thing, holds, as_content}
+use Rattle.result_law.specs.Below.heap_law.Sight.{Sight, sight, with_things}
+use Rattle.result_law.specs.Below.heap_law.OneHeap.{Node, mutex_n, owns, is_in_state, if_in, if_there, running_at, one_heap, state_of}
+use Rattle.result_law.specs.Below.heap_law.Coherent.{IsSound}
+use Rattle.result_law.specs.Below.event_law.Laws.{Gives}
+use Rattle.result_law.proofs.Below.event_law.Bags.{counts_of, had_by, rest_things}
+use Rattle.result_law.proofs.Below.event_law.GiftsTaken.{gift_fits}
+use Rattle.result_law.proofs.Below.event_law.Values.{last_split}
+use Rattle.task_law.proofs.Below.still_law.Readied.{copies_ready}
+use Rattle.task_law.proofs.Below.still_law.Sites.{shown, Moves, sends}
+use Rattle.task_law.specs.Below.turn_law.Turns.{StepsTo, IsPlainStep}
+use Rattle.task_law.proofs.Below.turn_law.Parts.{owned_in}
+use Rattle.task_law.proofs.Below.turn_law.OneTurn.{Calm, after}
+use Rattle.task_law.proofs.Below.turn_law.Instructions.{shown_last, shown_push, owned_push}
+use Rattle.task_law.proofs.Below.turn_law.Clauses.{same_thread}
+use Rattle.task_law.proofs.Below.turn_law.Events.{AtStep, Sends, events_are, then_same}
+use Rattle.task_law.proofs.Below.lock_law.Beside.{giftless}
+use Rattle.task_law.proofs.Below.lock_law.Changed as changed
+use Rattle.task_law.proofs.Below.lock_law.DupLines.{running_to}
+use Rattle.task_law.proofs.Below.lock_law.OneThread.{GoesOn}
+use Rattle.task_law.proofs.Below.lock_law.PlainMutex.{found}
+use Rattle.task_law.proofs.Below.lock_law.ThreadTurns.{then_there, ThreadTurn, Next, is_step}
+use Rattle.task_law.proofs.Below.lock_law.UnlockLines as unlock_lines
+use Rattle.task_law.specs.Below.lock_law.Locks.{marked}
 use Rattle.drop_law.specs.Drops.{IsGone, UnlocksOfGone}
 use Rattle.drop_law.proofs.InHand as held
 use Rattle.drop_law.proofs.Carrying.{Carries}

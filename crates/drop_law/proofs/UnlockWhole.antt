@@ -1,45 +1,45 @@
 -- Each unlock, from a coherent cluster: a content doesn't own its own mutex, so that a mutex which is in the state before is in it afterwards.
 use Rattle.std.proofs.Common.{◌≡◌, ℕ, ◌+◌, ◌<◌, ◌≤◌, Bool, true, false, List, [], ◌∷◌, ◌++◌, reverse, Option, Some, None, is_some, refl, sym, ap, subst, ◌∙◌, arith}
 use Rattle.std.proofs.lemmas.List.{reverse-append}
-use Rattle.coloured_heap.proofs.Times.{both}
-use Rattle.fr_base.specs.declared.name.MutexNo.{MutexNo}
-use Rattle.fr_base.specs.declared.instruction.Instr.{Instr}
-use Rattle.fr_base.specs.declared.instruction.Instr.TheVariants as instr
-use Rattle.fr_typing.specs.Kinds.{Owned as OwnedType, own, shared, mutable, view, Piece, whole, gone, boxed}
-use Rattle.fr_typing.specs.Places.{Slot, Env}
-use Rattle.fr_sound.specs.States.{owned_part}
-use Rattle.heap_partition.specs.declared.value.Owned.{Owned}
-use Rattle.read_cache.specs.Cache.{Copy}
-use Rattle.thread_state.specs.View.{ThreadState}
-use Rattle.thread_state.specs.declared.value.Value.{Value}
-use Rattle.thread_state.specs.declared.value.Value.TheVariants as value
-use Rattle.server_model.specs.declared.event.Event.{Event}
-use Rattle.server_model.specs.Servers.{Server, Cluster}
-use Rattle.server_model.specs.Clusters.{apply}
-use Rattle.server_model.specs.Events.{Stepped, begin_work, stepped}
-use Rattle.server_model.specs.Events.{step as server_step}
-use Rattle.heap_law.specs.Names.{tot, one, other}
-use Rattle.heap_law.specs.Things.{Thing, as_content}
-use Rattle.heap_law.specs.Sight.{sight}
-use Rattle.heap_law.specs.OneHeap.{Node, mutex_n, owns, is_in_state}
-use Rattle.heap_law.specs.Coherent.{IsSound}
-use Rattle.event_law.specs.Laws.{Gives}
-use Rattle.event_law.proofs.Results.{both_give}
-use Rattle.type_law.specs.Names.{NameTypes, fits, fits_some, is_there, is_type}
-use Rattle.type_law.specs.ClusterTypes.{has_form, slot_form, slots_wrong, locked_of, IsCoherent}
+use Rattle.result_law.proofs.Below.coloured_heap.Times.{both}
+use Rattle.result_law.specs.Below.fr_base.declared.name.MutexNo.{MutexNo}
+use Rattle.result_law.specs.Below.fr_base.declared.instruction.Instr.{Instr}
+use Rattle.result_law.specs.Below.fr_base.declared.instruction.Instr.TheVariants as instr
+use Rattle.result_law.specs.Below.fr_typing.Kinds.{Owned as OwnedType, own, shared, mutable, view, Piece, whole, gone, boxed}
+use Rattle.result_law.specs.Below.fr_typing.Places.{Slot, Env}
+use Rattle.result_law.specs.Below.fr_sound.States.{owned_part}
+use Rattle.result_law.specs.Below.heap_partition.declared.value.Owned.{Owned}
+use Rattle.result_law.specs.Below.read_cache.Cache.{Copy}
+use Rattle.result_law.specs.Below.thread_state.View.{ThreadState}
+use Rattle.result_law.specs.Below.thread_state.declared.value.Value.{Value}
+use Rattle.result_law.specs.Below.thread_state.declared.value.Value.TheVariants as value
+use Rattle.result_law.specs.Below.server_model.declared.event.Event.{Event}
+use Rattle.result_law.specs.Below.server_model.Servers.{Server, Cluster}
+use Rattle.result_law.specs.Below.server_model.Clusters.{apply}
+use Rattle.result_law.specs.Below.server_model.Events.{Stepped, begin_work, stepped}
+use Rattle.result_law.specs.Below.server_model.Events.{step as server_step}
+use Rattle.result_law.specs.Below.heap_law.Names.{tot, one, other}
+use Rattle.result_law.specs.Below.heap_law.Things.{Thing, as_content}
+use Rattle.result_law.specs.Below.heap_law.Sight.{sight}
+use Rattle.result_law.specs.Below.heap_law.OneHeap.{Node, mutex_n, owns, is_in_state}
+use Rattle.result_law.specs.Below.heap_law.Coherent.{IsSound}
+use Rattle.result_law.specs.Below.event_law.Laws.{Gives}
+use Rattle.result_law.proofs.Below.event_law.Results.{both_give}
+use Rattle.result_law.specs.Below.type_law.Names.{NameTypes, fits, fits_some, is_there, is_type}
+use Rattle.result_law.specs.Below.type_law.ClusterTypes.{has_form, slot_form, slots_wrong, locked_of, IsCoherent}
 use Rattle.drop_law.proofs.TypedStep as typed
-use Rattle.turn_law.proofs.Parts.{owned_in}
-use Rattle.turn_law.proofs.OneTurn.{after}
-use Rattle.turn_law.specs.Turns.{IsPlainStep, ArePlainSteps, instr_of, thread_of}
-use Rattle.turn_law.proofs.Events.{AtStep, Sends, events_are}
-use Rattle.turn_law.proofs.Clauses.{same_thread}
-use Rattle.lock_law.specs.Locks.{marked, IsThere}
-use Rattle.lock_law.proofs.Changed as changed
-use Rattle.lock_law.proofs.NewMutex.{rest_less}
-use Rattle.lock_law.proofs.Places.{there_too}
-use Rattle.lock_law.proofs.ThreadTurns.{Next}
-use Rattle.lock_law.proofs.UnlockLines as unlock_lines
-use Rattle.lock_law.proofs.Clauses.{unlocks}
+use Rattle.task_law.proofs.Below.turn_law.Parts.{owned_in}
+use Rattle.task_law.proofs.Below.turn_law.OneTurn.{after}
+use Rattle.task_law.specs.Below.turn_law.Turns.{IsPlainStep, ArePlainSteps, instr_of, thread_of}
+use Rattle.task_law.proofs.Below.turn_law.Events.{AtStep, Sends, events_are}
+use Rattle.task_law.proofs.Below.turn_law.Clauses.{same_thread}
+use Rattle.task_law.specs.Below.lock_law.Locks.{marked, IsThere}
+use Rattle.task_law.proofs.Below.lock_law.Changed as changed
+use Rattle.task_law.proofs.Below.lock_law.NewMutex.{rest_less}
+use Rattle.task_law.proofs.Below.lock_law.Places.{there_too}
+use Rattle.task_law.proofs.Below.lock_law.ThreadTurns.{Next}
+use Rattle.task_law.proofs.Below.lock_law.UnlockLines as unlock_lines
+use Rattle.task_law.proofs.Below.lock_law.Clauses.{unlocks}
 use Rattle.drop_law.specs.Drops.{IsGone, unlocks_mutex}
 use Rattle.drop_law.proofs.Under.{under_names}
 use Rattle.drop_law.proofs.Clauses.{stepping}

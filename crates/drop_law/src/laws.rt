@@ -1,7 +1,7 @@
 ghost use Rattle.drop_law.specs.Drops.{EndsOfFree, UnlocksOfGone, assigns_variable, discards, drops_slot, ends_thread, unlocks_mutex};
-ghost use Rattle.heap_law.specs.Coherent.{IsSound};
-ghost use Rattle.turn_law.specs.Turns.{ArePlainSteps};
-ghost use Rattle.type_law.specs.ClusterTypes.{IsCoherent};
+ghost use Rattle.result_law.specs.Below.heap_law.Coherent.{IsSound};
+ghost use Rattle.task_law.specs.Below.turn_law.Turns.{ArePlainSteps};
+ghost use Rattle.result_law.specs.Below.type_law.ClusterTypes.{IsCoherent};
 
 /// From a sound cluster, each discard, each end of a variable and each assignment to one is the plain step of its thread on the one heap, its messages handed over, whatever
 /// is dropped: the objects of a chain of boxes go, then the last share of a mutex with its content, or a task with the result of its thread, which is let go where

@@ -1,26 +1,26 @@
 -- What a par captures is there, for both of its threads.
 use Rattle.std.proofs.Common.{◌≡◌, ◌≢◌, ◌⊎◌, inl, inr, ℕ, zero, suc, ◌<◌, Bool, true, false, not, List, [], ◌∷◌, ◌++◌, length, reverse, Option, Some, None, refl, sym, ap, subst, ◌∙◌}
 use Rattle.std.specs.Prelude.{slice_get, slice_set}
-use Rattle.fr_typing.specs.Kinds.{Owned as OwnedType, Kind, own, shared, mutable, view, whole, gone, copies, map_some}
-use Rattle.fr_typing.specs.Places.{Env, found, type_at, write_blocked, heap_type, put_at}
-use Rattle.fr_typing.specs.Captures.{by_par, captured_kind, captures_copy, captures_move}
-use Rattle.fr_code.specs.CodeTypes.{is_variable, SlotPasses, passes, SlotsPass, pass_none, pass_next}
-use Rattle.fr_store.specs.Keys.{slot_k}
-use Rattle.fr_store.specs.Typed.{hole, owns, KeyTypes}
-use Rattle.fr_store.specs.Rows.{with_type}
-use Rattle.mut_borrow.specs.declared.shared.SharedRef.{SharedRef}
-use Rattle.thread_state.specs.declared.value.Value.{Value}
-use Rattle.thread_state.specs.declared.value.Value.TheVariants as value
-use Rattle.server_model.specs.Servers.{Cluster}
-use Rattle.server_model.specs.Places.{second_of}
-use Rattle.server_model.specs.Work.{then_some}
-use Rattle.server_model.specs.Start.{captured, left_after, capture_from}
-use Rattle.heap_law.specs.Follow.{Standing}
-use Rattle.type_law.specs.Names.{NameTypes}
-use Rattle.type_law.specs.ClusterTypes.{has_form, slots_wrong}
-use Rattle.path_law.specs.HeapStore.{GoesOn, HasPaths}
-use Rattle.path_law.proofs.Sole.{some_is}
-use Rattle.result_law.proofs.Operands.{owned_form, second_form, Stands, stands}
+use Rattle.write_law.specs.Below.fr_typing.Kinds.{Owned as OwnedType, Kind, own, shared, mutable, view, whole, gone, copies, map_some}
+use Rattle.write_law.specs.Below.fr_typing.Places.{Env, found, type_at, write_blocked, heap_type, put_at}
+use Rattle.write_law.specs.Below.fr_typing.Captures.{by_par, captured_kind, captures_copy, captures_move}
+use Rattle.write_law.specs.Below.fr_code.CodeTypes.{is_variable, SlotPasses, passes, SlotsPass, pass_none, pass_next}
+use Rattle.write_law.specs.Below.fr_store.Keys.{slot_k}
+use Rattle.write_law.specs.Below.fr_store.Typed.{hole, owns, KeyTypes}
+use Rattle.write_law.specs.Below.fr_store.Rows.{with_type}
+use Rattle.write_law.specs.Below.mut_borrow.declared.shared.SharedRef.{SharedRef}
+use Rattle.write_law.specs.Below.thread_state.declared.value.Value.{Value}
+use Rattle.write_law.specs.Below.thread_state.declared.value.Value.TheVariants as value
+use Rattle.write_law.specs.Below.server_model.Servers.{Cluster}
+use Rattle.write_law.specs.Below.server_model.Places.{second_of}
+use Rattle.write_law.specs.Below.server_model.Work.{then_some}
+use Rattle.write_law.specs.Below.server_model.Start.{captured, left_after, capture_from}
+use Rattle.write_law.specs.Below.heap_law.Follow.{Standing}
+use Rattle.write_law.specs.Below.type_law.Names.{NameTypes}
+use Rattle.write_law.specs.Below.type_law.ClusterTypes.{has_form, slots_wrong}
+use Rattle.write_law.specs.Below.path_law.HeapStore.{GoesOn, HasPaths}
+use Rattle.write_law.proofs.Below.path_law.Sole.{some_is}
+use Rattle.write_law.proofs.Below.result_law.Operands.{owned_form, second_form, Stands, stands}
 use Rattle.enabled_law.proofs.Captures.{set_is, gone_fits, slot_below, named_variable, whole_is}
 use Rattle.enabled_law.proofs.Views.{Left, moved_out, not_slot}
 
@@ -38,7 +38,7 @@ view_form n o (value.Shared r) e = (r, refl)
 view_form n o _ e = absurd (cc e)
 
 -- a shared reference is one to an object or to a slot
-shared_form : (n : NameTypes) (us : List Rattle.fr_base.specs.declared.place.Lval.Lval) (v : Value) → has_form n (whole (shared us)) v ≡ true → ((r : SharedRef) × (v ≡ value.Shared r)) ⊎ ((j : ℕ) × (v ≡ value.SharedSlot j))
+shared_form : (n : NameTypes) (us : List Rattle.write_law.specs.Below.fr_base.declared.place.Lval.Lval) (v : Value) → has_form n (whole (shared us)) v ≡ true → ((r : SharedRef) × (v ≡ value.Shared r)) ⊎ ((j : ℕ) × (v ≡ value.SharedSlot j))
 shared_form n us (value.Shared r) e = inl (r, refl)
 shared_form n us (value.SharedSlot j) e = inr (j, refl)
 shared_form n us _ e = absurd (cc e)

@@ -2,22 +2,22 @@
 use Rattle.std.proofs.Common.{◌≡◌, ℕ, zero, suc, ◌<◌, ◌==◌, Bool, true, false, if◌then◌else◌, List, [], ◌∷◌, ◌++◌, length, reverse, Option, Some, None, is_some, not, refl, sym, ap, subst, ◌∙◌, arith}
 use Rattle.std.specs.Prelude.{slice_get, slice_set}
 use Rattle.std.proofs.lemmas.Grind.{reverse_onto}
-use Rattle.fr_typing.proofs.PlaceLemmas.{eq_cases}
-use Rattle.fr_terms.specs.Terms.{Text}
-use Rattle.fr_typing.specs.Kinds.{Owned as OwnedType, Kind, own, shared, mutable, view, whole, gone, copies}
-use Rattle.fr_typing.specs.Places.{Env, found, type_at, same_name, slot_of, put_at}
-use Rattle.fr_typing.specs.Captures.{by_spawn, captured_kind, captures_copy, captures_move}
-use Rattle.fr_code.specs.CodeTypes.{is_variable, SlotPasses, passes, SlotsPass, pass_none, pass_next}
-use Rattle.thread_state.specs.declared.value.Value.{Value}
-use Rattle.thread_state.specs.declared.value.Value.TheVariants as value
-use Rattle.server_model.specs.Work.{then_some}
-use Rattle.server_model.specs.Start.{captured, left_after, capture_from}
-use Rattle.heap_law.specs.Names.{other}
-use Rattle.type_law.specs.Names.{NameTypes}
-use Rattle.type_law.specs.ClusterTypes.{slot_form, slots_wrong}
-use Rattle.path_law.proofs.Shown.{length_one_more}
-use Rattle.path_law.proofs.Sole.{some_is}
-use Rattle.result_law.proofs.Operands.{owned_form, second_form, stands}
+use Rattle.write_law.proofs.Below.fr_typing.PlaceLemmas.{eq_cases}
+use Rattle.write_law.specs.Below.fr_terms.Terms.{Text}
+use Rattle.write_law.specs.Below.fr_typing.Kinds.{Owned as OwnedType, Kind, own, shared, mutable, view, whole, gone, copies}
+use Rattle.write_law.specs.Below.fr_typing.Places.{Env, found, type_at, same_name, slot_of, put_at}
+use Rattle.write_law.specs.Below.fr_typing.Captures.{by_spawn, captured_kind, captures_copy, captures_move}
+use Rattle.write_law.specs.Below.fr_code.CodeTypes.{is_variable, SlotPasses, passes, SlotsPass, pass_none, pass_next}
+use Rattle.write_law.specs.Below.thread_state.declared.value.Value.{Value}
+use Rattle.write_law.specs.Below.thread_state.declared.value.Value.TheVariants as value
+use Rattle.write_law.specs.Below.server_model.Work.{then_some}
+use Rattle.write_law.specs.Below.server_model.Start.{captured, left_after, capture_from}
+use Rattle.write_law.specs.Below.heap_law.Names.{other}
+use Rattle.write_law.specs.Below.type_law.Names.{NameTypes}
+use Rattle.write_law.specs.Below.type_law.ClusterTypes.{slot_form, slots_wrong}
+use Rattle.write_law.proofs.Below.path_law.Shown.{length_one_more}
+use Rattle.write_law.proofs.Below.path_law.Sole.{some_is}
+use Rattle.write_law.proofs.Below.result_law.Operands.{owned_form, second_form, stands}
 
 -- A SLOT THAT IS SET, FROM BEHIND
 
@@ -120,7 +120,7 @@ module _ (n : NameTypes) where
         item = v.item;
         there = v.there;
         goes = two.0;
-        taken = ap (λ b. captured false b v.item) stays ∙ ap (captured false false) x.1 ∙ sym (ap Rattle.server_model.specs.Places.second_of x.1) ∙ two.1;
+        taken = ap (λ b. captured false b v.item) stays ∙ ap (captured false false) x.1 ∙ sym (ap Rattle.write_law.specs.Below.server_model.Places.second_of x.1) ∙ two.1;
         left = subst (λ b. slots_wrong n e (reverse (left_after b slots i)) ≡ 0) (sym stays) z;
       }
   took e e0 _ _ _ slots (passes {i = i} {take = take} {k = k} c named (captures_move {s = s} {k = k2} {l = l} may moved free fresh) part way) z =

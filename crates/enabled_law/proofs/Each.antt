@@ -2,42 +2,42 @@
 use Rattle.std.proofs.Common.{◌≡◌, ℕ, zero, suc, ◌<◌, true, false, List, [], ◌∷◌, length, Option, Some, None, refl, arith}
 use Rattle.std.specs.Prelude.{slice_get}
 use Rattle.std.proofs.lemmas.Bool.Decides.{nat_tests}
-use Rattle.fr_base.specs.declared.instruction.Instr.{Instr}
-use Rattle.fr_base.specs.declared.instruction.Instr.TheVariants as instr
-use Rattle.fr_base.specs.declared.release.Released.TheVariants as released
-use Rattle.thread_state.specs.View.{ThreadState, is_over}
-use Rattle.thread_state.specs.declared.phase.Phase.{Phase}
-use Rattle.thread_state.specs.declared.phase.Phase.TheVariants as phase
-use Rattle.server_msgs.specs.declared.message.Message.{Message}
-use Rattle.server_msgs.specs.declared.message.Message.TheVariants as message
-use Rattle.server_model.specs.declared.event.What.TheVariants.{Step, Deliver, Evict, Migrate}
-use Rattle.server_model.specs.Servers.{Server, Cluster, server_at}
-use Rattle.server_model.specs.Work.{thread_in}
-use Rattle.server_model.specs.Events.{can_step, has_phase, enabled}
-use Rattle.heap_law.specs.Follow.{Standing}
-use Rattle.heap_law.specs.Sight.{sight}
-use Rattle.event_law.specs.Kinds.{step_let, step_box, step_arith, step_print, step_mutex, step_unlock, step_end}
-use Rattle.event_law.specs.Laws.{FewEvents, HasResult}
-use Rattle.event_law.proofs.ThreadThere.{thread_there}
-use Rattle.event_law.proofs.HaveResults.{evictions, starts, parcels}
-use Rattle.event_law.proofs.AnswerResults.{answers_have_results}
-use Rattle.event_law.proofs.DupResults.{dups_have_results as dup_deliveries}
-use Rattle.event_law.proofs.FetchedResults.{fetched_have_results}
-use Rattle.event_law.proofs.FinishResults.{finishes_have_results}
-use Rattle.event_law.proofs.MigrateResults.{migrations_have_results}
-use Rattle.event_law.proofs.MutexResults.{mutexes_have_results}
-use Rattle.event_law.proofs.ObjectResults.{objects_have_results}
-use Rattle.event_law.proofs.TaskResults.{joins_have_results, tasks_let_go_have_results}
-use Rattle.type_law.specs.ClusterTypes.{IsCoherent}
-use Rattle.path_law.specs.HeapStore.{GoesOn, HasPaths}
-use Rattle.path_law.proofs.Alike.{coherent_has_paths}
-use Rattle.path_law.proofs.Contained.{among_thread}
-use Rattle.path_law.proofs.Forms.{running_typed}
-use Rattle.result_law.specs.Results.{no_place}
-use Rattle.result_law.proofs.Variables.{quiet_steps, join_steps, pair_steps}
-use Rattle.result_law.proofs.Readers.{dups_have_results, locks_have_results}
-use Rattle.result_law.proofs.Borrowing.{borrows_have_results}
-use Rattle.result_law.proofs.Lending.{mutable_borrows_have_results}
+use Rattle.write_law.specs.Below.fr_base.declared.instruction.Instr.{Instr}
+use Rattle.write_law.specs.Below.fr_base.declared.instruction.Instr.TheVariants as instr
+use Rattle.write_law.specs.Below.fr_base.declared.release.Released.TheVariants as released
+use Rattle.write_law.specs.Below.thread_state.View.{ThreadState, is_over}
+use Rattle.write_law.specs.Below.thread_state.declared.phase.Phase.{Phase}
+use Rattle.write_law.specs.Below.thread_state.declared.phase.Phase.TheVariants as phase
+use Rattle.write_law.specs.Below.server_msgs.declared.message.Message.{Message}
+use Rattle.write_law.specs.Below.server_msgs.declared.message.Message.TheVariants as message
+use Rattle.write_law.specs.Below.server_model.declared.event.What.TheVariants.{Step, Deliver, Evict, Migrate}
+use Rattle.write_law.specs.Below.server_model.Servers.{Server, Cluster, server_at}
+use Rattle.write_law.specs.Below.server_model.Work.{thread_in}
+use Rattle.write_law.specs.Below.server_model.Events.{can_step, has_phase, enabled}
+use Rattle.write_law.specs.Below.heap_law.Follow.{Standing}
+use Rattle.write_law.specs.Below.heap_law.Sight.{sight}
+use Rattle.write_law.specs.Below.event_law.Kinds.{step_let, step_box, step_arith, step_print, step_mutex, step_unlock, step_end}
+use Rattle.write_law.specs.Below.event_law.Laws.{FewEvents, HasResult}
+use Rattle.write_law.proofs.Below.event_law.ThreadThere.{thread_there}
+use Rattle.write_law.proofs.Below.event_law.HaveResults.{evictions, starts, parcels}
+use Rattle.write_law.proofs.Below.event_law.AnswerResults.{answers_have_results}
+use Rattle.write_law.proofs.Below.event_law.DupResults.{dups_have_results as dup_deliveries}
+use Rattle.write_law.proofs.Below.event_law.FetchedResults.{fetched_have_results}
+use Rattle.write_law.proofs.Below.event_law.FinishResults.{finishes_have_results}
+use Rattle.write_law.proofs.Below.event_law.MigrateResults.{migrations_have_results}
+use Rattle.write_law.proofs.Below.event_law.MutexResults.{mutexes_have_results}
+use Rattle.write_law.proofs.Below.event_law.ObjectResults.{objects_have_results}
+use Rattle.write_law.proofs.Below.event_law.TaskResults.{joins_have_results, tasks_let_go_have_results}
+use Rattle.write_law.specs.Below.type_law.ClusterTypes.{IsCoherent}
+use Rattle.write_law.specs.Below.path_law.HeapStore.{GoesOn, HasPaths}
+use Rattle.write_law.proofs.Below.path_law.Alike.{coherent_has_paths}
+use Rattle.write_law.proofs.Below.path_law.Contained.{among_thread}
+use Rattle.write_law.proofs.Below.path_law.Forms.{running_typed}
+use Rattle.write_law.specs.Below.result_law.Results.{no_place}
+use Rattle.write_law.proofs.Below.result_law.Variables.{quiet_steps, join_steps, pair_steps}
+use Rattle.write_law.proofs.Below.result_law.Readers.{dups_have_results, locks_have_results}
+use Rattle.write_law.proofs.Below.result_law.Borrowing.{borrows_have_results}
+use Rattle.write_law.proofs.Below.result_law.Lending.{mutable_borrows_have_results}
 use Rattle.write_law.proofs.Anyhow.{each_read, each_assignment, each_discard, each_drop}
 use Rattle.write_law.proofs.Moved.{each_moved}
 use Rattle.enabled_law.proofs.Spawns.{each_spawn}

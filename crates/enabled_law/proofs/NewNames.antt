@@ -1,20 +1,20 @@
 -- The name of a thread that starts is new at its home: each thread that is noted is among those that its home has started.
 use Rattle.std.proofs.Common.{◌≡◌, ℕ, ◌+◌, ◌*◌, ◌^◌, ◌<◌, ◌≤◌, ◌==◌, ◌&&◌, nat_le, Bool, true, false, not, if◌then◌else◌, List, [], ◌∷◌, Some, is_some, refl, sym, ap, subst, arith}
 use Rattle.std.proofs.lemmas.Bool.Decides.{nat_tests}
-use Rattle.fr_typing.proofs.PlaceLemmas.{eq_cases}
-use Rattle.join_home.specs.Tasks.{Task, task_in, can_begin}
-use Rattle.server_model.specs.Servers.{Server, Cluster, server_at}
-use Rattle.heap_law.specs.Names.{tot, one, other, some}
-use Rattle.heap_law.specs.Things.{Thing, counts, things_at, partition_things, copy_things, mutex_things, result_things, task_things, standing_things, waiting_things, leaving_things, servers_things, things_of}
-use Rattle.heap_law.specs.Sight.{sight}
-use Rattle.heap_law.specs.Naming.{threads, started_at, uncounted_thread, count_of}
-use Rattle.heap_law.specs.Requests.{home_of}
-use Rattle.heap_law.specs.Coherent.{IsSound}
-use Rattle.heap_law.proofs.Sums.{tot-append, server_parts}
-use Rattle.event_law.specs.Sums.{Sums, is_server}
-use Rattle.event_law.proofs.Boxes.{tot_le}
-use Rattle.event_law.proofs.Events.{others_of, tot-server}
-use Rattle.event_law.proofs.Sound.{sound_has_sums}
+use Rattle.write_law.proofs.Below.fr_typing.PlaceLemmas.{eq_cases}
+use Rattle.write_law.specs.Below.join_home.Tasks.{Task, task_in, can_begin}
+use Rattle.write_law.specs.Below.server_model.Servers.{Server, Cluster, server_at}
+use Rattle.write_law.specs.Below.heap_law.Names.{tot, one, other, some}
+use Rattle.write_law.specs.Below.heap_law.Things.{Thing, counts, things_at, partition_things, copy_things, mutex_things, result_things, task_things, standing_things, waiting_things, leaving_things, servers_things, things_of}
+use Rattle.write_law.specs.Below.heap_law.Sight.{sight}
+use Rattle.write_law.specs.Below.heap_law.Naming.{threads, started_at, uncounted_thread, count_of}
+use Rattle.write_law.specs.Below.heap_law.Requests.{home_of}
+use Rattle.write_law.specs.Below.heap_law.Coherent.{IsSound}
+use Rattle.write_law.proofs.Below.heap_law.Sums.{tot-append, server_parts}
+use Rattle.write_law.specs.Below.event_law.Sums.{Sums, is_server}
+use Rattle.write_law.proofs.Below.event_law.Boxes.{tot_le}
+use Rattle.write_law.proofs.Below.event_law.Events.{others_of, tot-server}
+use Rattle.write_law.proofs.Below.event_law.Sound.{sound_has_sums}
 
 -- WHAT A SERVER HAS NOT STARTED
 

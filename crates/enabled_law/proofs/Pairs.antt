@@ -1,24 +1,24 @@
 -- The pair of a thread that steps is new at its home: who waits for a pair that is noted doesn't step.
 use Rattle.std.proofs.Common.{◌≡◌, inl, inr, ℕ, ◌+◌, ◌≤◌, ◌==◌, ◌&&◌, ◌||◌, not, Bool, true, false, List, [], ◌∷◌, Some, refl, sym, ap, ap₂, ◌∙◌, arith}
-use Rattle.fr_typing.proofs.PlaceLemmas.{eq_cases}
-use Rattle.join_home.specs.Tasks.{Task, TaskState, in_pair, has_parent, has_pair, can_begin, can_begin_pair}
-use Rattle.thread_state.specs.View.{ThreadState}
-use Rattle.thread_state.specs.declared.phase.Phase.{Phase}
-use Rattle.thread_state.specs.declared.phase.Phase.TheVariants as phase
-use Rattle.server_model.specs.Servers.{Server, Cluster, server_at}
-use Rattle.server_model.specs.Work.{thread_in}
-use Rattle.server_model.specs.Events.{can_step}
-use Rattle.heap_law.specs.Names.{tot, one, if_so, Among}
-use Rattle.heap_law.specs.Things.{Thing, stands, things_at, result_things, task_things, things_of}
-use Rattle.heap_law.specs.Follow.{Standing, threads_in}
-use Rattle.heap_law.specs.Requests.{Branch, half_noted, pair_notes, branch_places, pair_places}
-use Rattle.heap_law.specs.Sight.{sight}
-use Rattle.heap_law.specs.Weights.{is_thread}
-use Rattle.heap_law.specs.Coherent.{IsSound}
-use Rattle.heap_law.proofs.Sums.{tot-append, server_parts}
-use Rattle.event_law.proofs.Events.{tot-server}
-use Rattle.event_law.proofs.ThreadThere.{thread_there}
-use Rattle.path_law.proofs.Contained.{among_thread}
+use Rattle.write_law.proofs.Below.fr_typing.PlaceLemmas.{eq_cases}
+use Rattle.write_law.specs.Below.join_home.Tasks.{Task, TaskState, in_pair, has_parent, has_pair, can_begin, can_begin_pair}
+use Rattle.write_law.specs.Below.thread_state.View.{ThreadState}
+use Rattle.write_law.specs.Below.thread_state.declared.phase.Phase.{Phase}
+use Rattle.write_law.specs.Below.thread_state.declared.phase.Phase.TheVariants as phase
+use Rattle.write_law.specs.Below.server_model.Servers.{Server, Cluster, server_at}
+use Rattle.write_law.specs.Below.server_model.Work.{thread_in}
+use Rattle.write_law.specs.Below.server_model.Events.{can_step}
+use Rattle.write_law.specs.Below.heap_law.Names.{tot, one, if_so, Among}
+use Rattle.write_law.specs.Below.heap_law.Things.{Thing, stands, things_at, result_things, task_things, things_of}
+use Rattle.write_law.specs.Below.heap_law.Follow.{Standing, threads_in}
+use Rattle.write_law.specs.Below.heap_law.Requests.{Branch, half_noted, pair_notes, branch_places, pair_places}
+use Rattle.write_law.specs.Below.heap_law.Sight.{sight}
+use Rattle.write_law.specs.Below.heap_law.Weights.{is_thread}
+use Rattle.write_law.specs.Below.heap_law.Coherent.{IsSound}
+use Rattle.write_law.proofs.Below.heap_law.Sums.{tot-append, server_parts}
+use Rattle.write_law.proofs.Below.event_law.Events.{tot-server}
+use Rattle.write_law.proofs.Below.event_law.ThreadThere.{thread_there}
+use Rattle.write_law.proofs.Below.path_law.Contained.{among_thread}
 
 -- WHO WAITS FOR A PAIR
 

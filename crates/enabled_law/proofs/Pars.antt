@@ -1,42 +1,42 @@
 -- Each enabled par has a result.
 use Rattle.std.proofs.Common.{◌≡◌, inl, ℕ, ◌+◌, ◌*◌, ◌^◌, Bool, true, false, if◌then◌else◌, List, [], ◌∷◌, reverse, Option, Some, None, option_map, IsSome, refl, sym, ap, subst, ◌∙◌, arith}
-use Rattle.fr_base.specs.Rooms.{WithRoom}
-use Rattle.fr_base.specs.declared.step.Fresh.TheVariants as fresh
-use Rattle.fr_base.specs.declared.instruction.Instr.{Instr}
-use Rattle.fr_base.specs.declared.instruction.Instr.TheVariants as instr
-use Rattle.fr_typing.specs.Kinds.{int, Kind, whole}
-use Rattle.fr_typing.specs.Places.{Env}
-use Rattle.fr_code.specs.CodeTypes.{Entry, Table, InstrTypes, i_par, wait}
-use Rattle.fr_code.specs.CodeTable.{Leads, Successors, to_next}
-use Rattle.fr_store.specs.Keys.{Key, slot_k}
-use Rattle.fr_store.specs.Store.{Store, Place as StorePlace}
-use Rattle.fr_store.specs.Typed.{hole, int_tree, owns, refers, KeyTypes}
-use Rattle.fr_store.specs.Below.{ExactOf}
-use Rattle.fr_store.specs.Thread.{ThreadTyped}
-use Rattle.fr_store.proofs.Below.{mut_place}
-use Rattle.fr_store.proofs.ThreadKept.{exact_owned}
-use Rattle.fr_sound.specs.States.{IsThread, hand_key, hand_kind}
+use Rattle.write_law.specs.Below.fr_base.Rooms.{WithRoom}
+use Rattle.write_law.specs.Below.fr_base.declared.step.Fresh.TheVariants as fresh
+use Rattle.write_law.specs.Below.fr_base.declared.instruction.Instr.{Instr}
+use Rattle.write_law.specs.Below.fr_base.declared.instruction.Instr.TheVariants as instr
+use Rattle.write_law.specs.Below.fr_typing.Kinds.{int, Kind, whole}
+use Rattle.write_law.specs.Below.fr_typing.Places.{Env}
+use Rattle.write_law.specs.Below.fr_code.CodeTypes.{Entry, Table, InstrTypes, i_par, wait}
+use Rattle.write_law.specs.Below.fr_code.CodeTable.{Leads, Successors, to_next}
+use Rattle.write_law.specs.Below.fr_store.Keys.{Key, slot_k}
+use Rattle.write_law.specs.Below.fr_store.Store.{Store, Place as StorePlace}
+use Rattle.write_law.specs.Below.fr_store.Typed.{hole, int_tree, owns, refers, KeyTypes}
+use Rattle.write_law.specs.Below.fr_store.Below.{ExactOf}
+use Rattle.write_law.specs.Below.fr_store.Thread.{ThreadTyped}
+use Rattle.write_law.proofs.Below.fr_store.Below.{mut_place}
+use Rattle.write_law.proofs.Below.fr_store.ThreadKept.{exact_owned}
+use Rattle.write_law.specs.Below.fr_sound.States.{IsThread, hand_key, hand_kind}
 use Rattle.plain_types.proofs.Focus.{first_waits}
-use Rattle.join_home.specs.Tasks.{can_begin, can_begin_pair, begin_pair}
-use Rattle.migration.specs.Packing.{unpin_all}
-use Rattle.thread_state.specs.View.{ThreadState}
-use Rattle.thread_state.specs.declared.phase.Phase.TheVariants as phase
-use Rattle.thread_state.specs.declared.value.Value.{Value}
-use Rattle.server_model.specs.Servers.{Rest, Cluster}
-use Rattle.server_model.specs.Work.{Work, Hand, with_slots, with_tasks, with_phase, working, then_some}
-use Rattle.server_model.specs.Start.{next_thread, start_thread, capture}
-use Rattle.server_model.specs.Commit.{done_where, go_on, par_with}
-use Rattle.server_model.specs.Events.{begin_work, committed, step}
-use Rattle.heap_law.specs.Follow.{Standing}
-use Rattle.event_law.specs.Kinds.{step_par, instr_kind}
-use Rattle.event_law.proofs.Each.{names_left}
-use Rattle.type_law.specs.Names.{NameTypes}
-use Rattle.type_law.specs.ClusterTypes.{slots_wrong}
-use Rattle.path_law.specs.HeapStore.{heap_store, GoesOn, HasPaths}
-use Rattle.path_law.proofs.Forms.{running_typed}
-use Rattle.result_law.specs.Results.{Anyhow, StepsHaveResults}
-use Rattle.result_law.proofs.Usable.{Usable, walk_goes}
-use Rattle.result_law.proofs.Known.{settled, Steps, standing, able, paths, goes, types, names, entry, typed, slots_fit, usable, has_result}
+use Rattle.write_law.specs.Below.join_home.Tasks.{can_begin, can_begin_pair, begin_pair}
+use Rattle.write_law.specs.Below.migration.Packing.{unpin_all}
+use Rattle.write_law.specs.Below.thread_state.View.{ThreadState}
+use Rattle.write_law.specs.Below.thread_state.declared.phase.Phase.TheVariants as phase
+use Rattle.write_law.specs.Below.thread_state.declared.value.Value.{Value}
+use Rattle.write_law.specs.Below.server_model.Servers.{Rest, Cluster}
+use Rattle.write_law.specs.Below.server_model.Work.{Work, Hand, with_slots, with_tasks, with_phase, working, then_some}
+use Rattle.write_law.specs.Below.server_model.Start.{next_thread, start_thread, capture}
+use Rattle.write_law.specs.Below.server_model.Commit.{done_where, go_on, par_with}
+use Rattle.write_law.specs.Below.server_model.Events.{begin_work, committed, step}
+use Rattle.write_law.specs.Below.heap_law.Follow.{Standing}
+use Rattle.write_law.specs.Below.event_law.Kinds.{step_par, instr_kind}
+use Rattle.write_law.proofs.Below.event_law.Each.{names_left}
+use Rattle.write_law.specs.Below.type_law.Names.{NameTypes}
+use Rattle.write_law.specs.Below.type_law.ClusterTypes.{slots_wrong}
+use Rattle.write_law.specs.Below.path_law.HeapStore.{heap_store, GoesOn, HasPaths}
+use Rattle.write_law.proofs.Below.path_law.Forms.{running_typed}
+use Rattle.write_law.specs.Below.result_law.Results.{Anyhow, StepsHaveResults}
+use Rattle.write_law.proofs.Below.result_law.Usable.{Usable, walk_goes}
+use Rattle.write_law.proofs.Below.result_law.Known.{settled, Steps, standing, able, paths, goes, types, names, entry, typed, slots_fit, usable, has_result}
 use Rattle.enabled_law.proofs.NewNames.{name_new}
 use Rattle.enabled_law.proofs.Spawns.{started_cache}
 use Rattle.enabled_law.proofs.Views.{Left}

@@ -1,37 +1,37 @@
 -- Each enabled spawn has a result.
 use Rattle.std.proofs.Common.{◌≡◌, ℕ, ◌+◌, ◌==◌, Bool, true, false, if◌then◌else◌, List, [], ◌∷◌, ◌++◌, reverse, Option, Some, None, option_map, IsSome, refl, sym, subst, arith}
-use Rattle.fr_base.specs.Rooms.{WithRoom}
-use Rattle.fr_base.specs.declared.step.Fresh.TheVariants as fresh
-use Rattle.fr_base.specs.declared.instruction.Instr.{Instr}
-use Rattle.fr_base.specs.declared.instruction.Instr.TheVariants as instr
-use Rattle.fr_code.specs.CodeTypes.{Entry, Table, InstrTypes, i_spawn}
-use Rattle.fr_code.specs.CodeTable.{Leads, Successors, to_next}
-use Rattle.heap_partition.specs.declared.value.Owned.TheVariants as owned
-use Rattle.join_home.specs.Tasks.{can_begin, begin}
-use Rattle.migration.specs.Packing.{unpin_all}
-use Rattle.thread_state.specs.View.{ThreadState}
-use Rattle.thread_state.specs.declared.value.Value.{Value}
-use Rattle.thread_state.specs.declared.value.Value.TheVariants as value
-use Rattle.server_msgs.specs.declared.message.Message.{Message}
-use Rattle.server_model.specs.Servers.{Rest}
-use Rattle.server_model.specs.Work.{Work, Hand, sent_from, with_slots, with_tasks, working, push_temp, then_some}
-use Rattle.server_model.specs.Start.{next_thread, start_thread, capture}
-use Rattle.server_model.specs.Commit.{done_where, go_on, spawn_with}
-use Rattle.server_model.specs.Events.{begin_work, committed, step}
-use Rattle.event_law.specs.Kinds.{step_spawn, instr_kind}
-use Rattle.event_law.proofs.Each.{names_left}
-use Rattle.type_law.specs.Names.{NameTypes}
-use Rattle.type_law.specs.ClusterTypes.{slots_wrong}
-use Rattle.result_law.specs.Results.{Anyhow, StepsHaveResults}
-use Rattle.result_law.proofs.Usable.{Usable, walk_goes}
-use Rattle.result_law.proofs.Known.{settled, Steps, types, names, entry, typed, slots_fit, usable, has_result}
+use Rattle.write_law.specs.Below.fr_base.Rooms.{WithRoom}
+use Rattle.write_law.specs.Below.fr_base.declared.step.Fresh.TheVariants as fresh
+use Rattle.write_law.specs.Below.fr_base.declared.instruction.Instr.{Instr}
+use Rattle.write_law.specs.Below.fr_base.declared.instruction.Instr.TheVariants as instr
+use Rattle.write_law.specs.Below.fr_code.CodeTypes.{Entry, Table, InstrTypes, i_spawn}
+use Rattle.write_law.specs.Below.fr_code.CodeTable.{Leads, Successors, to_next}
+use Rattle.write_law.specs.Below.heap_partition.declared.value.Owned.TheVariants as owned
+use Rattle.write_law.specs.Below.join_home.Tasks.{can_begin, begin}
+use Rattle.write_law.specs.Below.migration.Packing.{unpin_all}
+use Rattle.write_law.specs.Below.thread_state.View.{ThreadState}
+use Rattle.write_law.specs.Below.thread_state.declared.value.Value.{Value}
+use Rattle.write_law.specs.Below.thread_state.declared.value.Value.TheVariants as value
+use Rattle.write_law.specs.Below.server_msgs.declared.message.Message.{Message}
+use Rattle.write_law.specs.Below.server_model.Servers.{Rest}
+use Rattle.write_law.specs.Below.server_model.Work.{Work, Hand, sent_from, with_slots, with_tasks, working, push_temp, then_some}
+use Rattle.write_law.specs.Below.server_model.Start.{next_thread, start_thread, capture}
+use Rattle.write_law.specs.Below.server_model.Commit.{done_where, go_on, spawn_with}
+use Rattle.write_law.specs.Below.server_model.Events.{begin_work, committed, step}
+use Rattle.write_law.specs.Below.event_law.Kinds.{step_spawn, instr_kind}
+use Rattle.write_law.proofs.Below.event_law.Each.{names_left}
+use Rattle.write_law.specs.Below.type_law.Names.{NameTypes}
+use Rattle.write_law.specs.Below.type_law.ClusterTypes.{slots_wrong}
+use Rattle.write_law.specs.Below.result_law.Results.{Anyhow, StepsHaveResults}
+use Rattle.write_law.proofs.Below.result_law.Usable.{Usable, walk_goes}
+use Rattle.write_law.proofs.Below.result_law.Known.{settled, Steps, types, names, entry, typed, slots_fit, usable, has_result}
 use Rattle.enabled_law.proofs.Captures.{takes_all}
 use Rattle.enabled_law.proofs.NewNames.{name_new}
 
 sent_cache : (r : Rest) (target : ℕ) (m : Message) → (sent_from r target m).cache ≡ r.cache
 sent_cache r target m = by (target == r.number)
   where
-    by : (b : Bool) → (if b then Rattle.server_model.specs.Work.add_waiting m r else record r { outbox = r.outbox ++ record { target = target; message = m } ∷ [] }).cache ≡ r.cache
+    by : (b : Bool) → (if b then Rattle.write_law.specs.Below.server_model.Work.add_waiting m r else record r { outbox = r.outbox ++ record { target = target; message = m } ∷ [] }).cache ≡ r.cache
     by true = refl
     by false = refl
 

@@ -1,31 +1,31 @@
 -- What a par captures as a view is no reference to a slot: its places are in the heap, also behind what was moved before it.
 use Rattle.std.proofs.Common.{◌≡◌, ◌≢◌, ◌⊎◌, inl, inr, ⊎_elim, ℕ, zero, suc, ◌<◌, Bool, true, false, length, Some, sym, ap, subst, ◌∙◌, arith}
 use Rattle.std.specs.Prelude.{slice_get}
-use Rattle.fr_base.specs.declared.place.Lval.{Lval}
-use Rattle.fr_typing.specs.Kinds.{Owned as OwnedType, unit, int, box, mutex, task, Kind, own, view, whole, gone}
-use Rattle.fr_typing.specs.Places.{Env, IsNested, found, type_at, write_blocked, put_at}
-use Rattle.fr_typing.specs.Captures.{by_par, captured_kind}
-use Rattle.fr_store.specs.Keys.{Key, slot_k}
-use Rattle.fr_store.specs.Store.{Location as StoreLocation, at_key, ref_v, Store, Place as StorePlace, below_key, add}
-use Rattle.fr_store.specs.Typed.{hole, Exact, owns, refers, KeyTypes, exact_under, Resolves, here, through, Unnamed, RefFits}
-use Rattle.fr_store.specs.Below.{tree_of, SlotsBelow}
-use Rattle.fr_store.specs.Rows.{with_type}
-use Rattle.fr_store.specs.Thread.{OwnOrForeign}
-use Rattle.fr_store.proofs.Keys.{decide_key, key_same, key_other}
-use Rattle.fr_store.proofs.Below.{MutPlace, slots_unnamed, res_once}
-use Rattle.fr_store.proofs.PutAt.{length_put, nested_put, slots_gone}
-use Rattle.fr_store.proofs.Sound.{ref_at}
-use Rattle.fr_sound.specs.States.{IsNear, WaitsAbove}
-use Rattle.fr_code.specs.Machine.{CodeState}
+use Rattle.write_law.specs.Below.fr_base.declared.place.Lval.{Lval}
+use Rattle.write_law.specs.Below.fr_typing.Kinds.{Owned as OwnedType, unit, int, box, mutex, task, Kind, own, view, whole, gone}
+use Rattle.write_law.specs.Below.fr_typing.Places.{Env, IsNested, found, type_at, write_blocked, put_at}
+use Rattle.write_law.specs.Below.fr_typing.Captures.{by_par, captured_kind}
+use Rattle.write_law.specs.Below.fr_store.Keys.{Key, slot_k}
+use Rattle.write_law.specs.Below.fr_store.Store.{Location as StoreLocation, at_key, ref_v, Store, Place as StorePlace, below_key, add}
+use Rattle.write_law.specs.Below.fr_store.Typed.{hole, Exact, owns, refers, KeyTypes, exact_under, Resolves, here, through, Unnamed, RefFits}
+use Rattle.write_law.specs.Below.fr_store.Below.{tree_of, SlotsBelow}
+use Rattle.write_law.specs.Below.fr_store.Rows.{with_type}
+use Rattle.write_law.specs.Below.fr_store.Thread.{OwnOrForeign}
+use Rattle.write_law.proofs.Below.fr_store.Keys.{decide_key, key_same, key_other}
+use Rattle.write_law.proofs.Below.fr_store.Below.{MutPlace, slots_unnamed, res_once}
+use Rattle.write_law.proofs.Below.fr_store.PutAt.{length_put, nested_put, slots_gone}
+use Rattle.write_law.proofs.Below.fr_store.Sound.{ref_at}
+use Rattle.write_law.specs.Below.fr_sound.States.{IsNear, WaitsAbove}
+use Rattle.write_law.specs.Below.fr_code.Machine.{CodeState}
 use Rattle.plain_types.proofs.Lower.{UpFrom, up_near, above_before}
 use Rattle.thread_types.proofs.Views.{viewed, off_object}
-use Rattle.thread_state.specs.declared.value.Value.TheVariants as value
-use Rattle.server_model.specs.Servers.{Cluster}
-use Rattle.heap_law.specs.Follow.{Standing}
-use Rattle.heap_law.specs.OneHeap.{one_heap}
-use Rattle.path_law.specs.HeapStore.{heap_store, GoesOn, HasPaths}
-use Rattle.path_law.proofs.Alike.{slot_shared_slot}
-use Rattle.path_law.proofs.Sole.{some_is}
+use Rattle.write_law.specs.Below.thread_state.declared.value.Value.TheVariants as value
+use Rattle.write_law.specs.Below.server_model.Servers.{Cluster}
+use Rattle.write_law.specs.Below.heap_law.Follow.{Standing}
+use Rattle.write_law.specs.Below.heap_law.OneHeap.{one_heap}
+use Rattle.write_law.specs.Below.path_law.HeapStore.{heap_store, GoesOn, HasPaths}
+use Rattle.write_law.proofs.Below.path_law.Alike.{slot_shared_slot}
+use Rattle.write_law.proofs.Below.path_law.Sole.{some_is}
 
 -- WHAT IS MOVED OUT IS NAMED NOWHERE, so places lead as before
 

@@ -1,10 +1,10 @@
 -- THAT EACH ENABLED EVENT HAS A RESULT, of whatever kind it is (this project's rule).
 use Rattle.std.specs.Prelude.{◌≡◌, ℕ, true, Some}
-use Rattle.server_model.specs.declared.event.What.{What}
-use Rattle.server_model.specs.Servers.{Server, Cluster, server_at}
-use Rattle.server_model.specs.Events.{enabled}
-use Rattle.event_law.specs.Laws.{FewEvents, HasResult}
-use Rattle.type_law.specs.ClusterTypes.{IsCoherent}
+use Rattle.write_law.specs.Below.server_model.declared.event.What.{What}
+use Rattle.write_law.specs.Below.server_model.Servers.{Server, Cluster, server_at}
+use Rattle.write_law.specs.Below.server_model.Events.{enabled}
+use Rattle.write_law.specs.Below.event_law.Laws.{FewEvents, HasResult}
+use Rattle.write_law.specs.Below.type_law.ClusterTypes.{IsCoherent}
 
 -- in a coherent cluster where few events were done
 abbrev pub EventsHaveResults : Type 0

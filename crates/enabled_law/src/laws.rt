@@ -1,8 +1,8 @@
 //! That an enabled event has a result.
 
 ghost use Rattle.enabled_law.specs.Events.{EventsHaveResults};
-ghost use Rattle.event_law.specs.Kinds.{step_par, step_spawn};
-ghost use Rattle.result_law.specs.Results.{Anyhow, StepsHaveResults};
+ghost use Rattle.write_law.specs.Below.event_law.Kinds.{step_par, step_spawn};
+ghost use Rattle.write_law.specs.Below.result_law.Results.{Anyhow, StepsHaveResults};
 
 /// In a coherent cluster, where fewer than 2^31 - 1 events were done, each enabled spawn has a result: each variable that it captures has an owned value, moved
 /// or copied, also behind those that were moved before it, and its home has noted no thread of the new name.

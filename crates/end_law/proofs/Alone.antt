@@ -1,40 +1,40 @@
 -- A mutable reference that ends is alone.
 use Rattle.std.proofs.Common.{◌≡◌, ◌⊎◌, inl, inr, ⊎_elim, ℕ, zero, suc, true, Some, refl, sym, ap, subst, ◌∙◌, arith}
 use Rattle.std.specs.Prelude.{slice_get}
-use Rattle.fr_base.specs.declared.name.ObjNo.{ObjNo}
-use Rattle.fr_base.specs.declared.place.Lval.{Lval}
-use Rattle.fr_base.specs.declared.instruction.Instr.TheVariants as instr
-use Rattle.fr_store.specs.Keys.{Key, slot_k, temp_k}
-use Rattle.fr_store.specs.Store.{Location as StoreLocation, at_key, at_object, Val, ref_v, Store, Place as StorePlace, then_location, star_target, star_hop, walk, below_key}
-use Rattle.fr_store.specs.Typed.{refers, KeyTypes, Resolves, through, RefFits}
-use Rattle.fr_store.proofs.Below.{add_zero}
-use Rattle.fr_store.proofs.Chains.{unique}
-use Rattle.fr_store.proofs.Sound.{walk_last, ref_at, sound}
-use Rattle.mut_borrow.specs.declared.mutable.MutRef.{MutRef}
-use Rattle.mut_borrow.specs.declared.shared.SharedRef.{SharedRef}
-use Rattle.thread_state.specs.View.{is_over}
-use Rattle.thread_state.specs.declared.value.Value.TheVariants as value
-use Rattle.server_model.specs.Servers.{Cluster}
-use Rattle.heap_law.specs.Names.{Among}
-use Rattle.heap_law.specs.Things.{Location, at_slot, at_temp, shares, things_of}
-use Rattle.heap_law.specs.Follow.{Standing, Ground, threads_in, thread_at, temp_of, value_in, locate}
-use Rattle.heap_law.specs.Paths as paths
-use Rattle.heap_law.specs.Paths.{ends, path_of}
-use Rattle.heap_law.specs.Stale.{Reference, references, is_among, is_held_at as is_held_there, holder_of, lent_places, changed_above, stale_above, taken_above}
-use Rattle.heap_law.specs.Sight.{Pointer, pointers_in, sight}
-use Rattle.heap_law.specs.Walking.{instr_of, path}
-use Rattle.heap_law.specs.Words.{IsStale}
-use Rattle.path_law.specs.Above.{IsMadeFrom, StandsAbove, holder, higher, PointsTo, a_reference}
-use Rattle.path_law.specs.HeapStore.{in_store, heap_store, GoesOn, IsUnmarked, HasPaths}
-use Rattle.path_law.specs.Pointing.{Above, made_from, made_below, lends}
-use Rattle.path_law.proofs.Sole.{sole_pointer, sole_mutable, sole_named, some_is}
-use Rattle.path_law.proofs.Circles.{no_circle}
-use Rattle.path_law.proofs.Shown.{stands_there}
-use Rattle.path_law.proofs.Alike.{IsShown, there_of, mark_unnamed, leads_in_heap, leads_in_cluster, slot_shared, temp_shared}
-use Rattle.path_law.proofs.Forms.{not_mutable}
-use Rattle.path_law.proofs.Climbs.{one_location, held_as, and_second, ref_is, climbs}
-use Rattle.path_law.proofs.Pointers.{Stood, pointed_at, shared_at, temp_unnamed}
-use Rattle.path_law.proofs.FreshPaths.{MutThere, flat, holds_there, chain_of, followed_of, taken_among}
+use Rattle.read_law.specs.Below.fr_base.declared.name.ObjNo.{ObjNo}
+use Rattle.read_law.specs.Below.fr_base.declared.place.Lval.{Lval}
+use Rattle.read_law.specs.Below.fr_base.declared.instruction.Instr.TheVariants as instr
+use Rattle.read_law.specs.Below.fr_store.Keys.{Key, slot_k, temp_k}
+use Rattle.read_law.specs.Below.fr_store.Store.{Location as StoreLocation, at_key, at_object, Val, ref_v, Store, Place as StorePlace, then_location, star_target, star_hop, walk, below_key}
+use Rattle.read_law.specs.Below.fr_store.Typed.{refers, KeyTypes, Resolves, through, RefFits}
+use Rattle.read_law.proofs.Below.fr_store.Below.{add_zero}
+use Rattle.read_law.proofs.Below.fr_store.Chains.{unique}
+use Rattle.read_law.proofs.Below.fr_store.Sound.{walk_last, ref_at, sound}
+use Rattle.read_law.specs.Below.mut_borrow.declared.mutable.MutRef.{MutRef}
+use Rattle.read_law.specs.Below.mut_borrow.declared.shared.SharedRef.{SharedRef}
+use Rattle.read_law.specs.Below.thread_state.View.{is_over}
+use Rattle.read_law.specs.Below.thread_state.declared.value.Value.TheVariants as value
+use Rattle.read_law.specs.Below.server_model.Servers.{Cluster}
+use Rattle.read_law.specs.Below.heap_law.Names.{Among}
+use Rattle.read_law.specs.Below.heap_law.Things.{Location, at_slot, at_temp, shares, things_of}
+use Rattle.read_law.specs.Below.heap_law.Follow.{Standing, Ground, threads_in, thread_at, temp_of, value_in, locate}
+use Rattle.read_law.specs.Below.heap_law.Paths as paths
+use Rattle.read_law.specs.Below.heap_law.Paths.{ends, path_of}
+use Rattle.read_law.specs.Below.heap_law.Stale.{Reference, references, is_among, is_held_at as is_held_there, holder_of, lent_places, changed_above, stale_above, taken_above}
+use Rattle.read_law.specs.Below.heap_law.Sight.{Pointer, pointers_in, sight}
+use Rattle.read_law.specs.Below.heap_law.Walking.{instr_of, path}
+use Rattle.read_law.specs.Below.heap_law.Words.{IsStale}
+use Rattle.read_law.specs.Below.path_law.Above.{IsMadeFrom, StandsAbove, holder, higher, PointsTo, a_reference}
+use Rattle.read_law.specs.Below.path_law.HeapStore.{in_store, heap_store, GoesOn, IsUnmarked, HasPaths}
+use Rattle.read_law.specs.Below.path_law.Pointing.{Above, made_from, made_below, lends}
+use Rattle.read_law.proofs.Below.path_law.Sole.{sole_pointer, sole_mutable, sole_named, some_is}
+use Rattle.read_law.proofs.Below.path_law.Circles.{no_circle}
+use Rattle.read_law.proofs.Below.path_law.Shown.{stands_there}
+use Rattle.read_law.proofs.Below.path_law.Alike.{IsShown, there_of, mark_unnamed, leads_in_heap, leads_in_cluster, slot_shared, temp_shared}
+use Rattle.read_law.proofs.Below.path_law.Forms.{not_mutable}
+use Rattle.read_law.proofs.Below.path_law.Climbs.{one_location, held_as, and_second, ref_is, climbs}
+use Rattle.read_law.proofs.Below.path_law.Pointers.{Stood, pointed_at, shared_at, temp_unnamed}
+use Rattle.read_law.proofs.Below.path_law.FreshPaths.{MutThere, flat, holds_there, chain_of, followed_of, taken_among}
 use Rattle.end_law.specs.Ending.{EndsAlone, EndedAreAlone}
 use Rattle.end_law.proofs.Ends.{EndsAt, ends_at}
 

@@ -1,33 +1,33 @@
 -- Where the mutable reference stands that a thread's instruction ends: at a key that no type names.
 use Rattle.std.proofs.Common.{◌≡◌, ℕ, zero, suc, ◌-◌, true, false, List, [], ◌∷◌, length, Option, Some, None, refl, sym, ap, subst, ◌∙◌, arith}
 use Rattle.std.specs.Prelude.{slice_get}
-use Rattle.fr_base.specs.Lists.{last_of}
-use Rattle.fr_base.specs.declared.place.Lval.{Lval}
-use Rattle.fr_base.specs.declared.instruction.Operand.{Operand}
-use Rattle.fr_base.specs.declared.instruction.Instr.{Instr}
-use Rattle.fr_base.specs.declared.instruction.Instr.TheVariants as instr
-use Rattle.fr_store.specs.Keys.{Key, slot_k, temp_k}
-use Rattle.fr_store.specs.Store.{at_key}
-use Rattle.fr_store.specs.Typed.{KeyTypes, Unnamed}
-use Rattle.fr_code.specs.CodeTable.{Leads}
-use Rattle.mut_borrow.specs.declared.mutable.MutRef.{MutRef}
-use Rattle.thread_state.specs.declared.value.Value.{Value}
-use Rattle.thread_state.specs.declared.value.Value.TheVariants as value
-use Rattle.server_model.specs.Servers.{Cluster}
-use Rattle.heap_law.specs.Things.{Location, at_slot, at_temp}
-use Rattle.heap_law.specs.Follow.{Standing, Ground, slot_of, temp_of, value_in}
-use Rattle.heap_law.specs.Paths.{ends, ending, assigning, taking, path_of}
-use Rattle.heap_law.specs.Sight.{sight}
-use Rattle.heap_law.specs.Walking.{instr_of, path}
-use Rattle.path_law.specs.HeapStore.{GoesOn, HasPaths}
-use Rattle.path_law.specs.Pointing.{assigns}
-use Rattle.path_law.proofs.Sole.{some_is}
-use Rattle.path_law.proofs.Shown.{stands_there}
-use Rattle.path_law.proofs.Forms.{running_typed}
-use Rattle.path_law.proofs.MayWrites.{may_write_there}
-use Rattle.path_law.proofs.Ended.{newest_free, dropped_at}
-use Rattle.path_law.proofs.Pointers.{temp_unnamed}
-use Rattle.path_law.proofs.FreshPaths.{MutThere, slot_there, temp_there}
+use Rattle.read_law.specs.Below.fr_base.Lists.{last_of}
+use Rattle.read_law.specs.Below.fr_base.declared.place.Lval.{Lval}
+use Rattle.read_law.specs.Below.fr_base.declared.instruction.Operand.{Operand}
+use Rattle.read_law.specs.Below.fr_base.declared.instruction.Instr.{Instr}
+use Rattle.read_law.specs.Below.fr_base.declared.instruction.Instr.TheVariants as instr
+use Rattle.read_law.specs.Below.fr_store.Keys.{Key, slot_k, temp_k}
+use Rattle.read_law.specs.Below.fr_store.Store.{at_key}
+use Rattle.read_law.specs.Below.fr_store.Typed.{KeyTypes, Unnamed}
+use Rattle.read_law.specs.Below.fr_code.CodeTable.{Leads}
+use Rattle.read_law.specs.Below.mut_borrow.declared.mutable.MutRef.{MutRef}
+use Rattle.read_law.specs.Below.thread_state.declared.value.Value.{Value}
+use Rattle.read_law.specs.Below.thread_state.declared.value.Value.TheVariants as value
+use Rattle.read_law.specs.Below.server_model.Servers.{Cluster}
+use Rattle.read_law.specs.Below.heap_law.Things.{Location, at_slot, at_temp}
+use Rattle.read_law.specs.Below.heap_law.Follow.{Standing, Ground, slot_of, temp_of, value_in}
+use Rattle.read_law.specs.Below.heap_law.Paths.{ends, ending, assigning, taking, path_of}
+use Rattle.read_law.specs.Below.heap_law.Sight.{sight}
+use Rattle.read_law.specs.Below.heap_law.Walking.{instr_of, path}
+use Rattle.read_law.specs.Below.path_law.HeapStore.{GoesOn, HasPaths}
+use Rattle.read_law.specs.Below.path_law.Pointing.{assigns}
+use Rattle.read_law.proofs.Below.path_law.Sole.{some_is}
+use Rattle.read_law.proofs.Below.path_law.Shown.{stands_there}
+use Rattle.read_law.proofs.Below.path_law.Forms.{running_typed}
+use Rattle.read_law.proofs.Below.path_law.MayWrites.{may_write_there}
+use Rattle.read_law.proofs.Below.path_law.Ended.{newest_free, dropped_at}
+use Rattle.read_law.proofs.Below.path_law.Pointers.{temp_unnamed}
+use Rattle.read_law.proofs.Below.path_law.FreshPaths.{MutThere, slot_there, temp_there}
 
 same_ref : {q r : MutRef} → ends q ≡ ends r → q ≡ r
 same_ref e = cc

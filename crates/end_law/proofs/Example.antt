@@ -1,6 +1,6 @@
 -- The laws of writes apply to main at its assignment.
 use Rattle.std.proofs.Common.{refl}
-use Rattle.path_law.proofs.Example.{places_apply}
+use Rattle.read_law.proofs.Below.path_law.Example.{places_apply}
 use Rattle.end_law.specs.Example.{WritesApply}
 
 pub writes_apply : WritesApply

@@ -1,33 +1,33 @@
 -- No pointer that a thread's write follows is stale.
 use Rattle.std.proofs.Common.{◌≡◌, ℕ, zero, suc, ◌-◌, ◌<◌, true, false, Option, Some, None, refl, sym, ap, subst, ◌∙◌, arith}
 use Rattle.std.specs.Prelude.{slice_get}
-use Rattle.fr_base.specs.declared.place.Lval.{Lval}
-use Rattle.fr_base.specs.declared.instruction.Operand.{Operand}
-use Rattle.fr_base.specs.declared.instruction.Instr.{Instr}
-use Rattle.fr_base.specs.declared.instruction.Instr.TheVariants as instr
-use Rattle.fr_store.specs.Keys.{slot_k}
-use Rattle.fr_store.specs.Store.{at_key, Store, Place as StorePlace, walk, below_key}
-use Rattle.fr_store.specs.Typed.{KeyTypes, RefFits}
-use Rattle.fr_store.proofs.Chains.{unique}
-use Rattle.fr_store.proofs.Sound.{ref_at, sound}
-use Rattle.mut_borrow.specs.declared.mutable.MutRef.{MutRef}
-use Rattle.thread_state.specs.declared.value.Value.{Value}
-use Rattle.thread_state.specs.declared.value.Value.TheVariants as value
-use Rattle.server_model.specs.Servers.{Cluster}
-use Rattle.heap_law.specs.Names.{Among}
-use Rattle.heap_law.specs.Things.{Location, things_of}
-use Rattle.heap_law.specs.Follow.{Standing, locate}
-use Rattle.heap_law.specs.Paths.{lends, ends, ending, assigning, taking, path_of, written_place}
-use Rattle.heap_law.specs.Stale.{Reference, references, is_held_at as is_held_there, changed_above, stale_above, taken_above}
-use Rattle.heap_law.specs.Sight.{sight}
-use Rattle.heap_law.specs.Walking.{instr_of, path}
-use Rattle.heap_law.specs.Words.{IsStale}
-use Rattle.path_law.specs.HeapStore.{in_store, heap_store, GoesOn, HasPaths}
-use Rattle.path_law.specs.Pointing.{WritesTo, assigns, moves}
-use Rattle.path_law.proofs.Sole.{some_is}
-use Rattle.path_law.proofs.Circles.{shorter, base_in}
-use Rattle.path_law.proofs.Alike.{leads_in_heap}
-use Rattle.path_law.proofs.FreshPaths.{MutThere, flat, holds_there, OwnChain, chain_of, OwnSlot, own_closed, followed_of, none_made, threads_same}
+use Rattle.read_law.specs.Below.fr_base.declared.place.Lval.{Lval}
+use Rattle.read_law.specs.Below.fr_base.declared.instruction.Operand.{Operand}
+use Rattle.read_law.specs.Below.fr_base.declared.instruction.Instr.{Instr}
+use Rattle.read_law.specs.Below.fr_base.declared.instruction.Instr.TheVariants as instr
+use Rattle.read_law.specs.Below.fr_store.Keys.{slot_k}
+use Rattle.read_law.specs.Below.fr_store.Store.{at_key, Store, Place as StorePlace, walk, below_key}
+use Rattle.read_law.specs.Below.fr_store.Typed.{KeyTypes, RefFits}
+use Rattle.read_law.proofs.Below.fr_store.Chains.{unique}
+use Rattle.read_law.proofs.Below.fr_store.Sound.{ref_at, sound}
+use Rattle.read_law.specs.Below.mut_borrow.declared.mutable.MutRef.{MutRef}
+use Rattle.read_law.specs.Below.thread_state.declared.value.Value.{Value}
+use Rattle.read_law.specs.Below.thread_state.declared.value.Value.TheVariants as value
+use Rattle.read_law.specs.Below.server_model.Servers.{Cluster}
+use Rattle.read_law.specs.Below.heap_law.Names.{Among}
+use Rattle.read_law.specs.Below.heap_law.Things.{Location, things_of}
+use Rattle.read_law.specs.Below.heap_law.Follow.{Standing, locate}
+use Rattle.read_law.specs.Below.heap_law.Paths.{lends, ends, ending, assigning, taking, path_of, written_place}
+use Rattle.read_law.specs.Below.heap_law.Stale.{Reference, references, is_held_at as is_held_there, changed_above, stale_above, taken_above}
+use Rattle.read_law.specs.Below.heap_law.Sight.{sight}
+use Rattle.read_law.specs.Below.heap_law.Walking.{instr_of, path}
+use Rattle.read_law.specs.Below.heap_law.Words.{IsStale}
+use Rattle.read_law.specs.Below.path_law.HeapStore.{in_store, heap_store, GoesOn, HasPaths}
+use Rattle.read_law.specs.Below.path_law.Pointing.{WritesTo, assigns, moves}
+use Rattle.read_law.proofs.Below.path_law.Sole.{some_is}
+use Rattle.read_law.proofs.Below.path_law.Circles.{shorter, base_in}
+use Rattle.read_law.proofs.Below.path_law.Alike.{leads_in_heap}
+use Rattle.read_law.proofs.Below.path_law.FreshPaths.{MutThere, flat, holds_there, OwnChain, chain_of, OwnSlot, own_closed, followed_of, none_made, threads_same}
 use Rattle.end_law.specs.Ending.{WritesAreFresh}
 use Rattle.end_law.proofs.Lent.{none_before}
 use Rattle.end_law.proofs.Ends.{EndsAt, ends_at}

@@ -1,30 +1,30 @@
 -- What an instruction gives up stands at a place that the thread may write.
 use Rattle.std.proofs.Common.{◌≡◌, ℕ, suc, ◌&&◌, not, Bool, true, false, List, [], ◌∷◌, length, Some, None, refl, sym, ap, subst, ◌∙◌, arith}
 use Rattle.std.specs.Prelude.{is_some, if◌then◌else◌}
-use Rattle.fr_typing.proofs.PlaceLemmas.{eq_cases}
+use Rattle.read_law.proofs.Below.fr_typing.PlaceLemmas.{eq_cases}
 use Rattle.std.specs.List.{list_all}
-use Rattle.fr_base.specs.declared.place.Lval.{Lval}
-use Rattle.fr_base.specs.declared.instruction.Operand.{Operand}
-use Rattle.fr_base.specs.declared.instruction.Instr.{Instr}
-use Rattle.fr_base.specs.declared.instruction.Instr.TheVariants as instr
-use Rattle.fr_typing.specs.Kinds.{Kind, own, shared, mutable, view, whole}
-use Rattle.fr_typing.specs.Places.{Slot, Env}
-use Rattle.fr_typing.specs.Checks.{is_owned, names_from}
-use Rattle.fr_store.specs.Keys.{slot_k}
-use Rattle.fr_store.specs.Typed.{KeyTypes, here}
-use Rattle.fr_store.proofs.Below.{part_zero}
-use Rattle.fr_code.specs.CodeTypes.{Entry, Table, is_variable, InstrTypes, i_drop, i_unlock, outlive}
-use Rattle.fr_code.specs.CodeTable.{Leads, to_next, ends, Successors}
-use Rattle.server_model.specs.Servers.{Cluster}
-use Rattle.heap_law.specs.Follow.{Standing}
-use Rattle.heap_law.specs.Sight.{sight}
-use Rattle.heap_law.specs.Walking.{instr_of}
-use Rattle.path_law.specs.HeapStore.{GoesOn, HasPaths}
-use Rattle.path_law.specs.Pointing.{MayWrite}
-use Rattle.path_law.proofs.Sole.{some_is}
-use Rattle.path_law.proofs.Forms.{running_typed}
-use Rattle.path_law.proofs.MayWrites.{variable_unmarked, may_write_there}
-use Rattle.path_law.proofs.Ended.{IsDropped, slots_long, newest_free}
+use Rattle.read_law.specs.Below.fr_base.declared.place.Lval.{Lval}
+use Rattle.read_law.specs.Below.fr_base.declared.instruction.Operand.{Operand}
+use Rattle.read_law.specs.Below.fr_base.declared.instruction.Instr.{Instr}
+use Rattle.read_law.specs.Below.fr_base.declared.instruction.Instr.TheVariants as instr
+use Rattle.read_law.specs.Below.fr_typing.Kinds.{Kind, own, shared, mutable, view, whole}
+use Rattle.read_law.specs.Below.fr_typing.Places.{Slot, Env}
+use Rattle.read_law.specs.Below.fr_typing.Checks.{is_owned, names_from}
+use Rattle.read_law.specs.Below.fr_store.Keys.{slot_k}
+use Rattle.read_law.specs.Below.fr_store.Typed.{KeyTypes, here}
+use Rattle.read_law.proofs.Below.fr_store.Below.{part_zero}
+use Rattle.read_law.specs.Below.fr_code.CodeTypes.{Entry, Table, is_variable, InstrTypes, i_drop, i_unlock, outlive}
+use Rattle.read_law.specs.Below.fr_code.CodeTable.{Leads, to_next, ends, Successors}
+use Rattle.read_law.specs.Below.server_model.Servers.{Cluster}
+use Rattle.read_law.specs.Below.heap_law.Follow.{Standing}
+use Rattle.read_law.specs.Below.heap_law.Sight.{sight}
+use Rattle.read_law.specs.Below.heap_law.Walking.{instr_of}
+use Rattle.read_law.specs.Below.path_law.HeapStore.{GoesOn, HasPaths}
+use Rattle.read_law.specs.Below.path_law.Pointing.{MayWrite}
+use Rattle.read_law.proofs.Below.path_law.Sole.{some_is}
+use Rattle.read_law.proofs.Below.path_law.Forms.{running_typed}
+use Rattle.read_law.proofs.Below.path_law.MayWrites.{variable_unmarked, may_write_there}
+use Rattle.read_law.proofs.Below.path_law.Ended.{IsDropped, slots_long, newest_free}
 use Rattle.end_law.specs.Dropped.{GivesUp, written, dropped, put_back, GivenUpMayBe}
 
 -- THE NEWEST SLOT

@@ -1,14 +1,14 @@
 -- A key that one unnamed key lent: no reference was made from a pointer that its place follows before the last one.
 use Rattle.std.proofs.Common.{◌≡◌, ◌⊎◌, inl, inr, ℕ, suc, ◌-◌, ◌<◌, true, Bool, Some, refl, sym, ap, subst, ◌∙◌, arith}
-use Rattle.fr_base.specs.declared.name.ObjNo.{ObjNo}
-use Rattle.fr_store.specs.Keys.{Key}
-use Rattle.fr_store.specs.Store.{Location, at_key, at_object, ref_v, Store, star_hop, walk, Place, add}
-use Rattle.fr_store.specs.Typed.{Exact, refers, KeyTypes, Resolves, here, through, Loaned, self, loan, RefFits, Typed, Unnamed}
-use Rattle.fr_store.proofs.Chains.{add_plus, unique}
-use Rattle.fr_store.proofs.Sound.{walk_last, ref_at, sound, Reach, stop, go, res_reach}
-use Rattle.path_law.specs.Above.{IsMadeFrom}
-use Rattle.path_law.proofs.Sole.{loaned_first, some_is, by_reference, above, more_stars}
-use Rattle.path_law.proofs.Circles.{shorter, no_circle}
+use Rattle.read_law.specs.Below.fr_base.declared.name.ObjNo.{ObjNo}
+use Rattle.read_law.specs.Below.fr_store.Keys.{Key}
+use Rattle.read_law.specs.Below.fr_store.Store.{Location, at_key, at_object, ref_v, Store, star_hop, walk, Place, add}
+use Rattle.read_law.specs.Below.fr_store.Typed.{Exact, refers, KeyTypes, Resolves, here, through, Loaned, self, loan, RefFits, Typed, Unnamed}
+use Rattle.read_law.proofs.Below.fr_store.Chains.{add_plus, unique}
+use Rattle.read_law.proofs.Below.fr_store.Sound.{walk_last, ref_at, sound, Reach, stop, go, res_reach}
+use Rattle.read_law.specs.Below.path_law.Above.{IsMadeFrom}
+use Rattle.read_law.proofs.Below.path_law.Sole.{loaned_first, some_is, by_reference, above, more_stars}
+use Rattle.read_law.proofs.Below.path_law.Circles.{shorter, no_circle}
 
 same_place : {u v : Place} → refers true u ≡ refers true v → u ≡ v
 same_place e = cc

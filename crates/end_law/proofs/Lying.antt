@@ -1,38 +1,38 @@
 -- What a thread writes through or ends isn't under way, and lies where its word leads.
 use Rattle.std.proofs.Common.{◌≡◌, ℕ, zero, suc, ◌-◌, ◌<◌, true, Some, refl, sym, ap, subst, ◌∙◌, arith}
-use Rattle.fr_base.specs.declared.name.ObjNo.{ObjNo}
-use Rattle.fr_base.specs.declared.place.Lval.{Lval}
-use Rattle.heap_partition.specs.declared.value.BoxPtr.{BoxPtr}
-use Rattle.heap_partition.specs.declared.value.Cell.{Cell}
-use Rattle.fr_store.specs.Keys.{Key, slot_k}
-use Rattle.fr_store.specs.Store.{at_key, at_object, Val, Store, Place as StorePlace, below_key}
-use Rattle.fr_store.specs.Typed.{Exact, KeyTypes, Resolves, RefFits}
-use Rattle.fr_store.proofs.Chains.{unique, from_suc}
-use Rattle.fr_store.proofs.Sound.{ref_at, sound}
-use Rattle.fr_sound.specs.Seen.{owned_val, seen_cell}
-use Rattle.mut_borrow.specs.declared.mutable.MutRef.{MutRef}
-use Rattle.thread_state.specs.View.{is_over}
-use Rattle.thread_state.specs.declared.value.Value.{Value}
-use Rattle.thread_state.specs.declared.value.Value.TheVariants as value
-use Rattle.thread_state.specs.declared.phase.Phase.TheVariants as phase
-use Rattle.server_model.specs.Servers.{Cluster}
-use Rattle.server_model.specs.Places.{pointer_of}
-use Rattle.heap_law.specs.Names.{Among}
-use Rattle.heap_law.specs.Things.{Location, in_cell, Thing, flies, things_of}
-use Rattle.heap_law.specs.Follow.{Standing, Ground, thread_at, cell_of, value_in, value_behind, leads, locate}
-use Rattle.heap_law.specs.Paths.{ends, written_place}
-use Rattle.heap_law.specs.Sight.{sight}
-use Rattle.heap_law.specs.Walking.{path}
-use Rattle.heap_law.specs.Words.{HasWords, LeadsTo}
-use Rattle.heap_law.specs.OneHeap.{two_in}
-use Rattle.path_law.specs.HeapStore.{heap_store, GoesOn, HasPaths}
-use Rattle.path_law.proofs.Sole.{some_is}
-use Rattle.path_law.proofs.Circles.{shorter, base_in}
-use Rattle.path_law.proofs.Climbs.{ref_is}
-use Rattle.path_law.proofs.Shown.{stands_there}
-use Rattle.path_law.proofs.Alike.{leads_in_heap, heap_of_shown, cell_there, coherent_has_paths}
-use Rattle.path_law.proofs.MayWrites.{may_write_there}
-use Rattle.path_law.proofs.FreshPaths.{MutThere, OwnSlot, own_closed, threads_same}
+use Rattle.read_law.specs.Below.fr_base.declared.name.ObjNo.{ObjNo}
+use Rattle.read_law.specs.Below.fr_base.declared.place.Lval.{Lval}
+use Rattle.read_law.specs.Below.heap_partition.declared.value.BoxPtr.{BoxPtr}
+use Rattle.read_law.specs.Below.heap_partition.declared.value.Cell.{Cell}
+use Rattle.read_law.specs.Below.fr_store.Keys.{Key, slot_k}
+use Rattle.read_law.specs.Below.fr_store.Store.{at_key, at_object, Val, Store, Place as StorePlace, below_key}
+use Rattle.read_law.specs.Below.fr_store.Typed.{Exact, KeyTypes, Resolves, RefFits}
+use Rattle.read_law.proofs.Below.fr_store.Chains.{unique, from_suc}
+use Rattle.read_law.proofs.Below.fr_store.Sound.{ref_at, sound}
+use Rattle.read_law.specs.Below.fr_sound.Seen.{owned_val, seen_cell}
+use Rattle.read_law.specs.Below.mut_borrow.declared.mutable.MutRef.{MutRef}
+use Rattle.read_law.specs.Below.thread_state.View.{is_over}
+use Rattle.read_law.specs.Below.thread_state.declared.value.Value.{Value}
+use Rattle.read_law.specs.Below.thread_state.declared.value.Value.TheVariants as value
+use Rattle.read_law.specs.Below.thread_state.declared.phase.Phase.TheVariants as phase
+use Rattle.read_law.specs.Below.server_model.Servers.{Cluster}
+use Rattle.read_law.specs.Below.server_model.Places.{pointer_of}
+use Rattle.read_law.specs.Below.heap_law.Names.{Among}
+use Rattle.read_law.specs.Below.heap_law.Things.{Location, in_cell, Thing, flies, things_of}
+use Rattle.read_law.specs.Below.heap_law.Follow.{Standing, Ground, thread_at, cell_of, value_in, value_behind, leads, locate}
+use Rattle.read_law.specs.Below.heap_law.Paths.{ends, written_place}
+use Rattle.read_law.specs.Below.heap_law.Sight.{sight}
+use Rattle.read_law.specs.Below.heap_law.Walking.{path}
+use Rattle.read_law.specs.Below.heap_law.Words.{HasWords, LeadsTo}
+use Rattle.read_law.specs.Below.heap_law.OneHeap.{two_in}
+use Rattle.read_law.specs.Below.path_law.HeapStore.{heap_store, GoesOn, HasPaths}
+use Rattle.read_law.proofs.Below.path_law.Sole.{some_is}
+use Rattle.read_law.proofs.Below.path_law.Circles.{shorter, base_in}
+use Rattle.read_law.proofs.Below.path_law.Climbs.{ref_is}
+use Rattle.read_law.proofs.Below.path_law.Shown.{stands_there}
+use Rattle.read_law.proofs.Below.path_law.Alike.{leads_in_heap, heap_of_shown, cell_there, coherent_has_paths}
+use Rattle.read_law.proofs.Below.path_law.MayWrites.{may_write_there}
+use Rattle.read_law.proofs.Below.path_law.FreshPaths.{MutThere, OwnSlot, own_closed, threads_same}
 use Rattle.read_law.proofs.Below.word_law.Standing.{CellOf, lying, flying, InCell, cell_among}
 use Rattle.read_law.specs.Reading.{LiesUnder}
 use Rattle.read_law.specs.Answering.{AnswersTold}

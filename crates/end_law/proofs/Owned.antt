@@ -1,32 +1,32 @@
 -- To each object that a value owns which a thread may give up, its box is the only pointer.
 use Rattle.std.proofs.Common.{◌≡◌, ◌⊎◌, inl, inr, ⊎_elim, ℕ, zero, suc, true, Option, Some, None, refl, sym, ap, subst, ◌∙◌}
 use Rattle.std.specs.Prelude.{slice_get}
-use Rattle.fr_base.specs.declared.name.ObjNo.{ObjNo}
-use Rattle.heap_partition.specs.declared.value.BoxPtr.{BoxPtr}
-use Rattle.heap_partition.specs.declared.value.Owned.{Owned}
-use Rattle.heap_partition.specs.declared.value.Owned.TheVariants as owned
-use Rattle.heap_partition.specs.Plain.{plain_of}
-use Rattle.fr_store.specs.Keys.{Key, slot_k, temp_k}
-use Rattle.fr_store.specs.Store.{Location as StoreLocation, at_key, at_object, Val, box_v, ref_v, Store, value_at, star_target, walk, below_key}
-use Rattle.fr_store.specs.Typed.{Tree, hole, unit_tree, int_tree, mutex_tree, task_tree, box_tree, Exact, owns, refers, KeyTypes, Resolves, here, RefFits, Stands, Fits, TopFits, Typed, Unnamed}
-use Rattle.fr_store.proofs.Below.{part_zero, res_box}
-use Rattle.fr_store.proofs.Sound.{walk_last, ref_at, sound, res_part}
-use Rattle.fr_sound.specs.Seen.{owned_val, seen_cell}
-use Rattle.mut_borrow.specs.declared.shared.SharedRef.{SharedRef}
-use Rattle.thread_state.specs.declared.value.Value.{Value}
-use Rattle.thread_state.specs.declared.value.Value.TheVariants as value
-use Rattle.server_model.specs.Servers.{Cluster}
-use Rattle.heap_law.specs.Names.{Among}
-use Rattle.heap_law.specs.Things.{Location, at_slot, at_temp, in_cell, shares, things_of}
-use Rattle.heap_law.specs.Follow.{Standing, Ground, slot_of, temp_of, value_of, value_in, value_behind}
-use Rattle.heap_law.specs.Sight.{Pointer, pointers_in, sight}
-use Rattle.path_law.specs.Above.{StandsAbove, holder, higher, PointsTo, a_reference}
-use Rattle.path_law.specs.HeapStore.{in_store, heap_store, GoesOn, HasPaths}
-use Rattle.path_law.proofs.Sole.{sole_pointer, some_is}
-use Rattle.path_law.proofs.Shown.{stands_there}
-use Rattle.path_law.proofs.Alike.{IsShown, a_slot, an_object, cell_there, leads_in_heap, slot_own, slot_shared, temp_own, temp_shared}
-use Rattle.path_law.proofs.Climbs.{one_location}
-use Rattle.path_law.proofs.Pointers.{Stood, pointed_at, shared_at, temp_unnamed}
+use Rattle.read_law.specs.Below.fr_base.declared.name.ObjNo.{ObjNo}
+use Rattle.read_law.specs.Below.heap_partition.declared.value.BoxPtr.{BoxPtr}
+use Rattle.read_law.specs.Below.heap_partition.declared.value.Owned.{Owned}
+use Rattle.read_law.specs.Below.heap_partition.declared.value.Owned.TheVariants as owned
+use Rattle.read_law.specs.Below.heap_partition.Plain.{plain_of}
+use Rattle.read_law.specs.Below.fr_store.Keys.{Key, slot_k, temp_k}
+use Rattle.read_law.specs.Below.fr_store.Store.{Location as StoreLocation, at_key, at_object, Val, box_v, ref_v, Store, value_at, star_target, walk, below_key}
+use Rattle.read_law.specs.Below.fr_store.Typed.{Tree, hole, unit_tree, int_tree, mutex_tree, task_tree, box_tree, Exact, owns, refers, KeyTypes, Resolves, here, RefFits, Stands, Fits, TopFits, Typed, Unnamed}
+use Rattle.read_law.proofs.Below.fr_store.Below.{part_zero, res_box}
+use Rattle.read_law.proofs.Below.fr_store.Sound.{walk_last, ref_at, sound, res_part}
+use Rattle.read_law.specs.Below.fr_sound.Seen.{owned_val, seen_cell}
+use Rattle.read_law.specs.Below.mut_borrow.declared.shared.SharedRef.{SharedRef}
+use Rattle.read_law.specs.Below.thread_state.declared.value.Value.{Value}
+use Rattle.read_law.specs.Below.thread_state.declared.value.Value.TheVariants as value
+use Rattle.read_law.specs.Below.server_model.Servers.{Cluster}
+use Rattle.read_law.specs.Below.heap_law.Names.{Among}
+use Rattle.read_law.specs.Below.heap_law.Things.{Location, at_slot, at_temp, in_cell, shares, things_of}
+use Rattle.read_law.specs.Below.heap_law.Follow.{Standing, Ground, slot_of, temp_of, value_of, value_in, value_behind}
+use Rattle.read_law.specs.Below.heap_law.Sight.{Pointer, pointers_in, sight}
+use Rattle.read_law.specs.Below.path_law.Above.{StandsAbove, holder, higher, PointsTo, a_reference}
+use Rattle.read_law.specs.Below.path_law.HeapStore.{in_store, heap_store, GoesOn, HasPaths}
+use Rattle.read_law.proofs.Below.path_law.Sole.{sole_pointer, some_is}
+use Rattle.read_law.proofs.Below.path_law.Shown.{stands_there}
+use Rattle.read_law.proofs.Below.path_law.Alike.{IsShown, a_slot, an_object, cell_there, leads_in_heap, slot_own, slot_shared, temp_own, temp_shared}
+use Rattle.read_law.proofs.Below.path_law.Climbs.{one_location}
+use Rattle.read_law.proofs.Below.path_law.Pointers.{Stood, pointed_at, shared_at, temp_unnamed}
 use Rattle.end_law.specs.Dropped.{box_leads, boxes_below, MayGiveUp, a_temp, a_place, IsOnlyPointer, OwnedAreAlone}
 
 -- IN A STORE

@@ -1,25 +1,25 @@
 -- What a write has passed isn't stale, in every cluster with paths where threads pass hops in walks alone and no more than they have.
 use Rattle.std.proofs.Common.{◌≡◌, inl, inr, ℕ, zero, suc, ◌<◌, ◌≤◌, nat_le, ◌==◌, ◌&&◌, not, Bool, true, false, List, [], ◌∷◌, Option, Some, None, refl, sym, ap, subst, arith}
 use Rattle.std.proofs.lemmas.Bool.Decides.{nat_tests}
-use Rattle.fr_base.specs.declared.place.Lval.{Lval}
-use Rattle.heap_partition.specs.declared.value.Owned.TheVariants as owned
-use Rattle.thread_state.specs.View.{is_over}
-use Rattle.thread_state.specs.declared.phase.Phase.{Phase}
-use Rattle.thread_state.specs.declared.phase.Phase.TheVariants as phase
-use Rattle.thread_state.specs.declared.value.Value.{Value}
-use Rattle.thread_state.specs.declared.value.Value.TheVariants as value
-use Rattle.server_model.specs.Servers.{Cluster}
-use Rattle.heap_law.specs.Names.{tot, one, other, Among}
-use Rattle.heap_law.specs.Things.{Location}
-use Rattle.heap_law.specs.Follow.{Standing, Ground, value_behind, locate}
-use Rattle.heap_law.specs.Sight.{sight, is_stale}
-use Rattle.heap_law.specs.Walking.{over_hops, over_place, over_passed, stale_hop, in_walk, early, hop_count, too_far, path}
-use Rattle.heap_law.specs.Words.{IsStale}
-use Rattle.heap_law.specs.Paths.{written_place}
-use Rattle.heap_law.proofs.Words.{not_told}
-use Rattle.path_law.specs.HeapStore.{HasPaths}
-use Rattle.path_law.proofs.Shown.{none_else}
-use Rattle.path_law.proofs.Forms.{none_of}
+use Rattle.read_law.specs.Below.fr_base.declared.place.Lval.{Lval}
+use Rattle.read_law.specs.Below.heap_partition.declared.value.Owned.TheVariants as owned
+use Rattle.read_law.specs.Below.thread_state.View.{is_over}
+use Rattle.read_law.specs.Below.thread_state.declared.phase.Phase.{Phase}
+use Rattle.read_law.specs.Below.thread_state.declared.phase.Phase.TheVariants as phase
+use Rattle.read_law.specs.Below.thread_state.declared.value.Value.{Value}
+use Rattle.read_law.specs.Below.thread_state.declared.value.Value.TheVariants as value
+use Rattle.read_law.specs.Below.server_model.Servers.{Cluster}
+use Rattle.read_law.specs.Below.heap_law.Names.{tot, one, other, Among}
+use Rattle.read_law.specs.Below.heap_law.Things.{Location}
+use Rattle.read_law.specs.Below.heap_law.Follow.{Standing, Ground, value_behind, locate}
+use Rattle.read_law.specs.Below.heap_law.Sight.{sight, is_stale}
+use Rattle.read_law.specs.Below.heap_law.Walking.{over_hops, over_place, over_passed, stale_hop, in_walk, early, hop_count, too_far, path}
+use Rattle.read_law.specs.Below.heap_law.Words.{IsStale}
+use Rattle.read_law.specs.Below.heap_law.Paths.{written_place}
+use Rattle.read_law.proofs.Below.heap_law.Words.{not_told}
+use Rattle.read_law.specs.Below.path_law.HeapStore.{HasPaths}
+use Rattle.read_law.proofs.Below.path_law.Shown.{none_else}
+use Rattle.read_law.proofs.Below.path_law.Forms.{none_of}
 use Rattle.end_law.specs.Ending.{PassedFollows}
 use Rattle.end_law.proofs.Fresh.{writes_are_fresh}
 

@@ -2,53 +2,53 @@
 use Rattle.std.proofs.Common.{◌≡◌, inl, inr, ⊎_elim, ℕ, zero, suc, ◌-◌, ◌<◌, ◌≤◌, ◌==◌, ◌&&◌, not, true, List, [], ◌∷◌, Option, Some, None, refl, sym, ap, subst, ◌∙◌, arith}
 use Rattle.std.specs.Prelude.{slice_get}
 use Rattle.std.proofs.lemmas.Bool.{eq-eqb}
-use Rattle.fr_base.specs.declared.name.ObjNo.{ObjNo}
-use Rattle.fr_base.specs.declared.name.MutexNo.{MutexNo}
-use Rattle.fr_base.specs.declared.place.Lval.{Lval}
-use Rattle.fr_base.specs.declared.instruction.Instr.{Instr}
-use Rattle.fr_base.specs.declared.instruction.Instr.TheVariants as instr
-use Rattle.global_addr.specs.Words.{server_of, address_of}
-use Rattle.heap_partition.specs.declared.value.BoxPtr.{BoxPtr}
-use Rattle.heap_partition.specs.declared.value.Cell.{Cell}
-use Rattle.heap_partition.specs.declared.value.Owned.{Owned}
-use Rattle.heap_partition.specs.declared.value.Owned.TheVariants as owned
-use Rattle.heap_partition.specs.Plain.{plain_of}
-use Rattle.fr_store.specs.Keys.{slot_k}
-use Rattle.fr_store.specs.Store.{Location as StoreLocation, at_key, at_object, gone_v, box_v, ref_v, Store, value_at, below_key}
-use Rattle.fr_store.proofs.Chains.{from_suc}
-use Rattle.fr_sound.specs.Seen.{owned_val}
-use Rattle.mut_borrow.specs.declared.mutable.MutRef.{MutRef}
-use Rattle.thread_state.specs.View.{is_over}
-use Rattle.thread_state.specs.declared.value.Value.{Value}
-use Rattle.thread_state.specs.declared.value.Value.TheVariants as value
-use Rattle.thread_state.specs.declared.phase.Phase.TheVariants as phase
-use Rattle.server_msgs.specs.declared.message.Message.{Message}
-use Rattle.server_msgs.specs.declared.message.Message.TheVariants as message
-use Rattle.server_model.specs.Servers.{Cluster}
-use Rattle.server_model.specs.Places.{pointer_of}
-use Rattle.heap_law.specs.Names.{tot, other, some, same_object, Among, boxes}
-use Rattle.heap_law.specs.Things.{at_slot, in_cell, in_slot, Thing, holds, lies, flies, sent, things_of}
-use Rattle.heap_law.specs.Follow.{Standing, Ground, threads_in, thread_at, cell_of, slot_of, value_in, locate}
-use Rattle.heap_law.specs.Sight.{Pointer, is_word, word, sight}
-use Rattle.heap_law.specs.Weights.{cells, owners, lies_under}
-use Rattle.heap_law.specs.Paths.{Path, reads, shares, lends, ends, written_place, Awaited, to_read, to_write, to_clean}
-use Rattle.heap_law.specs.Walking.{instr_of, path, asks_for, asked_for}
-use Rattle.heap_law.specs.Words.{IsStale, HasWords, Fresh, LeadsTo}
-use Rattle.heap_law.specs.Turn.{IsAsked, AwaitsAt, read_at, before_share, at_share, before_lend, at_lend, NextHop, InTurn, by_read, by_share, by_lend, by_write, by_end, by_holder, WaitsFor}
-use Rattle.heap_law.specs.Requests.{is_cell, in_phase, carries, not_under, message_leads, not_there}
-use Rattle.heap_law.proofs.Names.{and_left, and_right, same_number}
-use Rattle.heap_law.proofs.Words.{none_at, none_all, named, itself, words_law}
-use Rattle.heap_law.proofs.Passing.{paths_law}
+use Rattle.read_law.specs.Below.fr_base.declared.name.ObjNo.{ObjNo}
+use Rattle.read_law.specs.Below.fr_base.declared.name.MutexNo.{MutexNo}
+use Rattle.read_law.specs.Below.fr_base.declared.place.Lval.{Lval}
+use Rattle.read_law.specs.Below.fr_base.declared.instruction.Instr.{Instr}
+use Rattle.read_law.specs.Below.fr_base.declared.instruction.Instr.TheVariants as instr
+use Rattle.read_law.specs.Below.global_addr.Words.{server_of, address_of}
+use Rattle.read_law.specs.Below.heap_partition.declared.value.BoxPtr.{BoxPtr}
+use Rattle.read_law.specs.Below.heap_partition.declared.value.Cell.{Cell}
+use Rattle.read_law.specs.Below.heap_partition.declared.value.Owned.{Owned}
+use Rattle.read_law.specs.Below.heap_partition.declared.value.Owned.TheVariants as owned
+use Rattle.read_law.specs.Below.heap_partition.Plain.{plain_of}
+use Rattle.read_law.specs.Below.fr_store.Keys.{slot_k}
+use Rattle.read_law.specs.Below.fr_store.Store.{Location as StoreLocation, at_key, at_object, gone_v, box_v, ref_v, Store, value_at, below_key}
+use Rattle.read_law.proofs.Below.fr_store.Chains.{from_suc}
+use Rattle.read_law.specs.Below.fr_sound.Seen.{owned_val}
+use Rattle.read_law.specs.Below.mut_borrow.declared.mutable.MutRef.{MutRef}
+use Rattle.read_law.specs.Below.thread_state.View.{is_over}
+use Rattle.read_law.specs.Below.thread_state.declared.value.Value.{Value}
+use Rattle.read_law.specs.Below.thread_state.declared.value.Value.TheVariants as value
+use Rattle.read_law.specs.Below.thread_state.declared.phase.Phase.TheVariants as phase
+use Rattle.read_law.specs.Below.server_msgs.declared.message.Message.{Message}
+use Rattle.read_law.specs.Below.server_msgs.declared.message.Message.TheVariants as message
+use Rattle.read_law.specs.Below.server_model.Servers.{Cluster}
+use Rattle.read_law.specs.Below.server_model.Places.{pointer_of}
+use Rattle.read_law.specs.Below.heap_law.Names.{tot, other, some, same_object, Among, boxes}
+use Rattle.read_law.specs.Below.heap_law.Things.{at_slot, in_cell, in_slot, Thing, holds, lies, flies, sent, things_of}
+use Rattle.read_law.specs.Below.heap_law.Follow.{Standing, Ground, threads_in, thread_at, cell_of, slot_of, value_in, locate}
+use Rattle.read_law.specs.Below.heap_law.Sight.{Pointer, is_word, word, sight}
+use Rattle.read_law.specs.Below.heap_law.Weights.{cells, owners, lies_under}
+use Rattle.read_law.specs.Below.heap_law.Paths.{Path, reads, shares, lends, ends, written_place, Awaited, to_read, to_write, to_clean}
+use Rattle.read_law.specs.Below.heap_law.Walking.{instr_of, path, asks_for, asked_for}
+use Rattle.read_law.specs.Below.heap_law.Words.{IsStale, HasWords, Fresh, LeadsTo}
+use Rattle.read_law.specs.Below.heap_law.Turn.{IsAsked, AwaitsAt, read_at, before_share, at_share, before_lend, at_lend, NextHop, InTurn, by_read, by_share, by_lend, by_write, by_end, by_holder, WaitsFor}
+use Rattle.read_law.specs.Below.heap_law.Requests.{is_cell, in_phase, carries, not_under, message_leads, not_there}
+use Rattle.read_law.proofs.Below.heap_law.Names.{and_left, and_right, same_number}
+use Rattle.read_law.proofs.Below.heap_law.Words.{none_at, none_all, named, itself, words_law}
+use Rattle.read_law.proofs.Below.heap_law.Passing.{paths_law}
 use Rattle.read_law.proofs.Below.event_law.Askers.{other_none}
-use Rattle.path_law.specs.HeapStore.{heap_store, GoesOn, HasPaths}
-use Rattle.path_law.specs.Pointing.{lends as lends_to}
-use Rattle.path_law.proofs.Sole.{some_is}
-use Rattle.path_law.proofs.Contained.{among_thread}
-use Rattle.path_law.proofs.InState.{only_one}
-use Rattle.path_law.proofs.Shown.{shown_value, stands_there, is_running}
-use Rattle.path_law.proofs.Alike.{cell_there, slot_none, slot_gone, slot_own, slot_shared_slot, slot_mut_slot, slot_shared, slot_mut}
-use Rattle.path_law.proofs.MayWrites.{may_write_there}
-use Rattle.path_law.proofs.FreshPaths.{written_are_fresh}
+use Rattle.read_law.specs.Below.path_law.HeapStore.{heap_store, GoesOn, HasPaths}
+use Rattle.read_law.specs.Below.path_law.Pointing.{lends as lends_to}
+use Rattle.read_law.proofs.Below.path_law.Sole.{some_is}
+use Rattle.read_law.proofs.Below.path_law.Contained.{among_thread}
+use Rattle.read_law.proofs.Below.path_law.InState.{only_one}
+use Rattle.read_law.proofs.Below.path_law.Shown.{shown_value, stands_there, is_running}
+use Rattle.read_law.proofs.Below.path_law.Alike.{cell_there, slot_none, slot_gone, slot_own, slot_shared_slot, slot_mut_slot, slot_shared, slot_mut}
+use Rattle.read_law.proofs.Below.path_law.MayWrites.{may_write_there}
+use Rattle.read_law.proofs.Below.path_law.FreshPaths.{written_are_fresh}
 use Rattle.read_law.proofs.Below.word_law.Standing.{CellOf, lying, flying, InCell, cell_among, pointers_among, slot_among}
 use Rattle.read_law.specs.Reading.{Reads, shares as shares_it, lends as lends_it, LiesUnder}
 use Rattle.read_law.specs.Answering.{AnswersTold}

@@ -1,23 +1,23 @@
 -- WHAT A THREAD ENDS OR WRITES THROUGH, over the locations of a coherent cluster: who else points there (Featherweight Rust's borrow invariance, made
 -- exact; this project's rule).
 use Rattle.std.specs.Prelude.{◌≡◌, ◌⊎◌, ℕ, ◌<◌, true, Some}
-use Rattle.fr_base.specs.declared.name.ObjNo.{ObjNo}
-use Rattle.fr_base.specs.declared.place.Lval.{Lval}
-use Rattle.mut_borrow.specs.declared.mutable.MutRef.{MutRef}
-use Rattle.mut_borrow.specs.declared.shared.SharedRef.{SharedRef}
-use Rattle.thread_state.specs.declared.value.Value.TheVariants as value
-use Rattle.server_model.specs.Servers.{Cluster}
-use Rattle.heap_law.specs.Names.{Among}
-use Rattle.heap_law.specs.Things.{Location, shares, things_of}
-use Rattle.heap_law.specs.Follow.{Standing, value_in, locate}
-use Rattle.heap_law.specs.Stale.{Reference, references, is_held_at}
-use Rattle.heap_law.specs.Sight.{Pointer, pointers_in, sight}
-use Rattle.heap_law.specs.Words.{IsStale}
-use Rattle.heap_law.specs.Paths.{ends, written_place}
-use Rattle.heap_law.specs.Walking.{path}
-use Rattle.heap_law.specs.Coherent.{Holds, passed_not_stale, passed_in_a_walk, passed_within}
-use Rattle.path_law.specs.HeapStore.{GoesOn, HasPaths}
-use Rattle.path_law.specs.Pointing.{Above}
+use Rattle.read_law.specs.Below.fr_base.declared.name.ObjNo.{ObjNo}
+use Rattle.read_law.specs.Below.fr_base.declared.place.Lval.{Lval}
+use Rattle.read_law.specs.Below.mut_borrow.declared.mutable.MutRef.{MutRef}
+use Rattle.read_law.specs.Below.mut_borrow.declared.shared.SharedRef.{SharedRef}
+use Rattle.read_law.specs.Below.thread_state.declared.value.Value.TheVariants as value
+use Rattle.read_law.specs.Below.server_model.Servers.{Cluster}
+use Rattle.read_law.specs.Below.heap_law.Names.{Among}
+use Rattle.read_law.specs.Below.heap_law.Things.{Location, shares, things_of}
+use Rattle.read_law.specs.Below.heap_law.Follow.{Standing, value_in, locate}
+use Rattle.read_law.specs.Below.heap_law.Stale.{Reference, references, is_held_at}
+use Rattle.read_law.specs.Below.heap_law.Sight.{Pointer, pointers_in, sight}
+use Rattle.read_law.specs.Below.heap_law.Words.{IsStale}
+use Rattle.read_law.specs.Below.heap_law.Paths.{ends, written_place}
+use Rattle.read_law.specs.Below.heap_law.Walking.{path}
+use Rattle.read_law.specs.Below.heap_law.Coherent.{Holds, passed_not_stale, passed_in_a_walk, passed_within}
+use Rattle.read_law.specs.Below.path_law.HeapStore.{GoesOn, HasPaths}
+use Rattle.read_law.specs.Below.path_law.Pointing.{Above}
 
 -- the pointer at a location to an object is alone: each pointer to the object stands there or above, no shared reference or view leads to it, and no
 -- mutable reference was made from it

@@ -1,15 +1,15 @@
 -- A cluster to which the laws of writes apply: main stands at an assignment through its box.
 use Rattle.std.specs.Prelude.{◌≡◌, Some}
-use Rattle.heap_law.specs.Clusters.{place}
-use Rattle.heap_law.specs.Things.{at_slot}
-use Rattle.heap_law.specs.Follow.{locate}
-use Rattle.heap_law.specs.Paths.{written_place}
-use Rattle.heap_law.specs.Sight.{sight}
-use Rattle.heap_law.specs.Walking.{path}
-use Rattle.heap_law.specs.Coherent.{Holds, passed_in_a_walk, passed_within}
-use Rattle.path_law.specs.Below.type_law.Typed.{boxed_cluster}
-use Rattle.path_law.specs.HeapStore.{GoesOn, HasPaths}
-use Rattle.path_law.specs.Example.{main_stands}
+use Rattle.read_law.specs.Below.heap_law.Clusters.{place}
+use Rattle.read_law.specs.Below.heap_law.Things.{at_slot}
+use Rattle.read_law.specs.Below.heap_law.Follow.{locate}
+use Rattle.read_law.specs.Below.heap_law.Paths.{written_place}
+use Rattle.read_law.specs.Below.heap_law.Sight.{sight}
+use Rattle.read_law.specs.Below.heap_law.Walking.{path}
+use Rattle.read_law.specs.Below.heap_law.Coherent.{Holds, passed_in_a_walk, passed_within}
+use Rattle.read_law.specs.Below.type_law.Typed.{boxed_cluster}
+use Rattle.read_law.specs.Below.path_law.HeapStore.{GoesOn, HasPaths}
+use Rattle.read_law.specs.Below.path_law.Example.{main_stands}
 
 pub record WritesApply : Type 0 where
   pub paths : HasPaths boxed_cluster

@@ -1,19 +1,19 @@
 -- THE OBJECTS OF WHAT A THREAD WRITES THROUGH OR ENDS lie where the pointers' words lead (in the manner of DRust), in a coherent cluster.
 use Rattle.std.specs.Prelude.{◌≡◌, ℕ, ◌<◌, Some}
-use Rattle.fr_base.specs.declared.place.Lval.{Lval}
-use Rattle.heap_partition.specs.declared.value.BoxPtr.{BoxPtr}
-use Rattle.mut_borrow.specs.declared.mutable.MutRef.{MutRef}
-use Rattle.thread_state.specs.declared.value.Value.{Value}
-use Rattle.thread_state.specs.declared.phase.Phase.TheVariants as phase
-use Rattle.server_model.specs.Servers.{Cluster}
-use Rattle.server_model.specs.Places.{pointer_of}
-use Rattle.heap_law.specs.Things.{Location}
-use Rattle.heap_law.specs.Follow.{Standing, value_in, locate}
-use Rattle.heap_law.specs.Paths.{ends, written_place}
-use Rattle.heap_law.specs.Sight.{sight}
-use Rattle.heap_law.specs.Walking.{path}
-use Rattle.path_law.specs.Below.type_law.ClusterTypes.{IsCoherent}
-use Rattle.path_law.specs.HeapStore.{GoesOn}
+use Rattle.read_law.specs.Below.fr_base.declared.place.Lval.{Lval}
+use Rattle.read_law.specs.Below.heap_partition.declared.value.BoxPtr.{BoxPtr}
+use Rattle.read_law.specs.Below.mut_borrow.declared.mutable.MutRef.{MutRef}
+use Rattle.read_law.specs.Below.thread_state.declared.value.Value.{Value}
+use Rattle.read_law.specs.Below.thread_state.declared.phase.Phase.TheVariants as phase
+use Rattle.read_law.specs.Below.server_model.Servers.{Cluster}
+use Rattle.read_law.specs.Below.server_model.Places.{pointer_of}
+use Rattle.read_law.specs.Below.heap_law.Things.{Location}
+use Rattle.read_law.specs.Below.heap_law.Follow.{Standing, value_in, locate}
+use Rattle.read_law.specs.Below.heap_law.Paths.{ends, written_place}
+use Rattle.read_law.specs.Below.heap_law.Sight.{sight}
+use Rattle.read_law.specs.Below.heap_law.Walking.{path}
+use Rattle.read_law.specs.Below.type_law.ClusterTypes.{IsCoherent}
+use Rattle.read_law.specs.Below.path_law.HeapStore.{GoesOn}
 use Rattle.read_law.specs.Reading.{LiesUnder}
 
 -- of a thread that doesn't wait for a cell: each pointer that its write follows leads to where the object lies

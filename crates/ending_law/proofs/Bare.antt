@@ -1,28 +1,28 @@
 -- What stands in a cluster that is finished: its threads have nothing, and no message is under way.
 use Rattle.std.proofs.Common.{◌≡◌, ℕ, ◌+◌, ◌≤◌, ◌==◌, ◌&&◌, is_some, Bool, true, false, zero, suc, if◌then◌else◌, List, [], ◌∷◌, ◌++◌, length, Option, Some, None, refl, sym, subst, arith}
-use Rattle.fr_base.specs.declared.name.MutexNo.{MutexNo}
-use Rattle.heap_partition.specs.declared.value.Cell.{Cell}
-use Rattle.heap_partition.specs.declared.value.Owned.{Owned}
-use Rattle.read_cache.specs.Cache.{Copy}
-use Rattle.mutex_home.specs.Mutexes.{Mutex}
-use Rattle.join_home.specs.Tasks.{Task, TaskState, kept}
-use Rattle.thread_state.specs.View.{ThreadState, is_over}
-use Rattle.thread_state.specs.declared.phase.Phase.{Phase}
-use Rattle.thread_state.specs.declared.phase.Phase.TheVariants as phase
-use Rattle.thread_state.specs.declared.value.Value.{Value}
-use Rattle.server_model.specs.Servers.{Server, Cluster}
+use Rattle.event_law.specs.Below.fr_base.declared.name.MutexNo.{MutexNo}
+use Rattle.event_law.specs.Below.heap_partition.declared.value.Cell.{Cell}
+use Rattle.event_law.specs.Below.heap_partition.declared.value.Owned.{Owned}
+use Rattle.event_law.specs.Below.read_cache.Cache.{Copy}
+use Rattle.event_law.specs.Below.mutex_home.Mutexes.{Mutex}
+use Rattle.event_law.specs.Below.join_home.Tasks.{Task, TaskState, kept}
+use Rattle.event_law.specs.Below.thread_state.View.{ThreadState, is_over}
+use Rattle.event_law.specs.Below.thread_state.declared.phase.Phase.{Phase}
+use Rattle.event_law.specs.Below.thread_state.declared.phase.Phase.TheVariants as phase
+use Rattle.event_law.specs.Below.thread_state.declared.value.Value.{Value}
+use Rattle.event_law.specs.Below.server_model.Servers.{Server, Cluster}
 use Rattle.drive_model.specs.Ending.{is_none, no_message, all_threads, all_in}
-use Rattle.heap_law.specs.Names.{tot, one, other, if_so, same_mutex}
-use Rattle.heap_law.specs.Things.{Thing, Spot, as_content, as_result, holds, shares, borrows, locks, lies, flies, vacant, retired, copied, uses, sent, stands, at_home, queued, counts, things_at, is_free, gift_things, walk_things, slot_things, temp_things, thread_things, standing_things, cell_things, free_things, copy_things, content_things, queue_things, mutex_things, result_things, task_things, waiting_things, leaving_things, server_things, servers_things, things_of}
-use Rattle.heap_law.specs.Follow.{threads_in}
-use Rattle.heap_law.specs.Sight.{Sight, sight}
-use Rattle.heap_law.specs.Weights.{shares_at_home}
-use Rattle.heap_law.specs.Walking.{instr_of, walks_not, still_walks}
-use Rattle.heap_law.specs.Sharing.{owed, owes, kept_for_none}
-use Rattle.heap_law.specs.Rooted.{is_end, dressed}
-use Rattle.heap_law.specs.Coherent.{IsSound}
-use Rattle.heap_law.proofs.Names.{and_left, and_right}
-use Rattle.heap_law.proofs.Sums.{tot-append, server_parts}
+use Rattle.event_law.specs.Below.heap_law.Names.{tot, one, other, if_so, same_mutex}
+use Rattle.event_law.specs.Below.heap_law.Things.{Thing, Spot, as_content, as_result, holds, shares, borrows, locks, lies, flies, vacant, retired, copied, uses, sent, stands, at_home, queued, counts, things_at, is_free, gift_things, walk_things, slot_things, temp_things, thread_things, standing_things, cell_things, free_things, copy_things, content_things, queue_things, mutex_things, result_things, task_things, waiting_things, leaving_things, server_things, servers_things, things_of}
+use Rattle.event_law.specs.Below.heap_law.Follow.{threads_in}
+use Rattle.event_law.specs.Below.heap_law.Sight.{Sight, sight}
+use Rattle.event_law.specs.Below.heap_law.Weights.{shares_at_home}
+use Rattle.event_law.specs.Below.heap_law.Walking.{instr_of, walks_not, still_walks}
+use Rattle.event_law.specs.Below.heap_law.Sharing.{owed, owes, kept_for_none}
+use Rattle.event_law.specs.Below.heap_law.Rooted.{is_end, dressed}
+use Rattle.event_law.specs.Below.heap_law.Coherent.{IsSound}
+use Rattle.event_law.proofs.Below.heap_law.Names.{and_left, and_right}
+use Rattle.event_law.proofs.Below.heap_law.Sums.{tot-append, server_parts}
 use Rattle.event_law.proofs.KnownSound.{on_standing, sum_standing}
 
 -- WHAT IS WRONG WITH A THREAD OR A MUTEX

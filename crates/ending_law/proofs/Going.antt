@@ -1,30 +1,30 @@
 -- A sound cluster that is going can go on, and one that can go on is going.
 use Rattle.std.proofs.Common.{◌≡◌, ℕ, ◌+◌, ◌<◌, ◌≤◌, ◌==◌, ◌&&◌, nat_lt, Bool, true, false, if◌then◌else◌, List, [], ◌∷◌, ◌++◌, length, Some, refl, sym, ap, subst, ◌∙◌, arith}
 use Rattle.std.proofs.lemmas.Bool.Decides.{nat_tests}
-use Rattle.fr_typing.proofs.PlaceLemmas.{eq_cases}
-use Rattle.fr_base.specs.declared.name.MutexNo.{MutexNo}
-use Rattle.fr_base.specs.declared.step.Ending3.TheVariants.{Going}
-use Rattle.thread_state.specs.View.{ThreadState, is_over}
-use Rattle.thread_state.specs.declared.phase.Phase.{Phase}
-use Rattle.thread_state.specs.declared.phase.Phase.TheVariants as phase
-use Rattle.join_home.specs.Tasks.{Task, TaskState, going, let_go, kept, asked, in_pair}
-use Rattle.server_msgs.specs.declared.message.Message.{Message}
-use Rattle.server_model.specs.declared.event.What.{What}
-use Rattle.server_model.specs.declared.event.What.TheVariants.{Step, Deliver, Evict, Migrate}
-use Rattle.server_model.specs.Servers.{Sent, Server, Cluster, server_at}
-use Rattle.server_model.specs.Work.{thread_in}
-use Rattle.server_model.specs.Events.{can_step, has_phase, enabled}
-use Rattle.server_model.specs.Clusters.{outboxes}
+use Rattle.event_law.proofs.Below.fr_typing.PlaceLemmas.{eq_cases}
+use Rattle.event_law.specs.Below.fr_base.declared.name.MutexNo.{MutexNo}
+use Rattle.event_law.specs.Below.fr_base.declared.step.Ending3.TheVariants.{Going}
+use Rattle.event_law.specs.Below.thread_state.View.{ThreadState, is_over}
+use Rattle.event_law.specs.Below.thread_state.declared.phase.Phase.{Phase}
+use Rattle.event_law.specs.Below.thread_state.declared.phase.Phase.TheVariants as phase
+use Rattle.event_law.specs.Below.join_home.Tasks.{Task, TaskState, going, let_go, kept, asked, in_pair}
+use Rattle.event_law.specs.Below.server_msgs.declared.message.Message.{Message}
+use Rattle.event_law.specs.Below.server_model.declared.event.What.{What}
+use Rattle.event_law.specs.Below.server_model.declared.event.What.TheVariants.{Step, Deliver, Evict, Migrate}
+use Rattle.event_law.specs.Below.server_model.Servers.{Sent, Server, Cluster, server_at}
+use Rattle.event_law.specs.Below.server_model.Work.{thread_in}
+use Rattle.event_law.specs.Below.server_model.Events.{can_step, has_phase, enabled}
+use Rattle.event_law.specs.Below.server_model.Clusters.{outboxes}
 use Rattle.drive_model.specs.Ending.{is_none, no_message, all_threads, all_in, is_stopped, ending_of, ending}
-use Rattle.heap_law.specs.Names.{tot, one, if_so, Among}
-use Rattle.heap_law.specs.Things.{Thing, sent, stands, queued, noted, things_at, waiting_things, leaving_things, standing_things, server_things, servers_things, things_of}
-use Rattle.heap_law.specs.Follow.{threads_in, thread_at}
-use Rattle.heap_law.specs.Sight.{sight}
-use Rattle.heap_law.specs.Weights.{is_thread}
-use Rattle.heap_law.specs.Requests.{waits, halves, halves_to, halves_needed, noted_answer, is_lock, is_join, is_par, in_phase, phase_fits, note_carries, carries, Branch, half_noted, branch_places, pair_notes, pair_places}
-use Rattle.heap_law.specs.Coherent.{IsSound}
-use Rattle.heap_law.proofs.Names.{and_left, and_right, same_number}
-use Rattle.heap_law.proofs.Sums.{tot-append, server_parts}
+use Rattle.event_law.specs.Below.heap_law.Names.{tot, one, if_so, Among}
+use Rattle.event_law.specs.Below.heap_law.Things.{Thing, sent, stands, queued, noted, things_at, waiting_things, leaving_things, standing_things, server_things, servers_things, things_of}
+use Rattle.event_law.specs.Below.heap_law.Follow.{threads_in, thread_at}
+use Rattle.event_law.specs.Below.heap_law.Sight.{sight}
+use Rattle.event_law.specs.Below.heap_law.Weights.{is_thread}
+use Rattle.event_law.specs.Below.heap_law.Requests.{waits, halves, halves_to, halves_needed, noted_answer, is_lock, is_join, is_par, in_phase, phase_fits, note_carries, carries, Branch, half_noted, branch_places, pair_notes, pair_places}
+use Rattle.event_law.specs.Below.heap_law.Coherent.{IsSound}
+use Rattle.event_law.proofs.Below.heap_law.Names.{and_left, and_right, same_number}
+use Rattle.event_law.proofs.Below.heap_law.Sums.{tot-append, server_parts}
 use Rattle.event_law.proofs.Unseen.{Unseen, Unnoted, none_at, thread_alone, seen_of}
 use Rattle.ending_law.specs.Going.{goes_on, CanGoOn, GoingCan, CanIsGoing}
 use Rattle.ending_law.proofs.Weighing.{weighs, some_weighs, in_such, not_both, counted, found}

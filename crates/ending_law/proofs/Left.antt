@@ -1,29 +1,29 @@
 -- Of a cluster that is finished nothing is left.
 use Rattle.std.proofs.Common.{◌≡◌, ℕ, ◌+◌, ◌≤◌, ◌==◌, ◌&&◌, not, is_some, Bool, true, false, List, [], ◌∷◌, Option, Some, None, refl, sym, subst, arith}
 use Rattle.std.proofs.lemmas.Bool.Decides.{nat_tests}
-use Rattle.fr_base.specs.declared.name.MutexNo.{MutexNo}
-use Rattle.fr_base.specs.declared.step.Ending3.TheVariants.{Finished}
-use Rattle.heap_partition.specs.declared.value.Cell.{Cell}
-use Rattle.heap_partition.specs.declared.value.Owned.{Owned}
-use Rattle.read_cache.specs.Cache.{Copy}
-use Rattle.mutex_home.specs.Mutexes.{Mutex}
-use Rattle.join_home.specs.Tasks.{Task, TaskState, going, let_go, kept, asked, in_pair}
-use Rattle.thread_state.specs.View.{ThreadState, is_over}
-use Rattle.thread_state.specs.declared.phase.Phase.{Phase}
-use Rattle.thread_state.specs.declared.phase.Phase.TheVariants as phase
-use Rattle.server_model.specs.Servers.{Server, Cluster}
-use Rattle.server_model.specs.Figures.{all_over, no_cell, is_none_left, is_finished_at, are_finished}
+use Rattle.event_law.specs.Below.fr_base.declared.name.MutexNo.{MutexNo}
+use Rattle.event_law.specs.Below.fr_base.declared.step.Ending3.TheVariants.{Finished}
+use Rattle.event_law.specs.Below.heap_partition.declared.value.Cell.{Cell}
+use Rattle.event_law.specs.Below.heap_partition.declared.value.Owned.{Owned}
+use Rattle.event_law.specs.Below.read_cache.Cache.{Copy}
+use Rattle.event_law.specs.Below.mutex_home.Mutexes.{Mutex}
+use Rattle.event_law.specs.Below.join_home.Tasks.{Task, TaskState, going, let_go, kept, asked, in_pair}
+use Rattle.event_law.specs.Below.thread_state.View.{ThreadState, is_over}
+use Rattle.event_law.specs.Below.thread_state.declared.phase.Phase.{Phase}
+use Rattle.event_law.specs.Below.thread_state.declared.phase.Phase.TheVariants as phase
+use Rattle.event_law.specs.Below.server_model.Servers.{Server, Cluster}
+use Rattle.event_law.specs.Below.server_model.Figures.{all_over, no_cell, is_none_left, is_finished_at, are_finished}
 use Rattle.drive_model.specs.Ending.{is_none, no_message, all_threads, all_in, is_stopped, ending_of}
-use Rattle.heap_law.specs.Names.{tot, one, other, if_so, same_object, same_mutex}
-use Rattle.heap_law.specs.Things.{Thing, at_slot, as_content, holds, locks, result_things, lies, copied, uses, sent, stands, at_home, noted, things_at, cell_things, free_things, copy_things, mutex_things, task_things, server_things, servers_things, things_of}
-use Rattle.heap_law.specs.Sight.{sight}
-use Rattle.heap_law.specs.Weights.{cells, uses_of, users_of, is_home_of}
-use Rattle.heap_law.specs.OneHeap.{object_n, mutex_n, task_n}
-use Rattle.heap_law.specs.Walking.{instr_of}
-use Rattle.heap_law.specs.Requests.{is_mutex, locked_mutex, Branch, half_noted, pair_notes, pair_places, branch_places}
-use Rattle.heap_law.specs.Sharing.{contents, going_on, going_notes, goes_on}
-use Rattle.heap_law.proofs.Names.{and_left, and_right}
-use Rattle.heap_law.proofs.Sums.{tot-append, server_parts}
+use Rattle.event_law.specs.Below.heap_law.Names.{tot, one, other, if_so, same_object, same_mutex}
+use Rattle.event_law.specs.Below.heap_law.Things.{Thing, at_slot, as_content, holds, locks, result_things, lies, copied, uses, sent, stands, at_home, noted, things_at, cell_things, free_things, copy_things, mutex_things, task_things, server_things, servers_things, things_of}
+use Rattle.event_law.specs.Below.heap_law.Sight.{sight}
+use Rattle.event_law.specs.Below.heap_law.Weights.{cells, uses_of, users_of, is_home_of}
+use Rattle.event_law.specs.Below.heap_law.OneHeap.{object_n, mutex_n, task_n}
+use Rattle.event_law.specs.Below.heap_law.Walking.{instr_of}
+use Rattle.event_law.specs.Below.heap_law.Requests.{is_mutex, locked_mutex, Branch, half_noted, pair_notes, pair_places, branch_places}
+use Rattle.event_law.specs.Below.heap_law.Sharing.{contents, going_on, going_notes, goes_on}
+use Rattle.event_law.proofs.Below.heap_law.Names.{and_left, and_right}
+use Rattle.event_law.proofs.Below.heap_law.Sums.{tot-append, server_parts}
 use Rattle.ending_law.specs.Left.{unused, all_unused, NothingLeft, FinishedIsEmpty}
 use Rattle.ending_law.proofs.Servers.{IsPart}
 use Rattle.ending_law.proofs.Bare.{IsFinished, loose, none_loose, content_held, result_held}

@@ -1,3 +1,4 @@
+pub mod Below
 pub mod Weighing
 pub mod Servers
 pub mod Going

@@ -1,22 +1,22 @@
 -- In a cluster that is finished each object, content and result has an owner of a higher rank, so there is none.
 use Rattle.std.proofs.Common.{◌≡◌, inl, inr, ℕ, zero, suc, ◌+◌, ◌<◌, ◌≤◌, ◌==◌, ◌&&◌, Bool, true, false, List, [], ◌∷◌, ◌++◌, refl, ap, subst, ◌∙◌, arith}
 use Rattle.std.proofs.lemmas.Bool.Decides.{nat_tests}
-use Rattle.fr_base.specs.declared.name.ObjNo.{ObjNo}
-use Rattle.fr_base.specs.declared.name.MutexNo.{MutexNo}
-use Rattle.fr_store.proofs.Keys.{object_cases}
-use Rattle.heap_partition.specs.declared.value.BoxPtr.{BoxPtr}
-use Rattle.heap_partition.specs.declared.value.Owned.{Owned}
-use Rattle.heap_partition.specs.declared.value.Owned.TheVariants as owned
-use Rattle.server_model.specs.Servers.{Cluster}
-use Rattle.heap_law.specs.Names.{tot, one, same_object, same_mutex, boxes, mutex_values, task_values, Among}
-use Rattle.heap_law.specs.Things.{Thing, in_slot, in_temp, as_gift, as_content, as_result, in_hand, holds, lies, flies, sent, things_of}
-use Rattle.heap_law.specs.Sight.{Sight, sight}
-use Rattle.heap_law.specs.Weights.{cells, owners, shares_of, tasks_of}
-use Rattle.heap_law.specs.OneHeap.{Node, object_n, mutex_n, task_n}
-use Rattle.heap_law.specs.Ranks.{Step, steps_of, Falls}
-use Rattle.heap_law.specs.Rooted.{ownings_of, ownings}
-use Rattle.heap_law.proofs.Names.{same_number, same_mutexes}
-use Rattle.heap_law.proofs.Sums.{tot-append}
+use Rattle.event_law.specs.Below.fr_base.declared.name.ObjNo.{ObjNo}
+use Rattle.event_law.specs.Below.fr_base.declared.name.MutexNo.{MutexNo}
+use Rattle.event_law.proofs.Below.fr_store.Keys.{object_cases}
+use Rattle.event_law.specs.Below.heap_partition.declared.value.BoxPtr.{BoxPtr}
+use Rattle.event_law.specs.Below.heap_partition.declared.value.Owned.{Owned}
+use Rattle.event_law.specs.Below.heap_partition.declared.value.Owned.TheVariants as owned
+use Rattle.event_law.specs.Below.server_model.Servers.{Cluster}
+use Rattle.event_law.specs.Below.heap_law.Names.{tot, one, same_object, same_mutex, boxes, mutex_values, task_values, Among}
+use Rattle.event_law.specs.Below.heap_law.Things.{Thing, in_slot, in_temp, as_gift, as_content, as_result, in_hand, holds, lies, flies, sent, things_of}
+use Rattle.event_law.specs.Below.heap_law.Sight.{Sight, sight}
+use Rattle.event_law.specs.Below.heap_law.Weights.{cells, owners, shares_of, tasks_of}
+use Rattle.event_law.specs.Below.heap_law.OneHeap.{Node, object_n, mutex_n, task_n}
+use Rattle.event_law.specs.Below.heap_law.Ranks.{Step, steps_of, Falls}
+use Rattle.event_law.specs.Below.heap_law.Rooted.{ownings_of, ownings}
+use Rattle.event_law.proofs.Below.heap_law.Names.{same_number, same_mutexes}
+use Rattle.event_law.proofs.Below.heap_law.Sums.{tot-append}
 use Rattle.ending_law.proofs.Weighing.{weighs, some_weighs, truly}
 use Rattle.ending_law.proofs.Bare.{IsFinished, loose, none_loose, content_held, contents_shared, result_held, results_owed}
 

@@ -1,18 +1,18 @@
 -- A server, or a thread at a server, that fails a test.
 use Rattle.std.proofs.Common.{◌≡◌, ℕ, ◌+◌, ◌≤◌, ◌==◌, ◌&&◌, Bool, true, false, if◌then◌else◌, List, [], ◌∷◌, Some, refl, arith}
 use Rattle.std.proofs.lemmas.Bool.Decides.{nat_tests}
-use Rattle.fr_typing.proofs.PlaceLemmas.{eq_cases}
-use Rattle.thread_state.specs.View.{ThreadState}
-use Rattle.thread_state.specs.declared.phase.Phase.{Phase}
-use Rattle.server_model.specs.Servers.{Server, Cluster, server_at}
+use Rattle.event_law.proofs.Below.fr_typing.PlaceLemmas.{eq_cases}
+use Rattle.event_law.specs.Below.thread_state.View.{ThreadState}
+use Rattle.event_law.specs.Below.thread_state.declared.phase.Phase.{Phase}
+use Rattle.event_law.specs.Below.server_model.Servers.{Server, Cluster, server_at}
 use Rattle.drive_model.specs.Ending.{all_threads}
-use Rattle.heap_law.specs.Names.{tot, other}
-use Rattle.heap_law.specs.Things.{Thing, things_at, standing_things, thread_things, server_things, servers_things}
-use Rattle.heap_law.specs.Sight.{Sight, sight}
-use Rattle.heap_law.specs.Walking.{sum_threads}
-use Rattle.heap_law.specs.Naming.{servers_wrong, pinned_parcel}
-use Rattle.heap_law.specs.Coherent.{IsSound}
-use Rattle.heap_law.proofs.Sums.{tot-append}
+use Rattle.event_law.specs.Below.heap_law.Names.{tot, other}
+use Rattle.event_law.specs.Below.heap_law.Things.{Thing, things_at, standing_things, thread_things, server_things, servers_things}
+use Rattle.event_law.specs.Below.heap_law.Sight.{Sight, sight}
+use Rattle.event_law.specs.Below.heap_law.Walking.{sum_threads}
+use Rattle.event_law.specs.Below.heap_law.Naming.{servers_wrong, pinned_parcel}
+use Rattle.event_law.specs.Below.heap_law.Coherent.{IsSound}
+use Rattle.event_law.proofs.Below.heap_law.Sums.{tot-append}
 
 -- each weight is at most that of the whole
 abbrev pub IsPart : List Thing → List Thing → Type 0

@@ -1,16 +1,16 @@
 -- Which element of a list weighs something, and threads of one number.
 use Rattle.std.proofs.Common.{◌≡◌, inl, inr, ℕ, zero, suc, ◌+◌, ◌≤◌, ◌==◌, ◌&&◌, Bool, true, false, if◌then◌else◌, List, [], ◌∷◌, Some, refl, subst, arith}
-use Rattle.fr_typing.proofs.PlaceLemmas.{eq_cases}
-use Rattle.thread_state.specs.View.{ThreadState}
-use Rattle.thread_state.specs.declared.phase.Phase.{Phase}
-use Rattle.server_model.specs.Work.{thread_in}
-use Rattle.server_model.specs.Events.{has_phase}
-use Rattle.heap_law.specs.Names.{tot, one, Among}
-use Rattle.heap_law.specs.Things.{Thing, stands, things_at, standing_things, thread_things}
-use Rattle.heap_law.specs.Follow.{threads_in, thread_at}
-use Rattle.heap_law.specs.Weights.{is_thread}
-use Rattle.heap_law.specs.Requests.{in_phase}
-use Rattle.heap_law.proofs.Sums.{tot-append}
+use Rattle.event_law.proofs.Below.fr_typing.PlaceLemmas.{eq_cases}
+use Rattle.event_law.specs.Below.thread_state.View.{ThreadState}
+use Rattle.event_law.specs.Below.thread_state.declared.phase.Phase.{Phase}
+use Rattle.event_law.specs.Below.server_model.Work.{thread_in}
+use Rattle.event_law.specs.Below.server_model.Events.{has_phase}
+use Rattle.event_law.specs.Below.heap_law.Names.{tot, one, Among}
+use Rattle.event_law.specs.Below.heap_law.Things.{Thing, stands, things_at, standing_things, thread_things}
+use Rattle.event_law.specs.Below.heap_law.Follow.{threads_in, thread_at}
+use Rattle.event_law.specs.Below.heap_law.Weights.{is_thread}
+use Rattle.event_law.specs.Below.heap_law.Requests.{in_phase}
+use Rattle.event_law.proofs.Below.heap_law.Sums.{tot-append}
 use Rattle.event_law.proofs.Unseen.{Unseen, thread_alone}
 
 -- what stands in a list weighs no more than the list

@@ -1,14 +1,14 @@
 -- WHERE A CLUSTER CAN GO ON (this project's rule): a thread can step, or a message can be delivered. Evictions and migrations don't count.
 use Rattle.std.specs.Prelude.{◌≡◌, Bool, true, false, [], Some}
-use Rattle.fr_base.specs.declared.step.Ending3.TheVariants.{Going}
-use Rattle.server_model.specs.declared.event.Event.{Event}
-use Rattle.server_model.specs.declared.event.What.{What}
-use Rattle.server_model.specs.declared.event.What.TheVariants.{Step, Deliver}
-use Rattle.server_model.specs.Servers.{Server, Cluster, server_at}
-use Rattle.server_model.specs.Events.{enabled}
-use Rattle.server_model.specs.Clusters.{outboxes}
+use Rattle.event_law.specs.Below.fr_base.declared.step.Ending3.TheVariants.{Going}
+use Rattle.event_law.specs.Below.server_model.declared.event.Event.{Event}
+use Rattle.event_law.specs.Below.server_model.declared.event.What.{What}
+use Rattle.event_law.specs.Below.server_model.declared.event.What.TheVariants.{Step, Deliver}
+use Rattle.event_law.specs.Below.server_model.Servers.{Server, Cluster, server_at}
+use Rattle.event_law.specs.Below.server_model.Events.{enabled}
+use Rattle.event_law.specs.Below.server_model.Clusters.{outboxes}
 use Rattle.drive_model.specs.Ending.{ending}
-use Rattle.heap_law.specs.Coherent.{IsSound}
+use Rattle.event_law.specs.Below.heap_law.Coherent.{IsSound}
 
 -- a step of a thread, or a delivery
 abbrev pub goes_on : What → Bool

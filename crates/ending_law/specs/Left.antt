@@ -1,11 +1,11 @@
 -- WHAT IS LEFT OF A CLUSTER THAT IS FINISHED (this project's rule): nothing but copies that nobody uses, and addresses that are free or retired.
 use Rattle.std.specs.Prelude.{◌≡◌, ◌==◌, ◌&&◌, Bool, true, List, [], ◌∷◌}
-use Rattle.fr_base.specs.declared.step.Ending3.TheVariants.{Finished}
-use Rattle.read_cache.specs.Cache.{Copy}
-use Rattle.server_model.specs.Servers.{Server, Cluster}
-use Rattle.server_model.specs.Figures.{are_finished}
+use Rattle.event_law.specs.Below.fr_base.declared.step.Ending3.TheVariants.{Finished}
+use Rattle.event_law.specs.Below.read_cache.Cache.{Copy}
+use Rattle.event_law.specs.Below.server_model.Servers.{Server, Cluster}
+use Rattle.event_law.specs.Below.server_model.Figures.{are_finished}
 use Rattle.drive_model.specs.Ending.{ending}
-use Rattle.heap_law.specs.Coherent.{IsSound}
+use Rattle.event_law.specs.Below.heap_law.Coherent.{IsSound}
 
 -- nobody uses one of the copies
 abbrev pub unused : List Copy → Bool

@@ -1,24 +1,24 @@
 -- What a cluster answers after an event: question by question, where some things went and others came.
 use Rattle.std.proofs.Common.{◌≡◌, ℕ, zero, suc, ◌+◌, ◌≤◌, ◌==◌, ◌&&◌, ◌||◌, not, true, List, Option, Some, None, is_none, refl, sym, ap, ap₂, ◌∙◌, arith}
 use Rattle.std.specs.Prelude.{◌%◌, ◌^◌}
-use Rattle.fr_base.specs.declared.name.MutexNo.{MutexNo}
-use Rattle.fr_base.specs.declared.name.ObjNo.{ObjNo}
-use Rattle.fr_base.specs.declared.label.Plain.{Plain}
-use Rattle.server_model.specs.Servers.{Cluster}
-use Rattle.coloured_heap.specs.Heap.{Place, Copied, Wish, Running}
-use Rattle.heap_law.specs.Names.{tot, some}
-use Rattle.heap_law.specs.Things.{Thing, stands, things_of}
-use Rattle.heap_law.specs.Follow.{Standing}
-use Rattle.heap_law.specs.Sight.{sight, issued}
-use Rattle.heap_law.specs.Weights.{is_thread}
-use Rattle.heap_law.specs.Sharing.{gift_content}
-use Rattle.heap_law.specs.Naming.{started_at, made_at}
-use Rattle.heap_law.specs.Requests.{home_of}
-use Rattle.heap_law.specs.OneHeap.{first_shown, is_given_thread, is_given_mutex}
-use Rattle.heap_law.specs.Words.{HasWords}
-use Rattle.heap_law.specs.Colours.{living_of, copy_of, same_copied, served_of, wishes_of, running_of, has_finished, holder_of, is_mutex_there}
-use Rattle.heap_law.specs.Coherent.{IsSound}
-use Rattle.word_law.specs.Unmoved.{WordsStay}
+use Rattle.read_law.specs.Below.fr_base.declared.name.MutexNo.{MutexNo}
+use Rattle.read_law.specs.Below.fr_base.declared.name.ObjNo.{ObjNo}
+use Rattle.read_law.specs.Below.fr_base.declared.label.Plain.{Plain}
+use Rattle.read_law.specs.Below.server_model.Servers.{Cluster}
+use Rattle.read_law.specs.Below.coloured_heap.Heap.{Place, Copied, Wish, Running}
+use Rattle.read_law.specs.Below.heap_law.Names.{tot, some}
+use Rattle.read_law.specs.Below.heap_law.Things.{Thing, stands, things_of}
+use Rattle.read_law.specs.Below.heap_law.Follow.{Standing}
+use Rattle.read_law.specs.Below.heap_law.Sight.{sight, issued}
+use Rattle.read_law.specs.Below.heap_law.Weights.{is_thread}
+use Rattle.read_law.specs.Below.heap_law.Sharing.{gift_content}
+use Rattle.read_law.specs.Below.heap_law.Naming.{started_at, made_at}
+use Rattle.read_law.specs.Below.heap_law.Requests.{home_of}
+use Rattle.read_law.specs.Below.heap_law.OneHeap.{first_shown, is_given_thread, is_given_mutex}
+use Rattle.read_law.specs.Below.heap_law.Words.{HasWords}
+use Rattle.read_law.specs.Below.heap_law.Colours.{living_of, copy_of, same_copied, served_of, wishes_of, running_of, has_finished, holder_of, is_mutex_there}
+use Rattle.read_law.specs.Below.heap_law.Coherent.{IsSound}
+use Rattle.read_law.specs.Below.word_law.Unmoved.{WordsStay}
 use Rattle.still_law.proofs.Tests.{numbers}
 use Rattle.still_law.proofs.Told.{told, ones, tot_same, first_told}
 use Rattle.entry_law.proofs.Weighed.{Seen, Turned}

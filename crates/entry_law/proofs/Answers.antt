@@ -2,29 +2,29 @@
 -- fits the changed answers.
 use Rattle.std.proofs.Common.{◌≡◌, ℕ, ◌-◌, ◌≤◌, ◌==◌, ◌&&◌, not, Bool, true, false, if◌then◌else◌, Option, Some, None, is_some, is_none, option_map, refl, sym, ap, ap₂, ◌∙◌, arith}
 use Rattle.std.proofs.lemmas.Bool.{lt-ltb}
-use Rattle.fr_base.specs.Names.{home_of}
-use Rattle.fr_base.specs.Lists.{tot, one, is_in}
-use Rattle.fr_base.specs.declared.name.ObjNo.{ObjNo}
-use Rattle.fr_base.specs.declared.name.MutexNo.{MutexNo}
-use Rattle.fr_base.specs.declared.release.Released.{Released}
-use Rattle.fr_base.specs.declared.release.Released.TheVariants as released
-use Rattle.fr_base.specs.declared.settings.Options.{Options}
-use Rattle.journal.specs.View.{EntryView}
-use Rattle.journal.specs.declared.act.Act.{Act}
-use Rattle.journal.specs.declared.act.Act.TheVariants as act
-use Rattle.coloured_heap.specs.Lists.{first, holds, less_first, less_all, with_each, times}
-use Rattle.coloured_heap.specs.Heap.{Living, Copied, Wish, ForContent, ForShare, ForResult, Running, Guarded, Coloured, is_thread, thread_at, is_object, object_at, is_under, copy_at, same_wish, is_wished, is_mutex, mutex_at}
-use Rattle.coloured_heap.specs.Rules as rules
-use Rattle.coloured_heap.specs.Rules.{allows, of_run, is_by, names}
-use Rattle.coloured_heap.specs.Changes.{after_act}
-use Rattle.coloured_heap.proofs.Times.{both, number_is}
-use Rattle.coloured_heap.proofs.Found.{found_each, found_less, times_less, times_other, has_some}
-use Rattle.coloured_heap.proofs.Same.{wish_is}
-use Rattle.coloured_heap.proofs.ShownNames.{number_itself}
-use Rattle.heap_law.specs.Names.{same_mutex}
-use Rattle.heap_law.specs.Sight.{Sight, issued}
-use Rattle.heap_law.specs.OneHeap.{is_given_thread, is_given_mutex}
-use Rattle.heap_law.specs.Colours.{living_of, copy_of, same_copied, served_of, wishes_of, running_of, has_finished, holder_of, is_mutex_there, IsColoured}
+use Rattle.read_law.specs.Below.fr_base.Names.{home_of}
+use Rattle.read_law.specs.Below.fr_base.Lists.{tot, one, is_in}
+use Rattle.read_law.specs.Below.fr_base.declared.name.ObjNo.{ObjNo}
+use Rattle.read_law.specs.Below.fr_base.declared.name.MutexNo.{MutexNo}
+use Rattle.read_law.specs.Below.fr_base.declared.release.Released.{Released}
+use Rattle.read_law.specs.Below.fr_base.declared.release.Released.TheVariants as released
+use Rattle.read_law.specs.Below.fr_base.declared.settings.Options.{Options}
+use Rattle.read_law.specs.Below.journal.View.{EntryView}
+use Rattle.read_law.specs.Below.journal.declared.act.Act.{Act}
+use Rattle.read_law.specs.Below.journal.declared.act.Act.TheVariants as act
+use Rattle.read_law.specs.Below.coloured_heap.Lists.{first, holds, less_first, less_all, with_each, times}
+use Rattle.read_law.specs.Below.coloured_heap.Heap.{Living, Copied, Wish, ForContent, ForShare, ForResult, Running, Guarded, Coloured, is_thread, thread_at, is_object, object_at, is_under, copy_at, same_wish, is_wished, is_mutex, mutex_at}
+use Rattle.read_law.specs.Below.coloured_heap.Rules as rules
+use Rattle.read_law.specs.Below.coloured_heap.Rules.{allows, of_run, is_by, names}
+use Rattle.read_law.specs.Below.coloured_heap.Changes.{after_act}
+use Rattle.read_law.proofs.Below.coloured_heap.Times.{both, number_is}
+use Rattle.read_law.proofs.Below.coloured_heap.Found.{found_each, found_less, times_less, times_other, has_some}
+use Rattle.read_law.proofs.Below.coloured_heap.Same.{wish_is}
+use Rattle.read_law.proofs.Below.coloured_heap.ShownNames.{number_itself}
+use Rattle.read_law.specs.Below.heap_law.Names.{same_mutex}
+use Rattle.read_law.specs.Below.heap_law.Sight.{Sight, issued}
+use Rattle.read_law.specs.Below.heap_law.OneHeap.{is_given_thread, is_given_mutex}
+use Rattle.read_law.specs.Below.heap_law.Colours.{living_of, copy_of, same_copied, served_of, wishes_of, running_of, has_finished, holder_of, is_mutex_there, IsColoured}
 
 -- THE ANSWERS
 

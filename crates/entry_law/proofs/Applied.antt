@@ -3,41 +3,41 @@ use Rattle.std.proofs.Common.{◌≡◌, ℕ, ◌+◌, ◌<◌, ◌≤◌, ◌==
 use Rattle.std.specs.Prelude.{⊤, slice_get}
 use Rattle.std.proofs.lemmas.Bool.{lt-ltb}
 use Rattle.std.proofs.lemmas.Bool.Decides.{nat_tests}
-use Rattle.fr_typing.proofs.PlaceLemmas.{eq_cases}
-use Rattle.fr_base.specs.declared.name.MutexNo.{MutexNo}
-use Rattle.fr_base.specs.declared.instruction.Instr.{Instr}
-use Rattle.fr_base.specs.declared.instruction.Instr.TheVariants as instr
-use Rattle.fr_base.specs.declared.label.Label.{Label}
-use Rattle.journal.specs.View.{EntryView}
-use Rattle.journal.specs.declared.act.Act.{Act}
-use Rattle.server_msgs.specs.declared.message.Message.{Message}
-use Rattle.server_model.specs.declared.event.Event.{Event}
-use Rattle.server_model.specs.declared.event.What.{What}
-use Rattle.server_model.specs.declared.event.What.TheVariants.{Deliver}
-use Rattle.server_model.specs.Servers.{Server, Cluster, server_at}
-use Rattle.server_model.specs.Work.{Site, then_some}
-use Rattle.server_model.specs.Events.{enabled, entry_of, begin_at, left_by, received, deliver_message, deliver, does}
-use Rattle.server_model.specs.Clusters.{with_server, hand_over_newer, done_at, apply}
-use Rattle.coloured_heap.specs.Heap.{Coloured}
-use Rattle.coloured_heap.specs.Rules.{of_run}
-use Rattle.heap_law.specs.Names.{tot, one, if_so}
-use Rattle.heap_law.specs.Things.{Thing, message_things, server_things, servers_things, things_of}
-use Rattle.heap_law.specs.Follow.{Standing, locate}
-use Rattle.heap_law.specs.Sight.{Sight, sight}
-use Rattle.heap_law.specs.Walking.{sum_threads}
-use Rattle.heap_law.specs.Requests.{locked_mutex, is_mutex}
-use Rattle.heap_law.specs.Sharing.{gift_content}
-use Rattle.heap_law.specs.Naming.{servers_wrong, pinned_parcel}
-use Rattle.heap_law.specs.Colours.{StandsColoured}
-use Rattle.heap_law.specs.Coherent.{IsSound}
-use Rattle.event_law.specs.Kinds.{Kind, kind_at, kind_of}
-use Rattle.event_law.specs.Laws.{Gives, GoTo, FewEvents}
-use Rattle.event_law.proofs.Askers.{other_none}
-use Rattle.event_law.proofs.Results.{then_gives, over_gives, both_give, test_gives, weaker}
-use Rattle.event_law.proofs.Events.{tot-server}
-use Rattle.event_law.proofs.Applied.{go_with}
-use Rattle.event_law.proofs.Handing.{hand_over_newer_law}
-use Rattle.event_law.proofs.Sending.{each_event_sends}
+use Rattle.read_law.proofs.Below.fr_typing.PlaceLemmas.{eq_cases}
+use Rattle.read_law.specs.Below.fr_base.declared.name.MutexNo.{MutexNo}
+use Rattle.read_law.specs.Below.fr_base.declared.instruction.Instr.{Instr}
+use Rattle.read_law.specs.Below.fr_base.declared.instruction.Instr.TheVariants as instr
+use Rattle.read_law.specs.Below.fr_base.declared.label.Label.{Label}
+use Rattle.read_law.specs.Below.journal.View.{EntryView}
+use Rattle.read_law.specs.Below.journal.declared.act.Act.{Act}
+use Rattle.read_law.specs.Below.server_msgs.declared.message.Message.{Message}
+use Rattle.read_law.specs.Below.server_model.declared.event.Event.{Event}
+use Rattle.read_law.specs.Below.server_model.declared.event.What.{What}
+use Rattle.read_law.specs.Below.server_model.declared.event.What.TheVariants.{Deliver}
+use Rattle.read_law.specs.Below.server_model.Servers.{Server, Cluster, server_at}
+use Rattle.read_law.specs.Below.server_model.Work.{Site, then_some}
+use Rattle.read_law.specs.Below.server_model.Events.{enabled, entry_of, begin_at, left_by, received, deliver_message, deliver, does}
+use Rattle.read_law.specs.Below.server_model.Clusters.{with_server, hand_over_newer, done_at, apply}
+use Rattle.read_law.specs.Below.coloured_heap.Heap.{Coloured}
+use Rattle.read_law.specs.Below.coloured_heap.Rules.{of_run}
+use Rattle.read_law.specs.Below.heap_law.Names.{tot, one, if_so}
+use Rattle.read_law.specs.Below.heap_law.Things.{Thing, message_things, server_things, servers_things, things_of}
+use Rattle.read_law.specs.Below.heap_law.Follow.{Standing, locate}
+use Rattle.read_law.specs.Below.heap_law.Sight.{Sight, sight}
+use Rattle.read_law.specs.Below.heap_law.Walking.{sum_threads}
+use Rattle.read_law.specs.Below.heap_law.Requests.{locked_mutex, is_mutex}
+use Rattle.read_law.specs.Below.heap_law.Sharing.{gift_content}
+use Rattle.read_law.specs.Below.heap_law.Naming.{servers_wrong, pinned_parcel}
+use Rattle.read_law.specs.Below.heap_law.Colours.{StandsColoured}
+use Rattle.read_law.specs.Below.heap_law.Coherent.{IsSound}
+use Rattle.read_law.specs.Below.event_law.Kinds.{Kind, kind_at, kind_of}
+use Rattle.read_law.specs.Below.event_law.Laws.{Gives, GoTo, FewEvents}
+use Rattle.read_law.proofs.Below.event_law.Askers.{other_none}
+use Rattle.read_law.proofs.Below.event_law.Results.{then_gives, over_gives, both_give, test_gives, weaker}
+use Rattle.read_law.proofs.Below.event_law.Events.{tot-server}
+use Rattle.read_law.proofs.Below.event_law.Applied.{go_with}
+use Rattle.read_law.proofs.Below.event_law.Handing.{hand_over_newer_law}
+use Rattle.read_law.proofs.Below.event_law.Sending.{each_event_sends}
 use Rattle.still_law.specs.Shows.{Counts}
 use Rattle.still_law.proofs.Alike.{mutex_same, all_seen}
 use Rattle.still_law.proofs.Counting.{no_stray}
@@ -45,7 +45,7 @@ use Rattle.still_law.proofs.Once.{shown_once}
 use Rattle.still_law.proofs.Sites.{AlikeBy, leads_by}
 use Rattle.still_law.proofs.StillKinds.{IsStill, server_still}
 use Rattle.stay_law.proofs.StayKinds.{Stays, kind_stays}
-use Rattle.word_law.specs.Unmoved.{LeavesWords}
+use Rattle.read_law.specs.Below.word_law.Unmoved.{LeavesWords}
 use Rattle.entry_law.specs.Entries.{LeadsOn, EntriesLegal}
 use Rattle.entry_law.proofs.Weighed.{SiteTurns, server_turns, received_turns}
 use Rattle.entry_law.proofs.After.{Follows, Keeps}

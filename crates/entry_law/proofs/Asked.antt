@@ -1,37 +1,37 @@
 -- Requests of a share, a content or a result: they are answered, or noted.
 use Rattle.std.proofs.Common.{◌≡◌, ℕ, zero, suc, ◌+◌, ◌-◌, ◌≤◌, ◌^◌, ◌==◌, ◌&&◌, not, nat_lt, Bool, true, false, if◌then◌else◌, List, [], ◌∷◌, ◌++◌, Option, Some, None, is_none, option_map, refl, sym, ap, ap₂, ◌∙◌, arith}
-use Rattle.fr_base.specs.declared.name.MutexNo.{MutexNo}
-use Rattle.heap_partition.specs.declared.value.Owned.{Owned}
-use Rattle.thread_state.specs.View.{is_over}
-use Rattle.mutex_home.specs.Mutexes.{Mutex, mutex_in, put_mutex, asked_of, asked_in, more_in}
-use Rattle.join_home.specs.Tasks.{Task, TaskState, going, let_go, kept, asked, in_pair, task_in, state_in, with_state, without_task, asked_from}
-use Rattle.server_msgs.specs.declared.message.Message.TheVariants as message
-use Rattle.journal.specs.declared.act.Act.TheVariants as act
-use Rattle.server_model.specs.Servers.{Server, Cluster, server_at}
-use Rattle.server_model.specs.Work.{Work, Site, note, send, with_mutexes, with_tasks, beside_threads}
-use Rattle.server_model.specs.Events.{received, deliver_message}
-use Rattle.server_model.specs.Sharing.{answer_lock, deliver_lock, deliver_dup}
-use Rattle.server_model.specs.Joining.{answer_join, deliver_join}
-use Rattle.server_model.specs.Clusters.{with_server}
-use Rattle.coloured_heap.specs.Heap.{Wish, Coloured, Running, ForContent, ForShare, ForResult, same_wish}
-use Rattle.coloured_heap.proofs.ShownNames.{mutex_flip}
-use Rattle.heap_law.specs.Names.{tot, one, some, if_so, same_mutex}
-use Rattle.heap_law.specs.Things.{Thing, as_content, as_result, holds, sent, stands, at_home, queued, noted, things_at, queue_things, content_things, message_things, server_things, servers_things, things_of}
-use Rattle.heap_law.specs.Sight.{sight}
-use Rattle.heap_law.specs.Requests.{home_of}
-use Rattle.heap_law.specs.Weights.{is_thread, is_home_of}
-use Rattle.heap_law.specs.Sharing.{contents, results, has_ended, kept_note}
-use Rattle.heap_law.specs.OneHeap.{or_else, is_given_thread}
-use Rattle.heap_law.specs.Colours.{StandsColoured, holder_of, running_of, has_finished, is_mutex_there}
-use Rattle.heap_law.specs.Coherent.{IsSound}
-use Rattle.heap_law.proofs.Names.{same_mutexes}
-use Rattle.heap_law.proofs.Sums.{tot-append, server_parts}
-use Rattle.event_law.specs.Laws.{Gives}
-use Rattle.event_law.proofs.Trades.{tot-push}
-use Rattle.event_law.proofs.Results.{over_gives}
-use Rattle.event_law.proofs.Events.{others_of, tot-server}
-use Rattle.event_law.proofs.MutexLists.{found_number, mutex_changes}
-use Rattle.event_law.proofs.FinishSteps.{task_number}
+use Rattle.read_law.specs.Below.fr_base.declared.name.MutexNo.{MutexNo}
+use Rattle.read_law.specs.Below.heap_partition.declared.value.Owned.{Owned}
+use Rattle.read_law.specs.Below.thread_state.View.{is_over}
+use Rattle.read_law.specs.Below.mutex_home.Mutexes.{Mutex, mutex_in, put_mutex, asked_of, asked_in, more_in}
+use Rattle.read_law.specs.Below.join_home.Tasks.{Task, TaskState, going, let_go, kept, asked, in_pair, task_in, state_in, with_state, without_task, asked_from}
+use Rattle.read_law.specs.Below.server_msgs.declared.message.Message.TheVariants as message
+use Rattle.read_law.specs.Below.journal.declared.act.Act.TheVariants as act
+use Rattle.read_law.specs.Below.server_model.Servers.{Server, Cluster, server_at}
+use Rattle.read_law.specs.Below.server_model.Work.{Work, Site, note, send, with_mutexes, with_tasks, beside_threads}
+use Rattle.read_law.specs.Below.server_model.Events.{received, deliver_message}
+use Rattle.read_law.specs.Below.server_model.Sharing.{answer_lock, deliver_lock, deliver_dup}
+use Rattle.read_law.specs.Below.server_model.Joining.{answer_join, deliver_join}
+use Rattle.read_law.specs.Below.server_model.Clusters.{with_server}
+use Rattle.read_law.specs.Below.coloured_heap.Heap.{Wish, Coloured, Running, ForContent, ForShare, ForResult, same_wish}
+use Rattle.read_law.proofs.Below.coloured_heap.ShownNames.{mutex_flip}
+use Rattle.read_law.specs.Below.heap_law.Names.{tot, one, some, if_so, same_mutex}
+use Rattle.read_law.specs.Below.heap_law.Things.{Thing, as_content, as_result, holds, sent, stands, at_home, queued, noted, things_at, queue_things, content_things, message_things, server_things, servers_things, things_of}
+use Rattle.read_law.specs.Below.heap_law.Sight.{sight}
+use Rattle.read_law.specs.Below.heap_law.Requests.{home_of}
+use Rattle.read_law.specs.Below.heap_law.Weights.{is_thread, is_home_of}
+use Rattle.read_law.specs.Below.heap_law.Sharing.{contents, results, has_ended, kept_note}
+use Rattle.read_law.specs.Below.heap_law.OneHeap.{or_else, is_given_thread}
+use Rattle.read_law.specs.Below.heap_law.Colours.{StandsColoured, holder_of, running_of, has_finished, is_mutex_there}
+use Rattle.read_law.specs.Below.heap_law.Coherent.{IsSound}
+use Rattle.read_law.proofs.Below.heap_law.Names.{same_mutexes}
+use Rattle.read_law.proofs.Below.heap_law.Sums.{tot-append, server_parts}
+use Rattle.read_law.specs.Below.event_law.Laws.{Gives}
+use Rattle.read_law.proofs.Below.event_law.Trades.{tot-push}
+use Rattle.read_law.proofs.Below.event_law.Results.{over_gives}
+use Rattle.read_law.proofs.Below.event_law.Events.{others_of, tot-server}
+use Rattle.read_law.proofs.Below.event_law.MutexLists.{found_number, mutex_changes}
+use Rattle.read_law.proofs.Below.event_law.FinishSteps.{task_number}
 use Rattle.still_law.proofs.Once.{few_homes}
 use Rattle.still_law.proofs.Told.{told, ones}
 use Rattle.still_law.proofs.Tests.{numbers, mutexes}

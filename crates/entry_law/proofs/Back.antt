@@ -1,40 +1,40 @@
 -- A content that comes back, shares and tasks that are let go, and threads that end.
 use Rattle.std.proofs.Common.{◌≡◌, ℕ, ◌+◌, ◌-◌, ◌≤◌, ◌==◌, nat_lt, Bool, true, false, if◌then◌else◌, List, [], ◌∷◌, ◌++◌, length, Option, Some, None, is_some, option_map, refl, sym, ap, ap₂, ◌∙◌, arith, append-nil}
 use Rattle.std.specs.Prelude.{slice_get}
-use Rattle.fr_base.specs.declared.name.MutexNo.{MutexNo}
-use Rattle.fr_base.specs.declared.release.Released.TheVariants as released
-use Rattle.heap_partition.specs.declared.value.Owned.{Owned}
-use Rattle.mutex_home.specs.Mutexes.{Mutex, Mutexes, mutex_in, put_mutex, end_mutex, back_to, back_out, back_in, last_less, less_of, less_in}
-use Rattle.mutex_home.specs.declared.answers.Back.{Back}
-use Rattle.mutex_home.specs.declared.answers.Back.TheVariants.{Ended, Kept}
-use Rattle.join_home.specs.Tasks.{Task, TaskState, going, let_go, kept, asked, in_pair, task_in, state_in, with_state, without_task, let_go_from}
-use Rattle.server_msgs.specs.declared.message.Message.{Message}
-use Rattle.server_msgs.specs.declared.message.Message.TheVariants as message
-use Rattle.journal.specs.declared.act.Act.TheVariants as act
-use Rattle.server_model.specs.Servers.{Server, Cluster, server_at}
-use Rattle.server_model.specs.Work.{Work, Site, note, send, receive, with_mutexes, with_tasks}
-use Rattle.server_model.specs.Drop.{give_up}
-use Rattle.server_model.specs.Events.{received, deliver_message}
-use Rattle.server_model.specs.Sharing.{answer_back, deliver_unlock, give_up_left, release_mutex}
-use Rattle.server_model.specs.Joining.{release_task}
-use Rattle.server_model.specs.Clusters.{with_server}
-use Rattle.coloured_heap.specs.Heap.{Wish, Coloured, ForContent, same_wish}
-use Rattle.coloured_heap.proofs.ShownNames.{mutex_flip}
-use Rattle.heap_law.specs.Names.{tot, one, if_so, same_mutex}
-use Rattle.heap_law.specs.Things.{Thing, as_content, as_result, holds, sent, at_home, queued, noted, things_at, queue_things, content_things, result_things, message_things, server_things, servers_things, things_of}
-use Rattle.heap_law.specs.Sight.{sight}
-use Rattle.heap_law.specs.Weights.{is_home_of}
-use Rattle.heap_law.specs.Sharing.{contents}
-use Rattle.heap_law.specs.OneHeap.{or_else}
-use Rattle.heap_law.specs.Colours.{StandsColoured, holder_of}
-use Rattle.heap_law.specs.Coherent.{IsSound}
-use Rattle.heap_law.proofs.Names.{same_mutexes}
-use Rattle.heap_law.proofs.Sums.{tot-append, server_parts}
-use Rattle.event_law.specs.Laws.{Gives}
-use Rattle.event_law.proofs.Trades.{tot-remove, tot-front}
-use Rattle.event_law.proofs.Bags.{of_mutexes}
-use Rattle.event_law.proofs.Events.{others_of, tot-server}
-use Rattle.event_law.proofs.MutexLists.{found_number, mutex_goes}
+use Rattle.read_law.specs.Below.fr_base.declared.name.MutexNo.{MutexNo}
+use Rattle.read_law.specs.Below.fr_base.declared.release.Released.TheVariants as released
+use Rattle.read_law.specs.Below.heap_partition.declared.value.Owned.{Owned}
+use Rattle.read_law.specs.Below.mutex_home.Mutexes.{Mutex, Mutexes, mutex_in, put_mutex, end_mutex, back_to, back_out, back_in, last_less, less_of, less_in}
+use Rattle.read_law.specs.Below.mutex_home.declared.answers.Back.{Back}
+use Rattle.read_law.specs.Below.mutex_home.declared.answers.Back.TheVariants.{Ended, Kept}
+use Rattle.read_law.specs.Below.join_home.Tasks.{Task, TaskState, going, let_go, kept, asked, in_pair, task_in, state_in, with_state, without_task, let_go_from}
+use Rattle.read_law.specs.Below.server_msgs.declared.message.Message.{Message}
+use Rattle.read_law.specs.Below.server_msgs.declared.message.Message.TheVariants as message
+use Rattle.read_law.specs.Below.journal.declared.act.Act.TheVariants as act
+use Rattle.read_law.specs.Below.server_model.Servers.{Server, Cluster, server_at}
+use Rattle.read_law.specs.Below.server_model.Work.{Work, Site, note, send, receive, with_mutexes, with_tasks}
+use Rattle.read_law.specs.Below.server_model.Drop.{give_up}
+use Rattle.read_law.specs.Below.server_model.Events.{received, deliver_message}
+use Rattle.read_law.specs.Below.server_model.Sharing.{answer_back, deliver_unlock, give_up_left, release_mutex}
+use Rattle.read_law.specs.Below.server_model.Joining.{release_task}
+use Rattle.read_law.specs.Below.server_model.Clusters.{with_server}
+use Rattle.read_law.specs.Below.coloured_heap.Heap.{Wish, Coloured, ForContent, same_wish}
+use Rattle.read_law.proofs.Below.coloured_heap.ShownNames.{mutex_flip}
+use Rattle.read_law.specs.Below.heap_law.Names.{tot, one, if_so, same_mutex}
+use Rattle.read_law.specs.Below.heap_law.Things.{Thing, as_content, as_result, holds, sent, at_home, queued, noted, things_at, queue_things, content_things, result_things, message_things, server_things, servers_things, things_of}
+use Rattle.read_law.specs.Below.heap_law.Sight.{sight}
+use Rattle.read_law.specs.Below.heap_law.Weights.{is_home_of}
+use Rattle.read_law.specs.Below.heap_law.Sharing.{contents}
+use Rattle.read_law.specs.Below.heap_law.OneHeap.{or_else}
+use Rattle.read_law.specs.Below.heap_law.Colours.{StandsColoured, holder_of}
+use Rattle.read_law.specs.Below.heap_law.Coherent.{IsSound}
+use Rattle.read_law.proofs.Below.heap_law.Names.{same_mutexes}
+use Rattle.read_law.proofs.Below.heap_law.Sums.{tot-append, server_parts}
+use Rattle.read_law.specs.Below.event_law.Laws.{Gives}
+use Rattle.read_law.proofs.Below.event_law.Trades.{tot-remove, tot-front}
+use Rattle.read_law.proofs.Below.event_law.Bags.{of_mutexes}
+use Rattle.read_law.proofs.Below.event_law.Events.{others_of, tot-server}
+use Rattle.read_law.proofs.Below.event_law.MutexLists.{found_number, mutex_goes}
 use Rattle.still_law.proofs.Once.{few_homes}
 use Rattle.still_law.proofs.Told.{told, ones}
 use Rattle.still_law.proofs.Tests.{mutexes}

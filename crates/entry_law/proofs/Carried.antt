@@ -1,20 +1,20 @@
 -- What messages carry stands beside them: a sum is at most another one, where each thing weighs at most as much, and each message with what it carries.
 use Rattle.std.proofs.Common.{◌≡◌, ◌≤◌, ℕ, ◌+◌, Bool, true, false, if◌then◌else◌, List, [], ◌∷◌, ◌++◌, length, Option, Some, None, refl, arith}
-use Rattle.heap_partition.specs.declared.value.Cell.{Cell}
-use Rattle.heap_partition.specs.declared.value.Owned.{Owned}
-use Rattle.mut_borrow.specs.declared.shared.SharedRef.{SharedRef}
-use Rattle.owner_box.specs.View.{PartitionState}
-use Rattle.mutex_home.specs.Mutexes.{Mutex}
-use Rattle.join_home.specs.Tasks.{Task, TaskState, going, let_go, kept, asked, in_pair}
-use Rattle.thread_state.specs.View.{ThreadState}
-use Rattle.thread_state.specs.declared.value.Value.{Value}
-use Rattle.thread_state.specs.declared.value.Value.TheVariants as value
-use Rattle.server_msgs.specs.declared.message.Message.{Message}
-use Rattle.server_msgs.specs.declared.message.Message.TheVariants as message
-use Rattle.server_model.specs.Servers.{Server, Cluster}
-use Rattle.heap_law.specs.Names.{tot}
-use Rattle.heap_law.specs.Things.{Spot, in_slot, in_temp, as_gift, as_content, as_result, Location, at_slot, at_temp, Thing, holds, shares, borrows, locks, lies, flies, vacant, retired, copied, uses, sent, stands, at_home, queued, noted, counts, things_at, pin_things, value_things, slot_things, temp_things, gift_things, walk_things, thread_things, standing_things, message_things, waiting_things, leaving_things, is_free, cell_things, free_things, partition_things, copy_things, content_things, queue_things, mutex_things, result_things, task_things, server_things, servers_things, things_of}
-use Rattle.heap_law.proofs.Sums.{tot-append, server_parts}
+use Rattle.read_law.specs.Below.heap_partition.declared.value.Cell.{Cell}
+use Rattle.read_law.specs.Below.heap_partition.declared.value.Owned.{Owned}
+use Rattle.read_law.specs.Below.mut_borrow.declared.shared.SharedRef.{SharedRef}
+use Rattle.read_law.specs.Below.owner_box.View.{PartitionState}
+use Rattle.read_law.specs.Below.mutex_home.Mutexes.{Mutex}
+use Rattle.read_law.specs.Below.join_home.Tasks.{Task, TaskState, going, let_go, kept, asked, in_pair}
+use Rattle.read_law.specs.Below.thread_state.View.{ThreadState}
+use Rattle.read_law.specs.Below.thread_state.declared.value.Value.{Value}
+use Rattle.read_law.specs.Below.thread_state.declared.value.Value.TheVariants as value
+use Rattle.read_law.specs.Below.server_msgs.declared.message.Message.{Message}
+use Rattle.read_law.specs.Below.server_msgs.declared.message.Message.TheVariants as message
+use Rattle.read_law.specs.Below.server_model.Servers.{Server, Cluster}
+use Rattle.read_law.specs.Below.heap_law.Names.{tot}
+use Rattle.read_law.specs.Below.heap_law.Things.{Spot, in_slot, in_temp, as_gift, as_content, as_result, Location, at_slot, at_temp, Thing, holds, shares, borrows, locks, lies, flies, vacant, retired, copied, uses, sent, stands, at_home, queued, noted, counts, things_at, pin_things, value_things, slot_things, temp_things, gift_things, walk_things, thread_things, standing_things, message_things, waiting_things, leaving_things, is_free, cell_things, free_things, partition_things, copy_things, content_things, queue_things, mutex_things, result_things, task_things, server_things, servers_things, things_of}
+use Rattle.read_law.proofs.Below.heap_law.Sums.{tot-append, server_parts}
 use Rattle.entry_law.proofs.Weighed.{Bare}
 
 -- a message, or an object under way

@@ -1,28 +1,28 @@
 -- How mutexes, notes and messages of a server change, as the coloured heap sees it, and what is there.
 use Rattle.std.proofs.Common.{◌≡◌, ℕ, ◌+◌, ◌≤◌, ◌==◌, ◌&&◌, ◌||◌, not, Bool, true, false, List, [], ◌∷◌, ◌++◌, Option, Some, None, refl, sym, ap, ◌∙◌, arith, append_assoc, append-nil}
 use Rattle.std.specs.Prelude.{◌%◌, ◌^◌, slice_get}
-use Rattle.fr_base.specs.declared.name.MutexNo.{MutexNo}
-use Rattle.heap_partition.specs.declared.value.Owned.{Owned}
-use Rattle.mutex_home.specs.Mutexes.{Mutex, mutex_in, put_mutex}
-use Rattle.join_home.specs.Tasks.{Task, TaskState, going, let_go, kept, asked, in_pair, task_in, with_state, without_task}
-use Rattle.server_msgs.specs.declared.message.Message.{Message}
-use Rattle.journal.specs.declared.act.Act.{Act}
-use Rattle.server_model.specs.Servers.{Server, Cluster, server_at}
-use Rattle.server_model.specs.Work.{Work, note, with_mutexes, with_tasks}
-use Rattle.heap_law.specs.Names.{tot, one, other, some}
-use Rattle.heap_law.specs.Things.{as_content, as_result, Thing, at_home, noted, things_at, content_things, queue_things, result_things, mutex_things, task_things, message_things, server_things, things_of}
-use Rattle.heap_law.specs.Sight.{sight}
-use Rattle.heap_law.specs.Requests.{home_of}
-use Rattle.heap_law.specs.Naming.{threads, named_mutexes, started_at, zeroth_thread, zeroth_mutex, uncounted_thread, uncounted_mutex}
-use Rattle.heap_law.specs.OneHeap.{is_given_thread}
-use Rattle.heap_law.specs.Coherent.{IsSound}
-use Rattle.heap_law.proofs.Sums.{tot-append, server_parts}
-use Rattle.event_law.proofs.Trades.{Trade, tot-remove}
-use Rattle.event_law.proofs.Bags.{of_mutexes, of_tasks}
-use Rattle.event_law.proofs.Events.{tot-server}
-use Rattle.event_law.proofs.Askers.{other_none}
-use Rattle.event_law.proofs.MutexLists.{mutex_changes}
-use Rattle.event_law.proofs.TaskMessages.{tot-gone, tot-put}
+use Rattle.read_law.specs.Below.fr_base.declared.name.MutexNo.{MutexNo}
+use Rattle.read_law.specs.Below.heap_partition.declared.value.Owned.{Owned}
+use Rattle.read_law.specs.Below.mutex_home.Mutexes.{Mutex, mutex_in, put_mutex}
+use Rattle.read_law.specs.Below.join_home.Tasks.{Task, TaskState, going, let_go, kept, asked, in_pair, task_in, with_state, without_task}
+use Rattle.read_law.specs.Below.server_msgs.declared.message.Message.{Message}
+use Rattle.read_law.specs.Below.journal.declared.act.Act.{Act}
+use Rattle.read_law.specs.Below.server_model.Servers.{Server, Cluster, server_at}
+use Rattle.read_law.specs.Below.server_model.Work.{Work, note, with_mutexes, with_tasks}
+use Rattle.read_law.specs.Below.heap_law.Names.{tot, one, other, some}
+use Rattle.read_law.specs.Below.heap_law.Things.{as_content, as_result, Thing, at_home, noted, things_at, content_things, queue_things, result_things, mutex_things, task_things, message_things, server_things, things_of}
+use Rattle.read_law.specs.Below.heap_law.Sight.{sight}
+use Rattle.read_law.specs.Below.heap_law.Requests.{home_of}
+use Rattle.read_law.specs.Below.heap_law.Naming.{threads, named_mutexes, started_at, zeroth_thread, zeroth_mutex, uncounted_thread, uncounted_mutex}
+use Rattle.read_law.specs.Below.heap_law.OneHeap.{is_given_thread}
+use Rattle.read_law.specs.Below.heap_law.Coherent.{IsSound}
+use Rattle.read_law.proofs.Below.heap_law.Sums.{tot-append, server_parts}
+use Rattle.read_law.proofs.Below.event_law.Trades.{Trade, tot-remove}
+use Rattle.read_law.proofs.Below.event_law.Bags.{of_mutexes, of_tasks}
+use Rattle.read_law.proofs.Below.event_law.Events.{tot-server}
+use Rattle.read_law.proofs.Below.event_law.Askers.{other_none}
+use Rattle.read_law.proofs.Below.event_law.MutexLists.{mutex_changes}
+use Rattle.read_law.proofs.Below.event_law.TaskMessages.{tot-gone, tot-put}
 use Rattle.entry_law.proofs.Weighed.{Seen, WorkTurns}
 
 -- NOTHING YET, AND AN ACT

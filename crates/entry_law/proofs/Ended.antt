@@ -1,33 +1,33 @@
 -- The home of a thread is told that it has ended: its result goes to whoever asked, is kept, or is let go, and the second of a pair lets its parent go on.
 use Rattle.std.proofs.Common.{◌≡◌, ℕ, ◌+◌, ◌≤◌, ◌==◌, ◌||◌, not, Bool, true, false, if◌then◌else◌, List, [], ◌∷◌, ◌++◌, Option, Some, None, option_map, refl, sym, ap, ap₂, subst, ◌∙◌, arith}
 use Rattle.std.specs.Prelude.{slice_get}
-use Rattle.heap_partition.specs.declared.value.Owned.{Owned}
-use Rattle.thread_state.specs.View.{ThreadState, is_over}
-use Rattle.thread_state.specs.declared.phase.Phase.{Phase}
-use Rattle.thread_state.specs.declared.phase.Phase.TheVariants as phase
-use Rattle.join_home.specs.Tasks.{Task, TaskState, going, let_go, kept, asked, in_pair, task_in, state_in, with_state, without_task, over_of, over_in, pair_ended, ended_from}
-use Rattle.join_home.specs.declared.answers.EndedAs.{EndedAs}
-use Rattle.server_msgs.specs.declared.message.Message.{Message}
-use Rattle.server_msgs.specs.declared.message.Message.TheVariants as message
-use Rattle.journal.specs.declared.act.Act.TheVariants as act
-use Rattle.server_model.specs.Servers.{Server, Cluster, server_at}
-use Rattle.server_model.specs.Work.{Work, Site, then_some, note, send, with_tasks, with_phase, thread_in, put_back}
-use Rattle.server_model.specs.Drop.{give_up}
-use Rattle.server_model.specs.Events.{received, deliver_message}
-use Rattle.server_model.specs.Joining.{got_par, pair_over, end_answer}
-use Rattle.coloured_heap.specs.Heap.{Wish, Running, Coloured, ForResult, same_wish}
-use Rattle.heap_law.specs.Names.{tot, one, if_so}
-use Rattle.heap_law.specs.Things.{Thing, as_result, holds, sent, stands, noted, message_things, things_of}
-use Rattle.heap_law.specs.Sight.{sight}
-use Rattle.heap_law.specs.Walking.{sum_threads}
-use Rattle.heap_law.specs.Naming.{servers_wrong, pinned_parcel, rising, numbers_of}
-use Rattle.heap_law.specs.Sharing.{results, has_ended}
-use Rattle.heap_law.specs.Colours.{StandsColoured}
-use Rattle.heap_law.specs.Coherent.{IsSound}
-use Rattle.event_law.specs.Laws.{Gives}
-use Rattle.event_law.proofs.Results.{bind_gives}
-use Rattle.event_law.proofs.FinishSteps.{notes_rise, task_number}
-use Rattle.event_law.proofs.Finished.{pair_finds, other_stays, same_task, not_over}
+use Rattle.read_law.specs.Below.heap_partition.declared.value.Owned.{Owned}
+use Rattle.read_law.specs.Below.thread_state.View.{ThreadState, is_over}
+use Rattle.read_law.specs.Below.thread_state.declared.phase.Phase.{Phase}
+use Rattle.read_law.specs.Below.thread_state.declared.phase.Phase.TheVariants as phase
+use Rattle.read_law.specs.Below.join_home.Tasks.{Task, TaskState, going, let_go, kept, asked, in_pair, task_in, state_in, with_state, without_task, over_of, over_in, pair_ended, ended_from}
+use Rattle.read_law.specs.Below.join_home.declared.answers.EndedAs.{EndedAs}
+use Rattle.read_law.specs.Below.server_msgs.declared.message.Message.{Message}
+use Rattle.read_law.specs.Below.server_msgs.declared.message.Message.TheVariants as message
+use Rattle.read_law.specs.Below.journal.declared.act.Act.TheVariants as act
+use Rattle.read_law.specs.Below.server_model.Servers.{Server, Cluster, server_at}
+use Rattle.read_law.specs.Below.server_model.Work.{Work, Site, then_some, note, send, with_tasks, with_phase, thread_in, put_back}
+use Rattle.read_law.specs.Below.server_model.Drop.{give_up}
+use Rattle.read_law.specs.Below.server_model.Events.{received, deliver_message}
+use Rattle.read_law.specs.Below.server_model.Joining.{got_par, pair_over, end_answer}
+use Rattle.read_law.specs.Below.coloured_heap.Heap.{Wish, Running, Coloured, ForResult, same_wish}
+use Rattle.read_law.specs.Below.heap_law.Names.{tot, one, if_so}
+use Rattle.read_law.specs.Below.heap_law.Things.{Thing, as_result, holds, sent, stands, noted, message_things, things_of}
+use Rattle.read_law.specs.Below.heap_law.Sight.{sight}
+use Rattle.read_law.specs.Below.heap_law.Walking.{sum_threads}
+use Rattle.read_law.specs.Below.heap_law.Naming.{servers_wrong, pinned_parcel, rising, numbers_of}
+use Rattle.read_law.specs.Below.heap_law.Sharing.{results, has_ended}
+use Rattle.read_law.specs.Below.heap_law.Colours.{StandsColoured}
+use Rattle.read_law.specs.Below.heap_law.Coherent.{IsSound}
+use Rattle.read_law.specs.Below.event_law.Laws.{Gives}
+use Rattle.read_law.proofs.Below.event_law.Results.{bind_gives}
+use Rattle.read_law.proofs.Below.event_law.FinishSteps.{notes_rise, task_number}
+use Rattle.read_law.proofs.Below.event_law.Finished.{pair_finds, other_stays, same_task, not_over}
 use Rattle.still_law.proofs.Told.{told}
 use Rattle.still_law.proofs.Tests.{numbers}
 use Rattle.entry_law.proofs.Answers.{answers_of, fits, answering, answer_allowed}

@@ -1,41 +1,41 @@
 -- An owned value that is let go: a box's object is condemned, and a mutex value or a task is let go.
 use Rattle.std.proofs.Common.{◌≡◌, ⊎_elim, inl, ℕ, ◌+◌, ◌≤◌, ◌==◌, ◌&&◌, ◌||◌, not, Bool, true, false, if◌then◌else◌, List, [], ◌∷◌, ◌++◌, Option, Some, None, is_none, option_map, refl, sym, ap, ap₂, subst, ◌∙◌, arith, append-nil}
 use Rattle.std.specs.Prelude.{◌%◌, ◌^◌}
-use Rattle.fr_base.specs.declared.name.ObjNo.{ObjNo}
-use Rattle.fr_base.specs.declared.label.Plain.{Plain}
-use Rattle.fr_base.specs.declared.release.Released.{Released}
-use Rattle.fr_base.specs.declared.release.Released.TheVariants as released
-use Rattle.global_addr.specs.Words.{server_of}
-use Rattle.heap_partition.specs.Plain.{plain_of}
-use Rattle.heap_partition.specs.declared.value.BoxPtr.{BoxPtr}
-use Rattle.heap_partition.specs.declared.value.Owned.{Owned}
-use Rattle.heap_partition.specs.declared.value.Owned.TheVariants as owned
-use Rattle.server_msgs.specs.declared.message.Message.{Message}
-use Rattle.server_msgs.specs.declared.message.Message.TheVariants as message
-use Rattle.journal.specs.declared.act.Act.{Act}
-use Rattle.journal.specs.declared.act.Act.TheVariants as act
-use Rattle.server_model.specs.Servers.{Server, Cluster, server_at}
-use Rattle.server_model.specs.Work.{Work, note}
-use Rattle.server_model.specs.Drop.{give_up}
-use Rattle.coloured_heap.specs.Heap.{Place, Lies, Flies, Living, Coloured, is_object}
-use Rattle.coloured_heap.proofs.ShownNames.{object_flip}
-use Rattle.heap_law.specs.Names.{tot, one, other, some, same_object, boxes, Among}
-use Rattle.heap_law.specs.Things.{Location, Spot, Thing, holds, lies, flies, sent, message_things, things_of}
-use Rattle.heap_law.specs.Sight.{Pointer, location_of, pointers_in, taken_pointers, Sight, sight, word}
-use Rattle.heap_law.specs.Weights.{cells, owners, is_thread}
-use Rattle.heap_law.specs.Words.{IsStale, HasWords}
-use Rattle.heap_law.specs.Requests.{home_of}
-use Rattle.heap_law.specs.Naming.{threads, named_mutexes, started_at, made_at, zeroth_thread, zeroth_mutex, uncounted_thread, uncounted_mutex}
-use Rattle.heap_law.specs.OneHeap.{or_else, first_shown, is_given_thread, is_given_mutex}
-use Rattle.heap_law.specs.Colours.{StandsColoured, living_of, running_of}
-use Rattle.heap_law.specs.Coherent.{IsSound}
-use Rattle.heap_law.proofs.Names.{and_left, and_right, same_number}
-use Rattle.heap_law.proofs.Words.{named}
-use Rattle.path_law.proofs.Origins.{among_first}
+use Rattle.read_law.specs.Below.fr_base.declared.name.ObjNo.{ObjNo}
+use Rattle.read_law.specs.Below.fr_base.declared.label.Plain.{Plain}
+use Rattle.read_law.specs.Below.fr_base.declared.release.Released.{Released}
+use Rattle.read_law.specs.Below.fr_base.declared.release.Released.TheVariants as released
+use Rattle.read_law.specs.Below.global_addr.Words.{server_of}
+use Rattle.read_law.specs.Below.heap_partition.Plain.{plain_of}
+use Rattle.read_law.specs.Below.heap_partition.declared.value.BoxPtr.{BoxPtr}
+use Rattle.read_law.specs.Below.heap_partition.declared.value.Owned.{Owned}
+use Rattle.read_law.specs.Below.heap_partition.declared.value.Owned.TheVariants as owned
+use Rattle.read_law.specs.Below.server_msgs.declared.message.Message.{Message}
+use Rattle.read_law.specs.Below.server_msgs.declared.message.Message.TheVariants as message
+use Rattle.read_law.specs.Below.journal.declared.act.Act.{Act}
+use Rattle.read_law.specs.Below.journal.declared.act.Act.TheVariants as act
+use Rattle.read_law.specs.Below.server_model.Servers.{Server, Cluster, server_at}
+use Rattle.read_law.specs.Below.server_model.Work.{Work, note}
+use Rattle.read_law.specs.Below.server_model.Drop.{give_up}
+use Rattle.read_law.specs.Below.coloured_heap.Heap.{Place, Lies, Flies, Living, Coloured, is_object}
+use Rattle.read_law.proofs.Below.coloured_heap.ShownNames.{object_flip}
+use Rattle.read_law.specs.Below.heap_law.Names.{tot, one, other, some, same_object, boxes, Among}
+use Rattle.read_law.specs.Below.heap_law.Things.{Location, Spot, Thing, holds, lies, flies, sent, message_things, things_of}
+use Rattle.read_law.specs.Below.heap_law.Sight.{Pointer, location_of, pointers_in, taken_pointers, Sight, sight, word}
+use Rattle.read_law.specs.Below.heap_law.Weights.{cells, owners, is_thread}
+use Rattle.read_law.specs.Below.heap_law.Words.{IsStale, HasWords}
+use Rattle.read_law.specs.Below.heap_law.Requests.{home_of}
+use Rattle.read_law.specs.Below.heap_law.Naming.{threads, named_mutexes, started_at, made_at, zeroth_thread, zeroth_mutex, uncounted_thread, uncounted_mutex}
+use Rattle.read_law.specs.Below.heap_law.OneHeap.{or_else, first_shown, is_given_thread, is_given_mutex}
+use Rattle.read_law.specs.Below.heap_law.Colours.{StandsColoured, living_of, running_of}
+use Rattle.read_law.specs.Below.heap_law.Coherent.{IsSound}
+use Rattle.read_law.proofs.Below.heap_law.Names.{and_left, and_right, same_number}
+use Rattle.read_law.proofs.Below.heap_law.Words.{named}
+use Rattle.read_law.proofs.Below.path_law.Origins.{among_first}
 use Rattle.read_law.proofs.Flights.{found, truly}
-use Rattle.word_law.specs.Unmoved.{WordsStay}
-use Rattle.word_law.proofs.Standing.{pointers_among}
-use Rattle.event_law.proofs.Trades.{tot-append}
+use Rattle.read_law.specs.Below.word_law.Unmoved.{WordsStay}
+use Rattle.read_law.proofs.Below.word_law.Standing.{pointers_among}
+use Rattle.read_law.proofs.Below.event_law.Trades.{tot-append}
 use Rattle.still_law.proofs.Tests.{numbers, objects}
 use Rattle.still_law.proofs.Told.{told, ones}
 use Rattle.entry_law.specs.Entries.{LeadsOn}

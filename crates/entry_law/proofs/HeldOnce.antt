@@ -1,35 +1,35 @@
 -- In a sound cluster a server's cache has a word once, and the marks, messages and gifts that tell who holds a mutex's content are one at most.
 use Rattle.std.proofs.Common.{◌≡◌, ◌≤◌, ℕ, zero, suc, ◌+◌, ◌==◌, ◌&&◌, Bool, true, false, if◌then◌else◌, List, [], ◌∷◌, ◌++◌, Option, Some, None, refl, subst, arith}
 use Rattle.std.proofs.lemmas.Bool.Decides.{nat_tests}
-use Rattle.fr_typing.proofs.PlaceLemmas.{eq_cases}
-use Rattle.fr_base.specs.declared.name.MutexNo.{MutexNo}
-use Rattle.heap_partition.specs.Plain.{plain_of}
-use Rattle.heap_partition.specs.declared.value.Cell.{Cell}
-use Rattle.heap_partition.specs.declared.value.Owned.{Owned}
-use Rattle.mut_borrow.specs.declared.shared.SharedRef.{SharedRef}
-use Rattle.read_cache.specs.Cache.{Copy, copy_of}
-use Rattle.mutex_home.specs.Mutexes.{Mutex}
-use Rattle.join_home.specs.Tasks.{TaskState, kept}
-use Rattle.thread_state.specs.View.{ThreadState}
-use Rattle.thread_state.specs.declared.value.Value.{Value}
-use Rattle.thread_state.specs.declared.value.Value.TheVariants as value
-use Rattle.server_msgs.specs.declared.message.Message.{Message}
-use Rattle.server_msgs.specs.declared.message.Message.TheVariants as message
-use Rattle.server_model.specs.Servers.{Server, Cluster}
-use Rattle.coloured_heap.specs.Heap.{Copied}
-use Rattle.heap_law.specs.Names.{tot, one, other, some, same_mutex}
-use Rattle.heap_law.specs.Things.{Spot, Location, at_slot, at_temp, in_cell, Thing, locks, sent, stands, copied, uses, retired, things_at, pin_things, value_things, slot_things, temp_things, gift_things, walk_things, thread_things, standing_things, message_things, waiting_things, leaving_things, is_free, cell_things, free_things, copy_things, content_things, queue_things, mutex_things, result_things, task_things, server_things, servers_things, things_of}
-use Rattle.heap_law.specs.Follow.{Standing}
-use Rattle.heap_law.specs.Sight.{Sight, sight}
-use Rattle.heap_law.specs.Walking.{sum_threads}
-use Rattle.heap_law.specs.OneHeap.{or_else}
-use Rattle.heap_law.specs.Naming.{same_word, cached_twice, servers_wrong, pinned_parcel}
-use Rattle.heap_law.specs.Weights.{cached}
-use Rattle.heap_law.specs.Sharing.{gift_content, contents}
-use Rattle.heap_law.specs.Coherent.{IsSound}
-use Rattle.heap_law.proofs.Sums.{tot-append, server_parts}
-use Rattle.event_law.proofs.Trades.{tot-front}
-use Rattle.event_law.proofs.Askers.{other_none}
+use Rattle.read_law.proofs.Below.fr_typing.PlaceLemmas.{eq_cases}
+use Rattle.read_law.specs.Below.fr_base.declared.name.MutexNo.{MutexNo}
+use Rattle.read_law.specs.Below.heap_partition.Plain.{plain_of}
+use Rattle.read_law.specs.Below.heap_partition.declared.value.Cell.{Cell}
+use Rattle.read_law.specs.Below.heap_partition.declared.value.Owned.{Owned}
+use Rattle.read_law.specs.Below.mut_borrow.declared.shared.SharedRef.{SharedRef}
+use Rattle.read_law.specs.Below.read_cache.Cache.{Copy, copy_of}
+use Rattle.read_law.specs.Below.mutex_home.Mutexes.{Mutex}
+use Rattle.read_law.specs.Below.join_home.Tasks.{TaskState, kept}
+use Rattle.read_law.specs.Below.thread_state.View.{ThreadState}
+use Rattle.read_law.specs.Below.thread_state.declared.value.Value.{Value}
+use Rattle.read_law.specs.Below.thread_state.declared.value.Value.TheVariants as value
+use Rattle.read_law.specs.Below.server_msgs.declared.message.Message.{Message}
+use Rattle.read_law.specs.Below.server_msgs.declared.message.Message.TheVariants as message
+use Rattle.read_law.specs.Below.server_model.Servers.{Server, Cluster}
+use Rattle.read_law.specs.Below.coloured_heap.Heap.{Copied}
+use Rattle.read_law.specs.Below.heap_law.Names.{tot, one, other, some, same_mutex}
+use Rattle.read_law.specs.Below.heap_law.Things.{Spot, Location, at_slot, at_temp, in_cell, Thing, locks, sent, stands, copied, uses, retired, things_at, pin_things, value_things, slot_things, temp_things, gift_things, walk_things, thread_things, standing_things, message_things, waiting_things, leaving_things, is_free, cell_things, free_things, copy_things, content_things, queue_things, mutex_things, result_things, task_things, server_things, servers_things, things_of}
+use Rattle.read_law.specs.Below.heap_law.Follow.{Standing}
+use Rattle.read_law.specs.Below.heap_law.Sight.{Sight, sight}
+use Rattle.read_law.specs.Below.heap_law.Walking.{sum_threads}
+use Rattle.read_law.specs.Below.heap_law.OneHeap.{or_else}
+use Rattle.read_law.specs.Below.heap_law.Naming.{same_word, cached_twice, servers_wrong, pinned_parcel}
+use Rattle.read_law.specs.Below.heap_law.Weights.{cached}
+use Rattle.read_law.specs.Below.heap_law.Sharing.{gift_content, contents}
+use Rattle.read_law.specs.Below.heap_law.Coherent.{IsSound}
+use Rattle.read_law.proofs.Below.heap_law.Sums.{tot-append, server_parts}
+use Rattle.read_law.proofs.Below.event_law.Trades.{tot-front}
+use Rattle.read_law.proofs.Below.event_law.Askers.{other_none}
 use Rattle.still_law.proofs.Once.{few_homes}
 use Rattle.still_law.proofs.Told.{at_most, told, ones}
 use Rattle.entry_law.proofs.Weighed.{Bare}

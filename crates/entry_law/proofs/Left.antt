@@ -1,36 +1,36 @@
 -- A copy that goes, and a thread that leaves for another server.
 use Rattle.std.proofs.Common.{◌≡◌, ℕ, ◌+◌, ◌-◌, ◌==◌, ◌&&◌, not, Bool, true, false, if◌then◌else◌, List, [], ◌∷◌, ◌++◌, Option, Some, None, is_some, is_none, option_map, refl, sym, ap, ap₂, subst, ◌∙◌, arith}
-use Rattle.fr_typing.proofs.PlaceLemmas.{eq_cases}
-use Rattle.heap_partition.specs.Plain.{plain_of}
-use Rattle.read_cache.specs.Cache.{Copy, copy_of, users, is_cached, can_evict, without_copy, with_users, can_unpin, unpin}
-use Rattle.thread_state.specs.View.{ThreadState, is_over}
-use Rattle.thread_state.specs.declared.phase.Phase.{Phase}
-use Rattle.thread_state.specs.declared.phase.Phase.TheVariants as phase
-use Rattle.migration.specs.Packing.{unpin_all, used_words, packed, pack_thread}
-use Rattle.server_msgs.specs.declared.message.Message.TheVariants as message
-use Rattle.journal.specs.declared.act.Act.TheVariants as act
-use Rattle.server_model.specs.declared.event.What.TheVariants.{Evict, Migrate}
-use Rattle.server_model.specs.Servers.{Server, Cluster, server_at}
-use Rattle.server_model.specs.Work.{Work, Site, note, with_cache, beside_threads, thread_in, without_thread, then_some}
-use Rattle.server_model.specs.Moving.{depart, migrate}
-use Rattle.server_model.specs.Events.{has_phase, is_ready, begin_at, left_by, evict_copy, does}
-use Rattle.coloured_heap.specs.Heap.{Copied, Coloured, Running}
-use Rattle.coloured_heap.specs.Rules.{of_run}
-use Rattle.heap_law.specs.Names.{tot, if_so}
-use Rattle.heap_law.specs.Things.{Thing, copied, sent, stands, things_at, copy_things, things_of}
-use Rattle.heap_law.specs.Follow.{Standing, threads_in, thread_at}
-use Rattle.heap_law.specs.Sight.{sight}
-use Rattle.heap_law.specs.Weights.{is_thread}
-use Rattle.heap_law.specs.OneHeap.{first_shown, is_given_thread}
-use Rattle.heap_law.specs.Colours.{StandsColoured, same_copied, copy_of as shown_copy, running_of}
-use Rattle.heap_law.specs.Coherent.{IsSound}
-use Rattle.heap_law.proofs.Names.{and_left}
-use Rattle.event_law.specs.Laws.{Gives}
-use Rattle.event_law.proofs.Trades.{tot-append, trade_whole}
-use Rattle.event_law.proofs.Results.{over_gives}
-use Rattle.event_law.proofs.Bags.{all_standing, rest_things, of_cache, of_sending, sent_number, thread_number, tot-without}
-use Rattle.event_law.proofs.Copies.{copy_goes}
-use Rattle.event_law.proofs.ThreadThere.{thread_there}
+use Rattle.read_law.proofs.Below.fr_typing.PlaceLemmas.{eq_cases}
+use Rattle.read_law.specs.Below.heap_partition.Plain.{plain_of}
+use Rattle.read_law.specs.Below.read_cache.Cache.{Copy, copy_of, users, is_cached, can_evict, without_copy, with_users, can_unpin, unpin}
+use Rattle.read_law.specs.Below.thread_state.View.{ThreadState, is_over}
+use Rattle.read_law.specs.Below.thread_state.declared.phase.Phase.{Phase}
+use Rattle.read_law.specs.Below.thread_state.declared.phase.Phase.TheVariants as phase
+use Rattle.read_law.specs.Below.migration.Packing.{unpin_all, used_words, packed, pack_thread}
+use Rattle.read_law.specs.Below.server_msgs.declared.message.Message.TheVariants as message
+use Rattle.read_law.specs.Below.journal.declared.act.Act.TheVariants as act
+use Rattle.read_law.specs.Below.server_model.declared.event.What.TheVariants.{Evict, Migrate}
+use Rattle.read_law.specs.Below.server_model.Servers.{Server, Cluster, server_at}
+use Rattle.read_law.specs.Below.server_model.Work.{Work, Site, note, with_cache, beside_threads, thread_in, without_thread, then_some}
+use Rattle.read_law.specs.Below.server_model.Moving.{depart, migrate}
+use Rattle.read_law.specs.Below.server_model.Events.{has_phase, is_ready, begin_at, left_by, evict_copy, does}
+use Rattle.read_law.specs.Below.coloured_heap.Heap.{Copied, Coloured, Running}
+use Rattle.read_law.specs.Below.coloured_heap.Rules.{of_run}
+use Rattle.read_law.specs.Below.heap_law.Names.{tot, if_so}
+use Rattle.read_law.specs.Below.heap_law.Things.{Thing, copied, sent, stands, things_at, copy_things, things_of}
+use Rattle.read_law.specs.Below.heap_law.Follow.{Standing, threads_in, thread_at}
+use Rattle.read_law.specs.Below.heap_law.Sight.{sight}
+use Rattle.read_law.specs.Below.heap_law.Weights.{is_thread}
+use Rattle.read_law.specs.Below.heap_law.OneHeap.{first_shown, is_given_thread}
+use Rattle.read_law.specs.Below.heap_law.Colours.{StandsColoured, same_copied, copy_of as shown_copy, running_of}
+use Rattle.read_law.specs.Below.heap_law.Coherent.{IsSound}
+use Rattle.read_law.proofs.Below.heap_law.Names.{and_left}
+use Rattle.read_law.specs.Below.event_law.Laws.{Gives}
+use Rattle.read_law.proofs.Below.event_law.Trades.{tot-append, trade_whole}
+use Rattle.read_law.proofs.Below.event_law.Results.{over_gives}
+use Rattle.read_law.proofs.Below.event_law.Bags.{all_standing, rest_things, of_cache, of_sending, sent_number, thread_number, tot-without}
+use Rattle.read_law.proofs.Below.event_law.Copies.{copy_goes}
+use Rattle.read_law.proofs.Below.event_law.ThreadThere.{thread_there}
 use Rattle.still_law.proofs.Told.{told, ones, first_told, same_told}
 use Rattle.still_law.proofs.Tests.{numbers}
 use Rattle.entry_law.proofs.Answers.{Agrees, answers_of, fits, evicting, evict_allowed, departing, departed, depart_allowed}
@@ -41,7 +41,7 @@ use Rattle.entry_law.proofs.After.{Follows, Keeps, copy_seen, living_still, copy
 use Rattle.entry_law.proofs.Runs.{silent, runs_one, leads_on}
 use Rattle.entry_law.proofs.Applied.{Legal, Led, led_on, server_there}
 use Rattle.entry_law.proofs.Changed.{notes}
-use Rattle.coloured_heap.proofs.ShownNames.{number_flip}
+use Rattle.read_law.proofs.Below.coloured_heap.ShownNames.{number_flip}
 
 -- A COPY GOES
 

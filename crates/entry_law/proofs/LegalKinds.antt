@@ -1,23 +1,23 @@
 -- Each kind of event whose entries are proved to be legal.
 use Rattle.std.proofs.Common.{◌≡◌, ℕ, ◌==◌, ◌&&◌, not, nat_lt, Bool, true, false, Option, Some, None, option_map, refl, subst}
 use Rattle.std.specs.Prelude.{⊤, slice_get}
-use Rattle.fr_base.specs.declared.instruction.Instr.{Instr}
-use Rattle.fr_base.specs.declared.instruction.Instr.TheVariants as instr
-use Rattle.fr_base.specs.declared.release.Released.TheVariants as released_as
-use Rattle.thread_state.specs.View.{ThreadState}
-use Rattle.server_msgs.specs.declared.message.Message.{Message}
-use Rattle.server_msgs.specs.declared.message.Message.TheVariants as message
-use Rattle.server_model.specs.declared.event.What.{What}
-use Rattle.server_model.specs.declared.event.What.TheVariants.{Step, Deliver, Evict, Migrate}
-use Rattle.server_model.specs.Servers.{Server, Cluster, server_at}
-use Rattle.server_model.specs.Work.{thread_in, then_some}
-use Rattle.server_model.specs.Events.{has_phase, is_ready, enabled, does}
-use Rattle.coloured_heap.specs.Heap.{Coloured}
-use Rattle.heap_law.specs.Colours.{StandsColoured}
-use Rattle.heap_law.specs.Coherent.{IsSound}
-use Rattle.event_law.specs.Kinds.{Kind, evicts, migrates, starts, arrives, asks_lock, asks_dup, asks_join, granted, dupped, joined, unlocked, released, finished, message_kind, instr_kind, kind_at}
-use Rattle.heap_law.proofs.Names.{and_left, and_right}
-use Rattle.event_law.specs.Laws.{Gives}
+use Rattle.read_law.specs.Below.fr_base.declared.instruction.Instr.{Instr}
+use Rattle.read_law.specs.Below.fr_base.declared.instruction.Instr.TheVariants as instr
+use Rattle.read_law.specs.Below.fr_base.declared.release.Released.TheVariants as released_as
+use Rattle.read_law.specs.Below.thread_state.View.{ThreadState}
+use Rattle.read_law.specs.Below.server_msgs.declared.message.Message.{Message}
+use Rattle.read_law.specs.Below.server_msgs.declared.message.Message.TheVariants as message
+use Rattle.read_law.specs.Below.server_model.declared.event.What.{What}
+use Rattle.read_law.specs.Below.server_model.declared.event.What.TheVariants.{Step, Deliver, Evict, Migrate}
+use Rattle.read_law.specs.Below.server_model.Servers.{Server, Cluster, server_at}
+use Rattle.read_law.specs.Below.server_model.Work.{thread_in, then_some}
+use Rattle.read_law.specs.Below.server_model.Events.{has_phase, is_ready, enabled, does}
+use Rattle.read_law.specs.Below.coloured_heap.Heap.{Coloured}
+use Rattle.read_law.specs.Below.heap_law.Colours.{StandsColoured}
+use Rattle.read_law.specs.Below.heap_law.Coherent.{IsSound}
+use Rattle.read_law.specs.Below.event_law.Kinds.{Kind, evicts, migrates, starts, arrives, asks_lock, asks_dup, asks_join, granted, dupped, joined, unlocked, released, finished, message_kind, instr_kind, kind_at}
+use Rattle.read_law.proofs.Below.heap_law.Names.{and_left, and_right}
+use Rattle.read_law.specs.Below.event_law.Laws.{Gives}
 use Rattle.still_law.proofs.StillKinds.{IsStill}
 use Rattle.stay_law.proofs.StayKinds.{Stays}
 use Rattle.entry_law.specs.Entries.{EntriesLegal}

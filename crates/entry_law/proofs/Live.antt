@@ -1,26 +1,26 @@
 -- Live objects: each has a pointer that isn't stale, and so its word.
 use Rattle.std.proofs.Common.{◌≡◌, inl, inr, ℕ, zero, suc, ◌+◌, ◌≤◌, ◌&&◌, ◌||◌, Bool, true, false, List, [], ◌∷◌, Option, Some, None, option_map, nat_lt, refl, sym, ap, ap₂, subst, ◌∙◌, arith}
-use Rattle.fr_base.specs.declared.name.ObjNo.{ObjNo}
-use Rattle.fr_base.specs.declared.label.Plain.{Plain}
-use Rattle.global_addr.specs.Words.{colour_of}
-use Rattle.heap_partition.specs.Plain.{plain_of}
-use Rattle.heap_partition.specs.declared.value.Cell.{Cell}
-use Rattle.server_msgs.specs.declared.message.Message.{Message}
-use Rattle.server_msgs.specs.declared.message.Message.TheVariants as message
-use Rattle.server_model.specs.Servers.{Cluster}
-use Rattle.coloured_heap.specs.Heap.{Place, Lies, Flies}
-use Rattle.heap_law.specs.Names.{tot, one, some, same_object, Among}
-use Rattle.heap_law.specs.Things.{Thing, lies, flies, sent, vacant, retired, message_things, things_of}
-use Rattle.heap_law.specs.Weights.{cells}
-use Rattle.heap_law.specs.Sight.{Pointer, pointers_in, taken_pointers, colour_up_to, is_spot, sight, word, is_issued_at, is_issued, issued}
-use Rattle.heap_law.specs.Words.{Fresh, HasWords}
-use Rattle.heap_law.specs.OneHeap.{first_shown}
-use Rattle.heap_law.specs.Colours.{living_of}
-use Rattle.heap_law.proofs.Words.{words_law, named}
-use Rattle.path_law.proofs.Origins.{among_first}
+use Rattle.read_law.specs.Below.fr_base.declared.name.ObjNo.{ObjNo}
+use Rattle.read_law.specs.Below.fr_base.declared.label.Plain.{Plain}
+use Rattle.read_law.specs.Below.global_addr.Words.{colour_of}
+use Rattle.read_law.specs.Below.heap_partition.Plain.{plain_of}
+use Rattle.read_law.specs.Below.heap_partition.declared.value.Cell.{Cell}
+use Rattle.read_law.specs.Below.server_msgs.declared.message.Message.{Message}
+use Rattle.read_law.specs.Below.server_msgs.declared.message.Message.TheVariants as message
+use Rattle.read_law.specs.Below.server_model.Servers.{Cluster}
+use Rattle.read_law.specs.Below.coloured_heap.Heap.{Place, Lies, Flies}
+use Rattle.read_law.specs.Below.heap_law.Names.{tot, one, some, same_object, Among}
+use Rattle.read_law.specs.Below.heap_law.Things.{Thing, lies, flies, sent, vacant, retired, message_things, things_of}
+use Rattle.read_law.specs.Below.heap_law.Weights.{cells}
+use Rattle.read_law.specs.Below.heap_law.Sight.{Pointer, pointers_in, taken_pointers, colour_up_to, is_spot, sight, word, is_issued_at, is_issued, issued}
+use Rattle.read_law.specs.Below.heap_law.Words.{Fresh, HasWords}
+use Rattle.read_law.specs.Below.heap_law.OneHeap.{first_shown}
+use Rattle.read_law.specs.Below.heap_law.Colours.{living_of}
+use Rattle.read_law.proofs.Below.heap_law.Words.{words_law, named}
+use Rattle.read_law.proofs.Below.path_law.Origins.{among_first}
 use Rattle.read_law.proofs.Flights.{found, truly}
-use Rattle.word_law.specs.Unmoved.{WordsStay}
-use Rattle.word_law.proofs.Standing.{CellOf, lying, flying, pointers_among}
+use Rattle.read_law.specs.Below.word_law.Unmoved.{WordsStay}
+use Rattle.read_law.proofs.Below.word_law.Standing.{CellOf, lying, flying, pointers_among}
 use Rattle.still_law.proofs.Told.{told, ones, some_or, tot_same}
 use Rattle.entry_law.proofs.Weighed.{Seen, Bare, Turned}
 use Rattle.entry_law.proofs.Carried.{cluster_less, is_sent}

@@ -1,18 +1,18 @@
 -- Events that change wishes and holders alone.
 use Rattle.std.proofs.Common.{◌≡◌, ℕ, ◌+◌, ◌-◌, ◌≤◌, Bool, true, false, if◌then◌else◌, List, Option, is_none, refl, ap, ◌∙◌, arith}
-use Rattle.fr_base.specs.declared.name.MutexNo.{MutexNo}
-use Rattle.fr_base.specs.declared.name.ObjNo.{ObjNo}
-use Rattle.fr_base.specs.declared.label.Plain.{Plain}
-use Rattle.server_model.specs.Servers.{Cluster}
-use Rattle.coloured_heap.specs.Heap.{Place, Copied, Wish, Running, same_wish}
-use Rattle.coloured_heap.proofs.ShownNames.{wish_itself}
-use Rattle.heap_law.specs.Names.{tot, one}
-use Rattle.heap_law.specs.Things.{Thing}
-use Rattle.heap_law.specs.Sight.{sight}
-use Rattle.heap_law.specs.Weights.{is_thread}
-use Rattle.heap_law.specs.Naming.{started_at, made_at}
-use Rattle.heap_law.specs.Colours.{wishes_of, holder_of, running_of}
-use Rattle.heap_law.specs.Coherent.{IsSound}
+use Rattle.read_law.specs.Below.fr_base.declared.name.MutexNo.{MutexNo}
+use Rattle.read_law.specs.Below.fr_base.declared.name.ObjNo.{ObjNo}
+use Rattle.read_law.specs.Below.fr_base.declared.label.Plain.{Plain}
+use Rattle.read_law.specs.Below.server_model.Servers.{Cluster}
+use Rattle.read_law.specs.Below.coloured_heap.Heap.{Place, Copied, Wish, Running, same_wish}
+use Rattle.read_law.proofs.Below.coloured_heap.ShownNames.{wish_itself}
+use Rattle.read_law.specs.Below.heap_law.Names.{tot, one}
+use Rattle.read_law.specs.Below.heap_law.Things.{Thing}
+use Rattle.read_law.specs.Below.heap_law.Sight.{sight}
+use Rattle.read_law.specs.Below.heap_law.Weights.{is_thread}
+use Rattle.read_law.specs.Below.heap_law.Naming.{started_at, made_at}
+use Rattle.read_law.specs.Below.heap_law.Colours.{wishes_of, holder_of, running_of}
+use Rattle.read_law.specs.Below.heap_law.Coherent.{IsSound}
 use Rattle.still_law.proofs.Told.{told}
 use Rattle.entry_law.proofs.Answers.{Agrees, answers_of, less_wish}
 use Rattle.entry_law.proofs.Shown.{placed_in, dropped_by, copy_in, served_in, wished_in, runs, there_in}

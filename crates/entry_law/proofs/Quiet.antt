@@ -1,45 +1,45 @@
 -- Events without an act, which change no answer: a thread starts or comes, and what a thread waits for becomes its gift.
 use Rattle.std.proofs.Common.{◌≡◌, ◌≤◌, ℕ, ◌+◌, ◌==◌, not, nat_lt, Bool, true, false, if◌then◌else◌, List, [], ◌∷◌, ◌++◌, Option, Some, None, is_some, is_none, refl, sym, ap, subst, ◌∙◌, arith}
 use Rattle.std.specs.Prelude.{option_map}
-use Rattle.fr_base.specs.declared.name.MutexNo.{MutexNo}
-use Rattle.fr_base.specs.declared.name.ObjNo.{ObjNo}
-use Rattle.fr_base.specs.declared.label.Plain.{Plain}
-use Rattle.fr_base.specs.declared.instruction.Instr.{Instr}
-use Rattle.fr_base.specs.declared.instruction.Instr.TheVariants as instr
-use Rattle.heap_partition.specs.declared.value.Owned.{Owned}
-use Rattle.heap_partition.specs.declared.value.Owned.TheVariants as owned
-use Rattle.thread_state.specs.View.{ThreadState, is_over}
-use Rattle.thread_state.specs.declared.phase.Phase.{Phase}
-use Rattle.thread_state.specs.declared.phase.Phase.TheVariants as phase
-use Rattle.server_msgs.specs.declared.message.Message.{Message}
-use Rattle.server_msgs.specs.declared.message.Message.TheVariants as message
-use Rattle.server_model.specs.Servers.{Server, Cluster, server_at}
-use Rattle.server_model.specs.Work.{Hand, Site, thread_in, with_thread, put_back, at_thread, then_some}
-use Rattle.server_model.specs.Events.{received, deliver_message}
-use Rattle.server_model.specs.Sharing.{given, waits_for_lock, deliver_granted, waits_for_dup, deliver_dupped}
-use Rattle.server_model.specs.Joining.{arrive, waits_for_join, deliver_joined}
-use Rattle.coloured_heap.specs.Heap.{Place, Copied, Wish, Running, Coloured}
-use Rattle.heap_law.specs.Names.{tot, one, some, if_so, same_mutex}
-use Rattle.heap_law.specs.OneHeap.{or_else}
-use Rattle.heap_law.specs.Things.{as_content, as_result, Thing, sent, stands, thread_things, message_things}
-use Rattle.heap_law.specs.Follow.{Standing}
-use Rattle.heap_law.specs.Sight.{sight}
-use Rattle.heap_law.specs.Paths.{joined_thread}
-use Rattle.heap_law.specs.Walking.{instr_of}
-use Rattle.heap_law.specs.Requests.{locked_mutex, dupped_mutex, is_mutex, is_task, stands_wrong}
-use Rattle.heap_law.specs.Weights.{is_thread}
-use Rattle.heap_law.specs.Naming.{started_at, made_at}
-use Rattle.heap_law.specs.Colours.{StandsColoured, running_of}
-use Rattle.heap_law.specs.Coherent.{IsSound}
-use Rattle.heap_law.proofs.Names.{same_mutexes}
-use Rattle.event_law.specs.Laws.{Gives}
-use Rattle.event_law.proofs.Trades.{tot-append, tot-front}
-use Rattle.event_law.proofs.Results.{stand_gives}
-use Rattle.event_law.proofs.Bags.{all_standing, rest_things, thread_number}
-use Rattle.event_law.proofs.Askers.{other_none}
-use Rattle.event_law.proofs.GiftsTaken.{none_here}
+use Rattle.read_law.specs.Below.fr_base.declared.name.MutexNo.{MutexNo}
+use Rattle.read_law.specs.Below.fr_base.declared.name.ObjNo.{ObjNo}
+use Rattle.read_law.specs.Below.fr_base.declared.label.Plain.{Plain}
+use Rattle.read_law.specs.Below.fr_base.declared.instruction.Instr.{Instr}
+use Rattle.read_law.specs.Below.fr_base.declared.instruction.Instr.TheVariants as instr
+use Rattle.read_law.specs.Below.heap_partition.declared.value.Owned.{Owned}
+use Rattle.read_law.specs.Below.heap_partition.declared.value.Owned.TheVariants as owned
+use Rattle.read_law.specs.Below.thread_state.View.{ThreadState, is_over}
+use Rattle.read_law.specs.Below.thread_state.declared.phase.Phase.{Phase}
+use Rattle.read_law.specs.Below.thread_state.declared.phase.Phase.TheVariants as phase
+use Rattle.read_law.specs.Below.server_msgs.declared.message.Message.{Message}
+use Rattle.read_law.specs.Below.server_msgs.declared.message.Message.TheVariants as message
+use Rattle.read_law.specs.Below.server_model.Servers.{Server, Cluster, server_at}
+use Rattle.read_law.specs.Below.server_model.Work.{Hand, Site, thread_in, with_thread, put_back, at_thread, then_some}
+use Rattle.read_law.specs.Below.server_model.Events.{received, deliver_message}
+use Rattle.read_law.specs.Below.server_model.Sharing.{given, waits_for_lock, deliver_granted, waits_for_dup, deliver_dupped}
+use Rattle.read_law.specs.Below.server_model.Joining.{arrive, waits_for_join, deliver_joined}
+use Rattle.read_law.specs.Below.coloured_heap.Heap.{Place, Copied, Wish, Running, Coloured}
+use Rattle.read_law.specs.Below.heap_law.Names.{tot, one, some, if_so, same_mutex}
+use Rattle.read_law.specs.Below.heap_law.OneHeap.{or_else}
+use Rattle.read_law.specs.Below.heap_law.Things.{as_content, as_result, Thing, sent, stands, thread_things, message_things}
+use Rattle.read_law.specs.Below.heap_law.Follow.{Standing}
+use Rattle.read_law.specs.Below.heap_law.Sight.{sight}
+use Rattle.read_law.specs.Below.heap_law.Paths.{joined_thread}
+use Rattle.read_law.specs.Below.heap_law.Walking.{instr_of}
+use Rattle.read_law.specs.Below.heap_law.Requests.{locked_mutex, dupped_mutex, is_mutex, is_task, stands_wrong}
+use Rattle.read_law.specs.Below.heap_law.Weights.{is_thread}
+use Rattle.read_law.specs.Below.heap_law.Naming.{started_at, made_at}
+use Rattle.read_law.specs.Below.heap_law.Colours.{StandsColoured, running_of}
+use Rattle.read_law.specs.Below.heap_law.Coherent.{IsSound}
+use Rattle.read_law.proofs.Below.heap_law.Names.{same_mutexes}
+use Rattle.read_law.specs.Below.event_law.Laws.{Gives}
+use Rattle.read_law.proofs.Below.event_law.Trades.{tot-append, tot-front}
+use Rattle.read_law.proofs.Below.event_law.Results.{stand_gives}
+use Rattle.read_law.proofs.Below.event_law.Bags.{all_standing, rest_things, thread_number}
+use Rattle.read_law.proofs.Below.event_law.Askers.{other_none}
+use Rattle.read_law.proofs.Below.event_law.GiftsTaken.{none_here}
 use Rattle.still_law.proofs.Told.{told}
-use Rattle.coloured_heap.proofs.ShownNames.{mutex_flip}
+use Rattle.read_law.proofs.Below.coloured_heap.ShownNames.{mutex_flip}
 use Rattle.entry_law.specs.Entries.{LeadsOn}
 use Rattle.entry_law.proofs.Answers.{Agrees, answers_of, Fits, fits}
 use Rattle.entry_law.proofs.Weighed.{Seen, SiteTurns, WorkTurns, thread_seen, thread_turns}

@@ -1,17 +1,17 @@
 -- The acts of an entry, one after another, and the entry that leads on.
 use Rattle.std.proofs.Common.{◌≡◌, ℕ, ◌==◌, ◌&&◌, true, if◌then◌else◌, List, [], ◌∷◌, Option, Some, None, refl, ap, ap₂, ◌∙◌}
 use Rattle.std.specs.Prelude.{⊤}
-use Rattle.fr_base.specs.declared.settings.Options.{Options}
-use Rattle.journal.specs.View.{EntryView}
-use Rattle.journal.specs.declared.act.Act.{Act}
-use Rattle.coloured_heap.specs.Lists.{holds}
-use Rattle.coloured_heap.specs.Heap.{Running, Coloured}
-use Rattle.coloured_heap.specs.Rules.{of_run}
-use Rattle.coloured_heap.specs.Changes.{after_act}
-use Rattle.coloured_heap.specs.Reach.{reaches}
-use Rattle.coloured_heap.specs.Legal.{is_placed, acts_after, settled}
-use Rattle.server_model.specs.Servers.{Cluster}
-use Rattle.heap_law.specs.Sight.{sight}
+use Rattle.read_law.specs.Below.fr_base.declared.settings.Options.{Options}
+use Rattle.read_law.specs.Below.journal.View.{EntryView}
+use Rattle.read_law.specs.Below.journal.declared.act.Act.{Act}
+use Rattle.read_law.specs.Below.coloured_heap.Lists.{holds}
+use Rattle.read_law.specs.Below.coloured_heap.Heap.{Running, Coloured}
+use Rattle.read_law.specs.Below.coloured_heap.Rules.{of_run}
+use Rattle.read_law.specs.Below.coloured_heap.Changes.{after_act}
+use Rattle.read_law.specs.Below.coloured_heap.Reach.{reaches}
+use Rattle.read_law.specs.Below.coloured_heap.Legal.{is_placed, acts_after, settled}
+use Rattle.read_law.specs.Below.server_model.Servers.{Cluster}
+use Rattle.read_law.specs.Below.heap_law.Sight.{sight}
 use Rattle.entry_law.specs.Entries.{LeadsOn}
 use Rattle.entry_law.proofs.Answers.{Answers, answers_of, Fits, Agrees, coloured_by, Allowed}
 

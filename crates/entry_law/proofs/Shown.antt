@@ -1,27 +1,27 @@
 -- What a cluster shows of objects, copies, threads and holders, after some things went and others came.
 use Rattle.std.proofs.Common.{◌≡◌, ℕ, ◌+◌, ◌≤◌, ◌==◌, ◌&&◌, not, Bool, true, false, List, [], ◌∷◌, Option, Some, None, option_map, refl, sym, ap, ap₂, ◌∙◌, arith}
 use Rattle.std.specs.Prelude.{unwrap_or}
-use Rattle.fr_base.specs.Names.{same_plain}
-use Rattle.fr_base.specs.declared.name.MutexNo.{MutexNo}
-use Rattle.fr_base.specs.declared.name.ObjNo.{ObjNo}
-use Rattle.fr_base.specs.declared.label.Plain.{Plain}
-use Rattle.heap_partition.specs.Plain.{plain_of}
-use Rattle.heap_partition.specs.declared.value.Cell.{Cell}
-use Rattle.thread_state.specs.View.{is_over}
-use Rattle.join_home.specs.Tasks.{TaskState, asked}
-use Rattle.server_msgs.specs.declared.message.Message.{Message}
-use Rattle.server_msgs.specs.declared.message.Message.TheVariants.{Fetch, Fetched, Move, Moved, Lock, Granted, Dup, Join}
-use Rattle.server_model.specs.Servers.{Cluster}
-use Rattle.coloured_heap.specs.Heap.{Place, Lies, Flies, Living, Copied, Wish, ForCopy, ForObject, ForContent, ForShare, ForResult, Running, same_wish}
-use Rattle.heap_law.specs.Names.{tot, one, some, same_object, same_mutex}
-use Rattle.heap_law.specs.Things.{at_slot, Thing, lies, copied, sent, locks, stands, at_home, queued, noted, things_of}
-use Rattle.heap_law.specs.Follow.{Standing, threads_in, thread_at}
-use Rattle.heap_law.specs.Sight.{Sight, sight, word}
-use Rattle.heap_law.specs.Weights.{drops, is_thread}
-use Rattle.heap_law.specs.Sharing.{gift_content}
-use Rattle.heap_law.specs.OneHeap.{or_else, first_shown}
-use Rattle.heap_law.specs.Colours.{living_of, copy_of, same_copied, served_of, wishes_of, running_of, holder_of, is_mutex_there}
-use Rattle.heap_law.proofs.Names.{and_left, and_right}
+use Rattle.read_law.specs.Below.fr_base.Names.{same_plain}
+use Rattle.read_law.specs.Below.fr_base.declared.name.MutexNo.{MutexNo}
+use Rattle.read_law.specs.Below.fr_base.declared.name.ObjNo.{ObjNo}
+use Rattle.read_law.specs.Below.fr_base.declared.label.Plain.{Plain}
+use Rattle.read_law.specs.Below.heap_partition.Plain.{plain_of}
+use Rattle.read_law.specs.Below.heap_partition.declared.value.Cell.{Cell}
+use Rattle.read_law.specs.Below.thread_state.View.{is_over}
+use Rattle.read_law.specs.Below.join_home.Tasks.{TaskState, asked}
+use Rattle.read_law.specs.Below.server_msgs.declared.message.Message.{Message}
+use Rattle.read_law.specs.Below.server_msgs.declared.message.Message.TheVariants.{Fetch, Fetched, Move, Moved, Lock, Granted, Dup, Join}
+use Rattle.read_law.specs.Below.server_model.Servers.{Cluster}
+use Rattle.read_law.specs.Below.coloured_heap.Heap.{Place, Lies, Flies, Living, Copied, Wish, ForCopy, ForObject, ForContent, ForShare, ForResult, Running, same_wish}
+use Rattle.read_law.specs.Below.heap_law.Names.{tot, one, some, same_object, same_mutex}
+use Rattle.read_law.specs.Below.heap_law.Things.{at_slot, Thing, lies, copied, sent, locks, stands, at_home, queued, noted, things_of}
+use Rattle.read_law.specs.Below.heap_law.Follow.{Standing, threads_in, thread_at}
+use Rattle.read_law.specs.Below.heap_law.Sight.{Sight, sight, word}
+use Rattle.read_law.specs.Below.heap_law.Weights.{drops, is_thread}
+use Rattle.read_law.specs.Below.heap_law.Sharing.{gift_content}
+use Rattle.read_law.specs.Below.heap_law.OneHeap.{or_else, first_shown}
+use Rattle.read_law.specs.Below.heap_law.Colours.{living_of, copy_of, same_copied, served_of, wishes_of, running_of, holder_of, is_mutex_there}
+use Rattle.read_law.proofs.Below.heap_law.Names.{and_left, and_right}
 use Rattle.still_law.proofs.Tests.{IsTest, numbers, truths, same_truth, objects, plains}
 use Rattle.still_law.proofs.Told.{told, ones, same_told, first_told, at_thread, thread_told}
 

@@ -1,27 +1,27 @@
 -- What the coloured heap sees of a server in the middle of an event: neither owned values nor references, nor what flies beside its message, nor uses of copies.
 use Rattle.std.proofs.Common.{◌≡◌, ℕ, ◌+◌, Bool, true, false, if◌then◌else◌, List, [], ◌∷◌, ◌++◌, length, Option, Some, None, refl, ap, ◌∙◌, arith}
 use Rattle.std.specs.Prelude.{⊤, slice_get, map}
-use Rattle.fr_base.specs.declared.name.MutexNo.{MutexNo}
-use Rattle.fr_base.specs.declared.step.Fresh.{Fresh}
-use Rattle.heap_partition.specs.declared.value.Cell.{Cell}
-use Rattle.heap_partition.specs.declared.value.Owned.{Owned}
-use Rattle.mut_borrow.specs.declared.mutable.MutRef.{MutRef}
-use Rattle.mut_borrow.specs.declared.shared.SharedRef.{SharedRef}
-use Rattle.thread_state.specs.View.{ThreadState}
-use Rattle.thread_state.specs.declared.value.Value.{Value}
-use Rattle.thread_state.specs.declared.value.Value.TheVariants as value
-use Rattle.migration.specs.Packing.{unpinned}
-use Rattle.read_cache.specs.Cache.{Copy}
-use Rattle.server_msgs.specs.declared.message.Message.{Message}
-use Rattle.server_msgs.specs.declared.message.Message.TheVariants as message
-use Rattle.journal.specs.declared.act.Act.{Act}
-use Rattle.server_model.specs.Servers.{Server}
-use Rattle.server_model.specs.Work.{Work, Site, sent_from, receive, set_thread, thread_in}
-use Rattle.server_model.specs.Events.{begin_at, left_by, received}
-use Rattle.heap_law.specs.Names.{tot}
-use Rattle.heap_law.specs.Things.{Spot, in_slot, in_temp, as_gift, as_content, as_result, Location, at_slot, at_temp, Thing, holds, shares, borrows, locks, flies, copied, uses, sent, stands, counts, things_at, pin_things, gift_things, walk_things, value_things, slot_things, temp_things, thread_things, message_things, server_things}
-use Rattle.event_law.proofs.Trades.{Trade, tot-append}
-use Rattle.event_law.proofs.Bags.{all_standing, rest_things, of_sending, of_receiving, server_same, sent_number, thread_number, tot-without, tot-set}
+use Rattle.read_law.specs.Below.fr_base.declared.name.MutexNo.{MutexNo}
+use Rattle.read_law.specs.Below.fr_base.declared.step.Fresh.{Fresh}
+use Rattle.read_law.specs.Below.heap_partition.declared.value.Cell.{Cell}
+use Rattle.read_law.specs.Below.heap_partition.declared.value.Owned.{Owned}
+use Rattle.read_law.specs.Below.mut_borrow.declared.mutable.MutRef.{MutRef}
+use Rattle.read_law.specs.Below.mut_borrow.declared.shared.SharedRef.{SharedRef}
+use Rattle.read_law.specs.Below.thread_state.View.{ThreadState}
+use Rattle.read_law.specs.Below.thread_state.declared.value.Value.{Value}
+use Rattle.read_law.specs.Below.thread_state.declared.value.Value.TheVariants as value
+use Rattle.read_law.specs.Below.migration.Packing.{unpinned}
+use Rattle.read_law.specs.Below.read_cache.Cache.{Copy}
+use Rattle.read_law.specs.Below.server_msgs.declared.message.Message.{Message}
+use Rattle.read_law.specs.Below.server_msgs.declared.message.Message.TheVariants as message
+use Rattle.read_law.specs.Below.journal.declared.act.Act.{Act}
+use Rattle.read_law.specs.Below.server_model.Servers.{Server}
+use Rattle.read_law.specs.Below.server_model.Work.{Work, Site, sent_from, receive, set_thread, thread_in}
+use Rattle.read_law.specs.Below.server_model.Events.{begin_at, left_by, received}
+use Rattle.read_law.specs.Below.heap_law.Names.{tot}
+use Rattle.read_law.specs.Below.heap_law.Things.{Spot, in_slot, in_temp, as_gift, as_content, as_result, Location, at_slot, at_temp, Thing, holds, shares, borrows, locks, flies, copied, uses, sent, stands, counts, things_at, pin_things, gift_things, walk_things, value_things, slot_things, temp_things, thread_things, message_things, server_things}
+use Rattle.read_law.proofs.Below.event_law.Trades.{Trade, tot-append}
+use Rattle.read_law.proofs.Below.event_law.Bags.{all_standing, rest_things, of_sending, of_receiving, server_same, sent_number, thread_number, tot-without, tot-set}
 
 -- a weight of what the coloured heap sees
 pub record Seen (f : Thing → ℕ) : Type 0 where

@@ -1,19 +1,19 @@
 -- ENTRIES OF EVENTS ARE LEGAL: from each coloured heap that a cluster stands for, an event's entry is legal and leads to one that the cluster afterwards stands for (in the manner of
 -- DRust; the state is this project's).
 use Rattle.std.specs.Prelude.{◌≡◌, true, List, [], ◌∷◌, ◌++◌, Some}
-use Rattle.fr_base.specs.declared.settings.Options.{Options}
-use Rattle.journal.specs.View.{EntryView}
-use Rattle.server_model.specs.declared.event.Event.{Event}
-use Rattle.server_model.specs.Servers.{Cluster}
-use Rattle.server_model.specs.Clusters.{apply}
-use Rattle.coloured_heap.specs.Heap.{Coloured}
-use Rattle.coloured_heap.specs.Legal.{entry_after}
-use Rattle.coloured_heap.specs.Reach.{is_reached}
-use Rattle.heap_law.specs.Colours.{StandsColoured}
-use Rattle.heap_law.specs.LeftBy.{LeavesColoured}
-use Rattle.heap_law.specs.Coherent.{IsSound}
-use Rattle.event_law.specs.Kinds.{Kind, kind_of}
-use Rattle.event_law.specs.Laws.{Gives, FewEvents}
+use Rattle.read_law.specs.Below.fr_base.declared.settings.Options.{Options}
+use Rattle.read_law.specs.Below.journal.View.{EntryView}
+use Rattle.read_law.specs.Below.server_model.declared.event.Event.{Event}
+use Rattle.read_law.specs.Below.server_model.Servers.{Cluster}
+use Rattle.read_law.specs.Below.server_model.Clusters.{apply}
+use Rattle.read_law.specs.Below.coloured_heap.Heap.{Coloured}
+use Rattle.read_law.specs.Below.coloured_heap.Legal.{entry_after}
+use Rattle.read_law.specs.Below.coloured_heap.Reach.{is_reached}
+use Rattle.read_law.specs.Below.heap_law.Colours.{StandsColoured}
+use Rattle.read_law.specs.Below.heap_law.LeftBy.{LeavesColoured}
+use Rattle.read_law.specs.Below.heap_law.Coherent.{IsSound}
+use Rattle.read_law.specs.Below.event_law.Kinds.{Kind, kind_of}
+use Rattle.read_law.specs.Below.event_law.Laws.{Gives, FewEvents}
 
 -- the entry is legal from a state of the coloured heap, reaches what it loads and stores, and leads to a state that the cluster stands for
 pub record LeadsOn (o : Options) (e : EntryView) (s : Coloured) (c : Cluster) : Type 0 where

@@ -1,6 +1,6 @@
 //! Laws of the entries of events.
 
-ghost use Rattle.event_law.specs.Kinds.{arrives, asks_dup, asks_join, asks_lock, dupped, evicts, finished, granted, joined, migrates, released, starts, unlocked};
+ghost use Rattle.read_law.specs.Below.event_law.Kinds.{arrives, asks_dup, asks_join, asks_lock, dupped, evicts, finished, granted, joined, migrates, released, starts, unlocked};
 ghost use Rattle.entry_law.specs.Entries.{EntriesLegal, LegalEntriesContinue};
 
 /// From a sound cluster with few events the entry of an event of these kinds is legal in each coloured heap that the cluster stands for, and leads to one that it stands for

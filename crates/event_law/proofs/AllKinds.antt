@@ -1,17 +1,17 @@
 -- An event of a proved kind leaves the sums.
 use Rattle.std.proofs.Common.{◌≡◌, ℕ, List, ◌++◌, Option, Some, None, refl, subst}
 use Rattle.std.specs.Prelude.{slice_get, option_map}
-use Rattle.fr_base.specs.declared.instruction.Instr.{Instr}
-use Rattle.thread_state.specs.View.{ThreadState}
-use Rattle.server_msgs.specs.declared.message.Message.{Message}
-use Rattle.journal.specs.View.{EntryView}
-use Rattle.server_model.specs.declared.event.Event.{Event}
-use Rattle.server_model.specs.declared.event.What.{What}
-use Rattle.server_model.specs.declared.event.What.TheVariants.{Step, Deliver, Evict, Migrate}
-use Rattle.server_model.specs.Servers.{Server, Cluster}
-use Rattle.server_model.specs.Work.{thread_in, then_some}
-use Rattle.server_model.specs.Clusters.{act_at}
-use Rattle.server_model.specs.Events.{received, does}
+use Rattle.heap_law.specs.Below.fr_base.declared.instruction.Instr.{Instr}
+use Rattle.heap_law.specs.Below.thread_state.View.{ThreadState}
+use Rattle.heap_law.specs.Below.server_msgs.declared.message.Message.{Message}
+use Rattle.heap_law.specs.Below.journal.View.{EntryView}
+use Rattle.heap_law.specs.Below.server_model.declared.event.Event.{Event}
+use Rattle.heap_law.specs.Below.server_model.declared.event.What.{What}
+use Rattle.heap_law.specs.Below.server_model.declared.event.What.TheVariants.{Step, Deliver, Evict, Migrate}
+use Rattle.heap_law.specs.Below.server_model.Servers.{Server, Cluster}
+use Rattle.heap_law.specs.Below.server_model.Work.{thread_in, then_some}
+use Rattle.heap_law.specs.Below.server_model.Clusters.{act_at}
+use Rattle.heap_law.specs.Below.server_model.Events.{received, does}
 use Rattle.heap_law.specs.Things.{Thing, server_things, things_of}
 use Rattle.event_law.specs.Kinds.{Kind, message_kind, instr_kind, kind_at, kind_of}
 use Rattle.event_law.specs.Sums.{Sums}

@@ -1,10 +1,10 @@
 -- The plain step of each instruction that is proved.
 use Rattle.std.proofs.Common.{ℕ, List, refl}
-use Rattle.fr_base.specs.declared.instruction.Instr.{Instr}
-use Rattle.fr_base.specs.declared.instruction.Instr.TheVariants as instr
-use Rattle.server_model.specs.Work.{Hand}
-use Rattle.server_model.specs.Places.{Spot}
-use Rattle.server_model.specs.Commit.{let_slot, assign, read, borrow, borrow_mut, discard, drop_slot, print, par_end, unlock, commit}
+use Rattle.heap_law.specs.Below.fr_base.declared.instruction.Instr.{Instr}
+use Rattle.heap_law.specs.Below.fr_base.declared.instruction.Instr.TheVariants as instr
+use Rattle.heap_law.specs.Below.server_model.Work.{Hand}
+use Rattle.heap_law.specs.Below.server_model.Places.{Spot}
+use Rattle.heap_law.specs.Below.server_model.Commit.{let_slot, assign, read, borrow, borrow_mut, discard, drop_slot, print, par_end, unlock, commit}
 use Rattle.heap_law.specs.Things.{Thing}
 use Rattle.event_law.specs.Kinds.{instr_kind}
 use Rattle.event_law.proofs.Proved.{IsProvedKind, IsSpending}
@@ -20,7 +20,7 @@ module _ {K : List Thing → Type 0} (k : Kept K) (n e t : ℕ) (others : List T
   commits m (instr.Read w take) s h l sp g = goes_keep k n e t others (read take s h) (reads k n e t others take s h g)
   commits m (instr.Borrow w) s h l sp g = goes_keep k n e t others (borrow w s h) (borrows_from k n e t others w w.depth s h g)
   commits m (instr.BorrowMut w) s h l sp g = goes_keep k n e t others (borrow_mut w s h) (lends_from k n e t others w w.depth s h g)
-  commits m (instr.Arith f a b) s h l sp g = goes_keep k n e t others (Rattle.server_model.specs.Commit.arith f a b h) (calculates k n e t others f a b h g)
+  commits m (instr.Arith f a b) s h l sp g = goes_keep k n e t others (Rattle.heap_law.specs.Below.server_model.Commit.arith f a b h) (calculates k n e t others f a b h g)
   commits m (instr.Print o) s h l sp g = goes_keep k n e t others (print o h) (prints k n e t others o h g)
   commits m instr.Discard s h l sp g = goes_keep k n e t others (discard s h) (discards k n e t others s h g)
   commits m instr.DropSlot s h l sp g = goes_keep k n e t others (drop_slot s h) (drops_slot k n e t others s h g)

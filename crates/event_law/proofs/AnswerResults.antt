@@ -2,20 +2,20 @@
 use Rattle.std.proofs.Common.{◌≡◌, ℕ, ◌==◌, ◌&&◌, not, is_some, Bool, true, false, if◌then◌else◌, Option, Some, None, IsSome, refl, sym, subst, arith}
 use Rattle.std.specs.Prelude.{slice_get, option_map}
 use Rattle.std.proofs.lemmas.Bool.{eq-eqb, eqb-true}
-use Rattle.fr_base.specs.declared.name.MutexNo.{MutexNo}
-use Rattle.fr_base.specs.Names.{same_mutex}
-use Rattle.heap_partition.specs.declared.value.Owned.{Owned}
-use Rattle.heap_partition.specs.declared.value.Owned.TheVariants as owned
-use Rattle.thread_state.specs.View.{ThreadState}
-use Rattle.thread_state.specs.declared.phase.Phase.{Phase}
-use Rattle.thread_state.specs.declared.phase.Phase.TheVariants as phase
-use Rattle.server_msgs.specs.declared.message.Message.{Message}
-use Rattle.server_msgs.specs.declared.message.Message.TheVariants as message
-use Rattle.server_model.specs.Servers.{Server, Cluster, server_at}
-use Rattle.server_model.specs.Work.{Hand, put_back, then_some, thread_in, at_thread}
-use Rattle.server_model.specs.Sharing.{given, waits_for_lock, deliver_granted, waits_for_dup, deliver_dupped}
-use Rattle.server_model.specs.Joining.{waits_for_join, deliver_joined}
-use Rattle.server_model.specs.Events.{received}
+use Rattle.heap_law.specs.Below.fr_base.declared.name.MutexNo.{MutexNo}
+use Rattle.heap_law.specs.Below.fr_base.Names.{same_mutex}
+use Rattle.heap_law.specs.Below.heap_partition.declared.value.Owned.{Owned}
+use Rattle.heap_law.specs.Below.heap_partition.declared.value.Owned.TheVariants as owned
+use Rattle.heap_law.specs.Below.thread_state.View.{ThreadState}
+use Rattle.heap_law.specs.Below.thread_state.declared.phase.Phase.{Phase}
+use Rattle.heap_law.specs.Below.thread_state.declared.phase.Phase.TheVariants as phase
+use Rattle.heap_law.specs.Below.server_msgs.declared.message.Message.{Message}
+use Rattle.heap_law.specs.Below.server_msgs.declared.message.Message.TheVariants as message
+use Rattle.heap_law.specs.Below.server_model.Servers.{Server, Cluster, server_at}
+use Rattle.heap_law.specs.Below.server_model.Work.{Hand, put_back, then_some, thread_in, at_thread}
+use Rattle.heap_law.specs.Below.server_model.Sharing.{given, waits_for_lock, deliver_granted, waits_for_dup, deliver_dupped}
+use Rattle.heap_law.specs.Below.server_model.Joining.{waits_for_join, deliver_joined}
+use Rattle.heap_law.specs.Below.server_model.Events.{received}
 use Rattle.heap_law.specs.Names.{tot, other}
 use Rattle.heap_law.specs.Things.{Thing, sent, message_things, things_of}
 use Rattle.heap_law.specs.Follow.{threads_in, thread_at}

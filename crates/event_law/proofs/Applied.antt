@@ -1,12 +1,12 @@
 -- An event and its messages handed over leave the sums, where the messages go to servers that are there.
 use Rattle.std.proofs.Common.{◌≡◌, ℕ, if◌then◌else◌, List, [], ◌∷◌, length, take, drop, Option, Some, None, IsSome, refl, sym}
 use Rattle.std.specs.Prelude.{option_map}
-use Rattle.fr_typing.proofs.PlaceLemmas.{eq_cases}
-use Rattle.journal.specs.View.{EntryView}
-use Rattle.server_model.specs.declared.event.Event.{Event}
-use Rattle.server_model.specs.Servers.{Sent, Server, Cluster, server_at}
-use Rattle.server_model.specs.Work.{then_some}
-use Rattle.server_model.specs.Clusters.{with_server, with_outbox, hand_over_newer, done_at, act_at, apply}
+use Rattle.heap_law.proofs.Below.fr_typing.PlaceLemmas.{eq_cases}
+use Rattle.heap_law.specs.Below.journal.View.{EntryView}
+use Rattle.heap_law.specs.Below.server_model.declared.event.Event.{Event}
+use Rattle.heap_law.specs.Below.server_model.Servers.{Sent, Server, Cluster, server_at}
+use Rattle.heap_law.specs.Below.server_model.Work.{then_some}
+use Rattle.heap_law.specs.Below.server_model.Clusters.{with_server, with_outbox, hand_over_newer, done_at, act_at, apply}
 use Rattle.heap_law.specs.Things.{servers_things, things_of}
 use Rattle.heap_law.specs.Coherent.{IsSound}
 use Rattle.event_law.specs.Sums.{Sums}

@@ -2,12 +2,12 @@
 use Rattle.std.proofs.Common.{◌≡◌, ℕ, ◌+◌, ◌<◌, ◌≤◌, ◌==◌, ◌&&◌, ◌||◌, Bool, true, false, zero, suc, nat_lt, nat_le, is_some, if◌then◌else◌, List, [], ◌∷◌, Some, IsSome, refl, sym, ap, subst, ◌∙◌, arith}
 use Rattle.std.specs.Prelude.{slice_get}
 use Rattle.std.proofs.lemmas.Bool.Decides.{nat_tests}
-use Rattle.fr_typing.proofs.PlaceLemmas.{eq_cases}
-use Rattle.global_addr.specs.Words.{colour_of, server_of, address_of}
-use Rattle.thread_state.specs.View.{ThreadState}
-use Rattle.server_msgs.specs.declared.message.Message.{Message}
-use Rattle.server_msgs.specs.declared.message.Message.TheVariants as message
-use Rattle.server_model.specs.Servers.{Sent, Server, Cluster, server_at}
+use Rattle.heap_law.proofs.Below.fr_typing.PlaceLemmas.{eq_cases}
+use Rattle.heap_law.specs.Below.global_addr.Words.{colour_of, server_of, address_of}
+use Rattle.heap_law.specs.Below.thread_state.View.{ThreadState}
+use Rattle.heap_law.specs.Below.server_msgs.declared.message.Message.{Message}
+use Rattle.heap_law.specs.Below.server_msgs.declared.message.Message.TheVariants as message
+use Rattle.heap_law.specs.Below.server_model.Servers.{Sent, Server, Cluster, server_at}
 use Rattle.heap_law.specs.Names.{tot, one, other, some}
 use Rattle.heap_law.specs.Things.{Thing, lies, vacant, retired, counts, sent, stands, things_at, message_things, waiting_things, leaving_things, standing_things, thread_things, server_things, servers_things, things_of}
 use Rattle.heap_law.specs.Follow.{threads_in, thread_at}

@@ -1,15 +1,15 @@
 -- The things of a server in the middle of an event: in whatever order, with a thread in the hand, and with what there is beside.
 use Rattle.std.proofs.Common.{◌≡◌, ℕ, ◌+◌, ◌==◌, Bool, true, false, if◌then◌else◌, List, [], ◌∷◌, ◌++◌, length, Some, refl, sym, ap, subst, ◌∙◌, arith}
 use Rattle.std.specs.Prelude.{slice_get, remove}
-use Rattle.fr_typing.proofs.PlaceLemmas.{eq_cases}
-use Rattle.owner_box.specs.View.{PartitionState}
-use Rattle.read_cache.specs.Cache.{Copy}
-use Rattle.mutex_home.specs.Mutexes.{Mutexes}
-use Rattle.join_home.specs.Tasks.{Task}
-use Rattle.thread_state.specs.View.{ThreadState}
-use Rattle.server_msgs.specs.declared.message.Message.{Message}
-use Rattle.server_model.specs.Servers.{Sent, Rest, Server}
-use Rattle.server_model.specs.Work.{Work, Hand, Site, sent_from, receive, thread_in, without_thread, set_thread}
+use Rattle.heap_law.proofs.Below.fr_typing.PlaceLemmas.{eq_cases}
+use Rattle.heap_law.specs.Below.owner_box.View.{PartitionState}
+use Rattle.heap_law.specs.Below.read_cache.Cache.{Copy}
+use Rattle.heap_law.specs.Below.mutex_home.Mutexes.{Mutexes}
+use Rattle.heap_law.specs.Below.join_home.Tasks.{Task}
+use Rattle.heap_law.specs.Below.thread_state.View.{ThreadState}
+use Rattle.heap_law.specs.Below.server_msgs.declared.message.Message.{Message}
+use Rattle.heap_law.specs.Below.server_model.Servers.{Sent, Rest, Server}
+use Rattle.heap_law.specs.Below.server_model.Work.{Work, Hand, Site, sent_from, receive, thread_in, without_thread, set_thread}
 use Rattle.heap_law.specs.Names.{tot}
 use Rattle.heap_law.specs.Things.{Thing, counts, stands, things_at, partition_things, copy_things, mutex_things, task_things, gift_things, walk_things, slot_things, temp_things, thread_things, standing_things, message_things, waiting_things, leaving_things, server_things}
 use Rattle.event_law.proofs.Trades.{Trade, Same, tot-append, trade_goes, trade_left, trade_right, trade_push, tot-remove, tot-front}

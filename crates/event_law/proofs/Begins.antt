@@ -1,8 +1,8 @@
 -- The start has the sums.
 use Rattle.std.proofs.Common.{◌≡◌, ℕ, zero, suc, ◌+◌, ◌<◌, ◌≤◌, ◌==◌, Bool, true, false, refl, ap, arith, ◌&&◌}
 use Rattle.std.proofs.lemmas.Bool.Decides.{nat_tests}
-use Rattle.fr_base.specs.declared.settings.Options.{Options}
-use Rattle.server_model.specs.Servers.{with_main, empty_servers, start_of}
+use Rattle.heap_law.specs.Below.fr_base.declared.settings.Options.{Options}
+use Rattle.heap_law.specs.Below.server_model.Servers.{with_main, empty_servers, start_of}
 use Rattle.heap_law.specs.Names.{tot, one}
 use Rattle.heap_law.specs.Things.{Thing, counts, servers_things}
 use Rattle.heap_law.specs.Weights.{cells, owners, states, uses_of, users_of, shares_of, shares_at_home, tasks_of, is_thread}

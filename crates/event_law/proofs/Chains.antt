@@ -1,10 +1,10 @@
 -- What is kept in the middle of an event, whatever it is: by a trade of the rest of the server, of the thread in the hand and of what there is beside.
 use Rattle.std.proofs.Common.{◌≡◌, ℕ, true, false, List, [], ◌∷◌, ◌++◌, Option, Some, None, refl, sym, subst, ◌∙◌, arith}
 use Rattle.std.specs.Prelude.{option_map}
-use Rattle.thread_state.specs.View.{ThreadState}
-use Rattle.thread_state.specs.declared.phase.Phase.{Phase}
-use Rattle.server_msgs.specs.declared.message.Message.{Message}
-use Rattle.server_model.specs.Work.{Work, Hand, Site, send, working, put_back, at_thread, beside_threads, thread_in, without_thread, set_thread, with_phase, then_some}
+use Rattle.heap_law.specs.Below.thread_state.View.{ThreadState}
+use Rattle.heap_law.specs.Below.thread_state.declared.phase.Phase.{Phase}
+use Rattle.heap_law.specs.Below.server_msgs.declared.message.Message.{Message}
+use Rattle.heap_law.specs.Below.server_model.Work.{Work, Hand, Site, send, working, put_back, at_thread, beside_threads, thread_in, without_thread, set_thread, with_phase, then_some}
 use Rattle.heap_law.specs.Things.{Thing, sent, thread_things, message_things}
 use Rattle.event_law.specs.Laws.{Gives}
 use Rattle.event_law.proofs.Trades.{Trade, Same, tot-append, trade_none, trade_left, trade_right, trade_both}

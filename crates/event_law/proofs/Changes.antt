@@ -1,20 +1,20 @@
 -- How what is heard of a server changes: messages that it sends, mutexes and notes that change, threads in its hand.
 use Rattle.std.proofs.Common.{◌≡◌, ℕ, ◌+◌, false, List, [], ◌∷◌, ◌++◌, Some, refl, sym, ap, subst, ◌∙◌, arith}
 use Rattle.std.specs.Prelude.{slice_get}
-use Rattle.global_addr.specs.Words.{server_of}
-use Rattle.fr_base.specs.declared.instruction.Instr.{Instr}
-use Rattle.fr_base.specs.declared.name.MutexNo.{MutexNo}
-use Rattle.fr_base.specs.declared.release.Released.TheVariants as released
-use Rattle.heap_partition.specs.declared.value.Owned.{Owned}
-use Rattle.heap_partition.specs.declared.value.Owned.TheVariants as owned
-use Rattle.mutex_home.specs.Mutexes.{Mutex, Mutexes, mutex_in, put_mutex, end_mutex}
-use Rattle.join_home.specs.Tasks.{Task, TaskState, task_in, with_state, without_task}
-use Rattle.thread_state.specs.View.{ThreadState}
-use Rattle.server_msgs.specs.declared.message.Message.{Message}
-use Rattle.server_msgs.specs.declared.message.Message.TheVariants as message
-use Rattle.server_model.specs.Servers.{Sent, Rest, Server}
-use Rattle.server_model.specs.Work.{Work, sent_from, receive, set_thread, thread_in}
-use Rattle.server_model.specs.Drop.{home_of, give_up}
+use Rattle.heap_law.specs.Below.global_addr.Words.{server_of}
+use Rattle.heap_law.specs.Below.fr_base.declared.instruction.Instr.{Instr}
+use Rattle.heap_law.specs.Below.fr_base.declared.name.MutexNo.{MutexNo}
+use Rattle.heap_law.specs.Below.fr_base.declared.release.Released.TheVariants as released
+use Rattle.heap_law.specs.Below.heap_partition.declared.value.Owned.{Owned}
+use Rattle.heap_law.specs.Below.heap_partition.declared.value.Owned.TheVariants as owned
+use Rattle.heap_law.specs.Below.mutex_home.Mutexes.{Mutex, Mutexes, mutex_in, put_mutex, end_mutex}
+use Rattle.heap_law.specs.Below.join_home.Tasks.{Task, TaskState, task_in, with_state, without_task}
+use Rattle.heap_law.specs.Below.thread_state.View.{ThreadState}
+use Rattle.heap_law.specs.Below.server_msgs.declared.message.Message.{Message}
+use Rattle.heap_law.specs.Below.server_msgs.declared.message.Message.TheVariants as message
+use Rattle.heap_law.specs.Below.server_model.Servers.{Sent, Rest, Server}
+use Rattle.heap_law.specs.Below.server_model.Work.{Work, sent_from, receive, set_thread, thread_in}
+use Rattle.heap_law.specs.Below.server_model.Drop.{home_of, give_up}
 use Rattle.heap_law.specs.Names.{tot}
 use Rattle.heap_law.specs.Things.{Thing, stands, noted, things_at, content_things, queue_things, mutex_things, task_things, message_things}
 use Rattle.event_law.proofs.Trades.{tot-append, tot-remove}

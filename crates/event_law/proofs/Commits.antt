@@ -2,23 +2,23 @@
 use Rattle.std.proofs.Common.{◌≡◌, ℕ, zero, suc, ◌+◌, Bool, true, false, if◌then◌else◌, List, [], ◌∷◌, ◌++◌, Option, Some, None, refl, subst, ◌∙◌, arith}
 use Rattle.std.specs.Prelude.{slice_get}
 use Rattle.std.specs.Bool.{⊤}
-use Rattle.fr_base.specs.declared.place.Lval.{Lval}
-use Rattle.fr_base.specs.declared.place.Op.{Op}
-use Rattle.fr_base.specs.declared.step.Fresh.{Fresh}
-use Rattle.fr_base.specs.declared.label.Label.TheVariants as label
-use Rattle.fr_base.specs.declared.instruction.Operand.{Operand}
-use Rattle.fr_plain.specs.Acts.{result_of}
-use Rattle.heap_partition.specs.declared.value.Owned.{Owned}
-use Rattle.heap_partition.specs.declared.value.Owned.TheVariants as owned
-use Rattle.mut_borrow.specs.declared.mutable.MutRef.{MutRef}
-use Rattle.thread_state.specs.declared.phase.Phase.{Phase}
-use Rattle.thread_state.specs.declared.phase.Phase.TheVariants as phase
-use Rattle.thread_state.specs.declared.value.Value.{Value}
-use Rattle.thread_state.specs.declared.value.Value.TheVariants as value
-use Rattle.server_model.specs.Work.{Hand, working, label_all, push_temp, pop_temp, pop_slot, pop, pop_owned, pop_int}
-use Rattle.server_model.specs.Places.{Spot, in_slot, on_top, in_cell, in_copy, nowhere, owns_nothing, cell_at, value_at, load_at, put_slot, put_at, second_of}
-use Rattle.server_model.specs.Drop.{drop_labels, drop_value}
-use Rattle.server_model.specs.Commit.{Committed, done, waits, refused, done_where, goes_on, let_slot, label_dropped, replace_slot, store_labels, store_at, replace_at, assign, take_out, read_as, read, shared_from, borrow_from, lent_word, mutable_from, borrow_mut_from, discard, drop_slot, print, par_end}
+use Rattle.heap_law.specs.Below.fr_base.declared.place.Lval.{Lval}
+use Rattle.heap_law.specs.Below.fr_base.declared.place.Op.{Op}
+use Rattle.heap_law.specs.Below.fr_base.declared.step.Fresh.{Fresh}
+use Rattle.heap_law.specs.Below.fr_base.declared.label.Label.TheVariants as label
+use Rattle.heap_law.specs.Below.fr_base.declared.instruction.Operand.{Operand}
+use Rattle.heap_law.specs.Below.fr_plain.Acts.{result_of}
+use Rattle.heap_law.specs.Below.heap_partition.declared.value.Owned.{Owned}
+use Rattle.heap_law.specs.Below.heap_partition.declared.value.Owned.TheVariants as owned
+use Rattle.heap_law.specs.Below.mut_borrow.declared.mutable.MutRef.{MutRef}
+use Rattle.heap_law.specs.Below.thread_state.declared.phase.Phase.{Phase}
+use Rattle.heap_law.specs.Below.thread_state.declared.phase.Phase.TheVariants as phase
+use Rattle.heap_law.specs.Below.thread_state.declared.value.Value.{Value}
+use Rattle.heap_law.specs.Below.thread_state.declared.value.Value.TheVariants as value
+use Rattle.heap_law.specs.Below.server_model.Work.{Hand, working, label_all, push_temp, pop_temp, pop_slot, pop, pop_owned, pop_int}
+use Rattle.heap_law.specs.Below.server_model.Places.{Spot, in_slot, on_top, in_cell, in_copy, nowhere, owns_nothing, cell_at, value_at, load_at, put_slot, put_at, second_of}
+use Rattle.heap_law.specs.Below.server_model.Drop.{drop_labels, drop_value}
+use Rattle.heap_law.specs.Below.server_model.Commit.{Committed, done, waits, refused, done_where, goes_on, let_slot, label_dropped, replace_slot, store_labels, store_at, replace_at, assign, take_out, read_as, read, shared_from, borrow_from, lent_word, mutable_from, borrow_mut_from, discard, drop_slot, print, par_end}
 use Rattle.heap_law.specs.Things.{Thing, Location, in_hand, at_temp, holds, shares, borrows, value_things}
 use Rattle.heap_law.specs.Things as things
 use Rattle.event_law.specs.Laws.{Gives}
@@ -43,7 +43,7 @@ exchange_rule n t old new p l =
     (beside (carries n in_hand p (at_temp t 0) l new) (carries n p in_hand l (at_temp t 0) old))
 
 -- labels change no value
-value_labelled : (s : Spot) (ls : List Rattle.fr_base.specs.declared.label.Label.Label) (h : Hand) → value_at (working (label_all ls) h) s ≡ value_at h s
+value_labelled : (s : Spot) (ls : List Rattle.heap_law.specs.Below.fr_base.declared.label.Label.Label) (h : Hand) → value_at (working (label_all ls) h) s ≡ value_at h s
 value_labelled (in_slot i) ls h = refl
 value_labelled on_top ls h = refl
 value_labelled (in_cell w through) ls h = refl
@@ -141,7 +141,7 @@ module _ {K : List Thing → Type 0} (k : Kept K) (n e t : ℕ) (others : List T
 
   pub reads : (take : Bool) (s : Spot) (h : Hand) → Ok h → Gives Ok (read take s h)
   reads take s h g =
-      then_gives Ok (value_at h s) _ (λ v q. reads_as take s v (load_at s h) (value_labelled s (Rattle.server_model.specs.Places.load_of (cell_at h s)) h ∙ q) (labelled k n e t others (Rattle.server_model.specs.Places.load_of (cell_at h s)) h g))
+      then_gives Ok (value_at h s) _ (λ v q. reads_as take s v (load_at s h) (value_labelled s (Rattle.heap_law.specs.Below.server_model.Places.load_of (cell_at h s)) h ∙ q) (labelled k n e t others (Rattle.heap_law.specs.Below.server_model.Places.load_of (cell_at h s)) h g))
 
   -- REFERENCES
 
@@ -164,7 +164,7 @@ module _ {K : List Thing → Type 0} (k : Kept K) (n e t : ℕ) (others : List T
 
   -- NUMBERS
 
-  pub calculates : (f : Op) (a b : Operand) (h : Hand) → Ok h → Gives Ok (Rattle.server_model.specs.Commit.arith f a b h)
+  pub calculates : (f : Op) (a b : Operand) (h : Hand) → Ok h → Gives Ok (Rattle.heap_law.specs.Below.server_model.Commit.arith f a b h)
   calculates f a b h g =
       bind_gives _ Ok (pop_int b h) _ (pops_int k n e t others b h g) (λ y u.
       over_gives _ Ok (pop_int a y.hand) _ (pops_int k n e t others a y.hand u) (λ x v.

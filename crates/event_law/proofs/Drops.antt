@@ -1,21 +1,21 @@
 -- Values that are taken out and dropped, and the end of a step.
 use Rattle.std.proofs.Common.{if◌then◌else◌, ◌≡◌, ℕ, ℤ, Bool, true, false, List, [], ◌∷◌, ◌++◌, Option, Some, None, refl, ap, subst, arith}
-use Rattle.fr_base.specs.declared.instruction.Operand.{Operand}
-use Rattle.fr_base.specs.declared.instruction.Operand.TheVariants as operand
-use Rattle.heap_partition.specs.declared.value.Owned.{Owned}
-use Rattle.heap_partition.specs.declared.value.Owned.TheVariants as owned
-use Rattle.read_cache.specs.Cache.{Copy, can_unpin}
-use Rattle.mut_borrow.specs.Refs.{finish_word}
-use Rattle.mut_borrow.specs.declared.shared.SharedRef.{SharedRef}
-use Rattle.mut_borrow.specs.declared.mutable.MutRef.{MutRef}
-use Rattle.thread_state.specs.declared.value.Value.{Value}
-use Rattle.thread_state.specs.declared.value.Value.TheVariants as value
-use Rattle.fr_base.specs.declared.label.Label.{Label}
-use Rattle.server_model.specs.Work.{Hand, Popped, with_cache, working, label_all, last_of, pop_temp, pop_slot, pop, taken_as, owned_of, int_of, pop_owned, pop_int}
-use Rattle.migration.specs.Packing.{unpin_all}
-use Rattle.server_model.specs.Places.{Spot}
-use Rattle.server_model.specs.Drop.{unpin_ref, finished_at, drop_value}
-use Rattle.server_model.specs.Commit.{settle}
+use Rattle.heap_law.specs.Below.fr_base.declared.instruction.Operand.{Operand}
+use Rattle.heap_law.specs.Below.fr_base.declared.instruction.Operand.TheVariants as operand
+use Rattle.heap_law.specs.Below.heap_partition.declared.value.Owned.{Owned}
+use Rattle.heap_law.specs.Below.heap_partition.declared.value.Owned.TheVariants as owned
+use Rattle.heap_law.specs.Below.read_cache.Cache.{Copy, can_unpin}
+use Rattle.heap_law.specs.Below.mut_borrow.Refs.{finish_word}
+use Rattle.heap_law.specs.Below.mut_borrow.declared.shared.SharedRef.{SharedRef}
+use Rattle.heap_law.specs.Below.mut_borrow.declared.mutable.MutRef.{MutRef}
+use Rattle.heap_law.specs.Below.thread_state.declared.value.Value.{Value}
+use Rattle.heap_law.specs.Below.thread_state.declared.value.Value.TheVariants as value
+use Rattle.heap_law.specs.Below.fr_base.declared.label.Label.{Label}
+use Rattle.heap_law.specs.Below.server_model.Work.{Hand, Popped, with_cache, working, label_all, last_of, pop_temp, pop_slot, pop, taken_as, owned_of, int_of, pop_owned, pop_int}
+use Rattle.heap_law.specs.Below.migration.Packing.{unpin_all}
+use Rattle.heap_law.specs.Below.server_model.Places.{Spot}
+use Rattle.heap_law.specs.Below.server_model.Drop.{unpin_ref, finished_at, drop_value}
+use Rattle.heap_law.specs.Below.server_model.Commit.{settle}
 use Rattle.heap_law.specs.Things.{Thing, at_temp, in_hand, holds, shares, borrows, locks, uses, pin_things, walk_things, slot_things, temp_things, gift_things, things_at, thread_things}
 use Rattle.event_law.specs.Laws.{Gives}
 use Rattle.event_law.proofs.Trades.{Trade, tot-append, trade_left, trade_right}

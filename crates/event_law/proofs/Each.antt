@@ -2,17 +2,17 @@
 use Rattle.std.proofs.Common.{◌≡◌, ℕ, ◌*◌, ◌≤◌, nat_le, Bool, true, false, List, Option, Some, None, refl, subst, arith}
 use Rattle.std.specs.Prelude.{slice_get, option_map}
 use Rattle.std.proofs.lemmas.Bool.Decides.{nat_tests}
-use Rattle.fr_base.specs.declared.instruction.Instr.{Instr}
-use Rattle.thread_state.specs.View.{ThreadState}
-use Rattle.server_msgs.specs.declared.message.Message.{Message}
-use Rattle.journal.specs.View.{EntryView}
-use Rattle.server_model.specs.declared.event.Event.{Event}
-use Rattle.server_model.specs.declared.event.What.{What}
-use Rattle.server_model.specs.declared.event.What.TheVariants.{Step, Deliver, Evict, Migrate}
-use Rattle.server_model.specs.Servers.{Server, Cluster}
-use Rattle.server_model.specs.Work.{thread_in, then_some}
-use Rattle.server_model.specs.Events.{begin_work, received, deliver_message, step_in, stepped, left_by, does}
-use Rattle.server_model.specs.Clusters.{act_at}
+use Rattle.heap_law.specs.Below.fr_base.declared.instruction.Instr.{Instr}
+use Rattle.heap_law.specs.Below.thread_state.View.{ThreadState}
+use Rattle.heap_law.specs.Below.server_msgs.declared.message.Message.{Message}
+use Rattle.heap_law.specs.Below.journal.View.{EntryView}
+use Rattle.heap_law.specs.Below.server_model.declared.event.Event.{Event}
+use Rattle.heap_law.specs.Below.server_model.declared.event.What.{What}
+use Rattle.heap_law.specs.Below.server_model.declared.event.What.TheVariants.{Step, Deliver, Evict, Migrate}
+use Rattle.heap_law.specs.Below.server_model.Servers.{Server, Cluster}
+use Rattle.heap_law.specs.Below.server_model.Work.{thread_in, then_some}
+use Rattle.heap_law.specs.Below.server_model.Events.{begin_work, received, deliver_message, step_in, stepped, left_by, does}
+use Rattle.heap_law.specs.Below.server_model.Clusters.{act_at}
 use Rattle.heap_law.specs.Names.{tot, other}
 use Rattle.heap_law.specs.Things.{Thing, things_of}
 use Rattle.heap_law.specs.Sight.{sight}
@@ -57,7 +57,7 @@ module _ (c : Cluster) (others : List Thing) (s : Server) where
   no_step : (t : ℕ) → kind_at c (Step t) s ≡ None → Ok (does c.code c.options s (Step t))
   no_step t = by (thread_in s.threads t)
     where
-      at : (y : ThreadState) (i : Option Instr) → option_map instr_kind i ≡ None → Ok (option_map (stepped s) (then_some i (λ x. Rattle.server_model.specs.Events.step c.options.servers x (record { work = begin_work s.rest; thread = y }))))
+      at : (y : ThreadState) (i : Option Instr) → option_map instr_kind i ≡ None → Ok (option_map (stepped s) (then_some i (λ x. Rattle.heap_law.specs.Below.server_model.Events.step c.options.servers x (record { work = begin_work s.rest; thread = y }))))
       at y None q = tt
       at y (Some i) q = absurd (cc q)
 

@@ -1,7 +1,7 @@
 -- A weight that sees nothing of servers with another number weighs in a sound cluster what it does at its server.
 use Rattle.std.proofs.Common.{◌≡◌, ℕ, ◌==◌, Bool, true, false, List, [], ◌∷◌, Some, refl, arith}
-use Rattle.fr_typing.proofs.PlaceLemmas.{eq_cases}
-use Rattle.server_model.specs.Servers.{Server, Cluster, server_at}
+use Rattle.heap_law.proofs.Below.fr_typing.PlaceLemmas.{eq_cases}
+use Rattle.heap_law.specs.Below.server_model.Servers.{Server, Cluster, server_at}
 use Rattle.heap_law.specs.Names.{tot, one}
 use Rattle.heap_law.specs.Things.{Thing, server_things, servers_things, things_of}
 use Rattle.heap_law.specs.Coherent.{IsSound}

@@ -1,19 +1,19 @@
 -- From the middle of an event to its server and its cluster.
 use Rattle.std.proofs.Common.{◌≡◌, ℕ, ◌+◌, ◌==◌, Bool, true, false, if◌then◌else◌, List, [], ◌∷◌, ◌++◌, Option, Some, None, refl, sym, ap, subst, ◌∙◌, arith}
 use Rattle.std.specs.Prelude.{slice_get}
-use Rattle.fr_typing.proofs.PlaceLemmas.{eq_cases}
-use Rattle.fr_base.specs.declared.instruction.Instr.{Instr}
-use Rattle.fr_base.specs.declared.settings.Options.{Options}
-use Rattle.fr_base.specs.declared.step.Fresh.{Fresh}
-use Rattle.read_cache.specs.Cache.{Copy, copy_of, users, is_cached, can_evict, without_copy}
-use Rattle.server_msgs.specs.declared.message.Message.{Message}
-use Rattle.journal.specs.View.{EntryView}
-use Rattle.server_model.specs.declared.event.Event.{Event}
-use Rattle.server_model.specs.declared.event.What.TheVariants.{Deliver, Evict}
-use Rattle.server_model.specs.Servers.{Server, Cluster, server_at}
-use Rattle.server_model.specs.Work.{Work, Site, receive, with_cache, then_some}
-use Rattle.server_model.specs.Events.{enabled, begin_at, left_by, received, deliver_message, deliver, evict_copy, does}
-use Rattle.server_model.specs.Clusters.{with_server, done_at, act_at}
+use Rattle.heap_law.proofs.Below.fr_typing.PlaceLemmas.{eq_cases}
+use Rattle.heap_law.specs.Below.fr_base.declared.instruction.Instr.{Instr}
+use Rattle.heap_law.specs.Below.fr_base.declared.settings.Options.{Options}
+use Rattle.heap_law.specs.Below.fr_base.declared.step.Fresh.{Fresh}
+use Rattle.heap_law.specs.Below.read_cache.Cache.{Copy, copy_of, users, is_cached, can_evict, without_copy}
+use Rattle.heap_law.specs.Below.server_msgs.declared.message.Message.{Message}
+use Rattle.heap_law.specs.Below.journal.View.{EntryView}
+use Rattle.heap_law.specs.Below.server_model.declared.event.Event.{Event}
+use Rattle.heap_law.specs.Below.server_model.declared.event.What.TheVariants.{Deliver, Evict}
+use Rattle.heap_law.specs.Below.server_model.Servers.{Server, Cluster, server_at}
+use Rattle.heap_law.specs.Below.server_model.Work.{Work, Site, receive, with_cache, then_some}
+use Rattle.heap_law.specs.Below.server_model.Events.{enabled, begin_at, left_by, received, deliver_message, deliver, evict_copy, does}
+use Rattle.heap_law.specs.Below.server_model.Clusters.{with_server, done_at, act_at}
 use Rattle.heap_law.specs.Names.{tot}
 use Rattle.heap_law.specs.Things.{Thing, message_things, server_things, servers_things, things_of}
 use Rattle.event_law.specs.Laws.{Gives}
@@ -101,7 +101,7 @@ module _ {K : List Thing → Type 0} (k : Kept K) where
       both false q z = absurd (cc z)
 
       by : (b : Bool) → can_evict x.rest.cache w ≡ b → (o : Option Copy) → copy_of x.rest.cache w ≡ o
-          → Gives (WorkOk K n e others) (if b then Some (Rattle.server_model.specs.Work.note (Rattle.journal.specs.declared.act.Act.TheVariants.Evict w) (with_cache (if b then without_copy x.rest.cache w else x.rest.cache) x)) else None)
+          → Gives (WorkOk K n e others) (if b then Some (Rattle.heap_law.specs.Below.server_model.Work.note (Rattle.heap_law.specs.Below.journal.declared.act.Act.TheVariants.Evict w) (with_cache (if b then without_copy x.rest.cache w else x.rest.cache) x)) else None)
       by false a o q = tt
       by true a None q = let z : is_cached x.rest.cache w ≡ false = ap Rattle.std.specs.Prelude.is_some q in let y = (both (is_cached x.rest.cache w) (users x.rest.cache w == 0) a).0 in absurd (cc (sym z ∙ y))
       by true a (Some c) q =

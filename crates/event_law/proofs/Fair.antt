@@ -1,15 +1,15 @@
 -- The sums on who waits for an answer, who is noted as a half of a pair, who goes on and whose result stands somewhere. They see messages, places in
 -- queues, notes, and of a thread its number, its phase and its server, and the last its gift and its instruction.
 use Rattle.std.proofs.Common.{◌≡◌, ◌≤◌, ℕ, ◌+◌, ◌==◌, ◌&&◌, not, Bool, true, false, List, [], ◌∷◌, ◌++◌, None, refl, sym, ap, ap₂, ◌∙◌, arith}
-use Rattle.fr_base.specs.declared.instruction.Instr.{Instr}
-use Rattle.heap_partition.specs.declared.value.Cell.{Cell}
-use Rattle.thread_state.specs.View.{ThreadState, is_over}
-use Rattle.thread_state.specs.declared.phase.Phase.{Phase}
-use Rattle.thread_state.specs.declared.phase.Phase.TheVariants as phase
-use Rattle.server_msgs.specs.declared.message.Message.{Message}
-use Rattle.server_model.specs.Events.{can_step}
+use Rattle.heap_law.specs.Below.fr_base.declared.instruction.Instr.{Instr}
+use Rattle.heap_law.specs.Below.heap_partition.declared.value.Cell.{Cell}
+use Rattle.heap_law.specs.Below.thread_state.View.{ThreadState, is_over}
+use Rattle.heap_law.specs.Below.thread_state.declared.phase.Phase.{Phase}
+use Rattle.heap_law.specs.Below.thread_state.declared.phase.Phase.TheVariants as phase
+use Rattle.heap_law.specs.Below.server_msgs.declared.message.Message.{Message}
+use Rattle.heap_law.specs.Below.server_model.Events.{can_step}
 use Rattle.heap_law.specs.Names.{tot, one, if_so}
-use Rattle.mutex_home.specs.Mutexes.{Mutex}
+use Rattle.heap_law.specs.Below.mutex_home.Mutexes.{Mutex}
 use Rattle.heap_law.specs.Things.{Thing, at_home, flies, sent, stands, counts}
 use Rattle.heap_law.specs.Requests.{Branch, waits, whole_answer, message_answer, halves, halves_to, halves_needed, pair_notes, pair_places, branch_places}
 use Rattle.heap_law.specs.Sharing.{finished_of, joined_of, got_phase, going_notes, goes_on, noted_away, has_ended}

@@ -1,15 +1,15 @@
 -- A thread that gets what it waits for weighs what the answer and its waiting did.
 use Rattle.std.proofs.Common.{◌≡◌, ◌≤◌, ℕ, ◌+◌, ◌==◌, ◌&&◌, not, List, true, false, [], ◌∷◌, ◌++◌, refl, sym, ap, ap₂, ◌∙◌, arith}
-use Rattle.fr_base.specs.declared.instruction.Instr.{Instr}
-use Rattle.fr_base.specs.declared.name.MutexNo.{MutexNo}
-use Rattle.thread_state.specs.View.{ThreadState, is_over}
-use Rattle.thread_state.specs.declared.phase.Phase.{Phase}
-use Rattle.thread_state.specs.declared.phase.Phase.TheVariants as phase
-use Rattle.server_msgs.specs.declared.message.Message.{Message}
-use Rattle.server_model.specs.Events.{can_step}
-use Rattle.server_model.specs.Objects.{waits_for_cell}
-use Rattle.server_model.specs.Sharing.{waits_for_lock, waits_for_dup}
-use Rattle.server_model.specs.Joining.{waits_for_join}
+use Rattle.heap_law.specs.Below.fr_base.declared.instruction.Instr.{Instr}
+use Rattle.heap_law.specs.Below.fr_base.declared.name.MutexNo.{MutexNo}
+use Rattle.heap_law.specs.Below.thread_state.View.{ThreadState, is_over}
+use Rattle.heap_law.specs.Below.thread_state.declared.phase.Phase.{Phase}
+use Rattle.heap_law.specs.Below.thread_state.declared.phase.Phase.TheVariants as phase
+use Rattle.heap_law.specs.Below.server_msgs.declared.message.Message.{Message}
+use Rattle.heap_law.specs.Below.server_model.Events.{can_step}
+use Rattle.heap_law.specs.Below.server_model.Objects.{waits_for_cell}
+use Rattle.heap_law.specs.Below.server_model.Sharing.{waits_for_lock, waits_for_dup}
+use Rattle.heap_law.specs.Below.server_model.Joining.{waits_for_join}
 use Rattle.heap_law.specs.Names.{tot, one}
 use Rattle.heap_law.specs.Things.{Thing, stands, sent, message_things}
 use Rattle.heap_law.specs.Requests.{waits, whole_answer, message_answer, halves, halves_to, halves_needed, pair_notes, pair_places, branch_places}

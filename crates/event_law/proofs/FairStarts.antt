@@ -1,13 +1,13 @@
 -- New threads and the notes of them weigh the same; a thread that ends weighs what its `finished` does.
 use Rattle.std.proofs.Common.{◌≡◌, ℕ, ◌+◌, ◌==◌, ◌&&◌, not, Bool, true, false, List, [], ◌∷◌, ◌++◌, None, refl, sym, ap, ap₂, ◌∙◌, arith}
-use Rattle.fr_typing.proofs.PlaceLemmas.{eq_cases}
-use Rattle.fr_base.specs.declared.instruction.Instr.{Instr}
-use Rattle.heap_partition.specs.declared.value.Owned.{Owned}
-use Rattle.join_home.specs.Tasks.{going, in_pair}
-use Rattle.thread_state.specs.View.{ThreadState, is_over}
-use Rattle.thread_state.specs.declared.phase.Phase.TheVariants as phase
-use Rattle.server_msgs.specs.declared.message.Message.TheVariants as message
-use Rattle.server_model.specs.Events.{can_step}
+use Rattle.heap_law.proofs.Below.fr_typing.PlaceLemmas.{eq_cases}
+use Rattle.heap_law.specs.Below.fr_base.declared.instruction.Instr.{Instr}
+use Rattle.heap_law.specs.Below.heap_partition.declared.value.Owned.{Owned}
+use Rattle.heap_law.specs.Below.join_home.Tasks.{going, in_pair}
+use Rattle.heap_law.specs.Below.thread_state.View.{ThreadState, is_over}
+use Rattle.heap_law.specs.Below.thread_state.declared.phase.Phase.TheVariants as phase
+use Rattle.heap_law.specs.Below.server_msgs.declared.message.Message.TheVariants as message
+use Rattle.heap_law.specs.Below.server_model.Events.{can_step}
 use Rattle.heap_law.specs.Names.{tot, one, if_so, other}
 use Rattle.heap_law.specs.Things.{Thing, stands, noted, message_things, task_things, thread_things}
 use Rattle.heap_law.specs.Requests.{Branch, waits, halves_to, halves_needed, pair_notes, pair_places, branch_places, home_of}

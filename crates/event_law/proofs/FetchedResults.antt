@@ -5,26 +5,26 @@ use Rattle.std.specs.Ordering.{int_eq}
 use Rattle.std.proofs.lemmas.Cmp.{int_eq_equiv}
 use Rattle.std.proofs.lemmas.Bool.{eqb-true, eq-eqb}
 use Rattle.std.proofs.lemmas.Bool.Decides.{nat_tests}
-use Rattle.fr_typing.proofs.PlaceLemmas.{eq_cases}
-use Rattle.fr_base.specs.Lists.{is_in}
-use Rattle.fr_base.specs.Names.{same_object, same_mutex}
-use Rattle.fr_base.specs.declared.name.ObjNo.{ObjNo}
-use Rattle.fr_base.specs.declared.name.MutexNo.{MutexNo}
-use Rattle.heap_partition.specs.Same.{same_box, same_owned, same_cell}
-use Rattle.heap_partition.specs.declared.value.BoxPtr.{BoxPtr}
-use Rattle.heap_partition.specs.declared.value.Cell.{Cell}
-use Rattle.heap_partition.specs.declared.value.Owned.{Owned}
-use Rattle.heap_partition.specs.declared.value.Owned.TheVariants as owned
-use Rattle.read_cache.specs.Cache.{Copy, copy_of, cell_in, users, users_in, is_cached, can_fill, same_or_absent, fill, can_pin}
-use Rattle.thread_state.specs.View.{ThreadState}
-use Rattle.thread_state.specs.declared.phase.Phase.{Phase}
-use Rattle.thread_state.specs.declared.phase.Phase.TheVariants as phase
-use Rattle.server_msgs.specs.declared.message.Message.{Message}
-use Rattle.server_msgs.specs.declared.message.Message.TheVariants as message
-use Rattle.server_model.specs.Servers.{Server, Cluster, server_at}
-use Rattle.server_model.specs.Work.{Hand, used_once, with_cache, working}
-use Rattle.server_model.specs.Objects.{waits_for_cell, filled, deliver_fetched}
-use Rattle.server_model.specs.Events.{received}
+use Rattle.heap_law.proofs.Below.fr_typing.PlaceLemmas.{eq_cases}
+use Rattle.heap_law.specs.Below.fr_base.Lists.{is_in}
+use Rattle.heap_law.specs.Below.fr_base.Names.{same_object, same_mutex}
+use Rattle.heap_law.specs.Below.fr_base.declared.name.ObjNo.{ObjNo}
+use Rattle.heap_law.specs.Below.fr_base.declared.name.MutexNo.{MutexNo}
+use Rattle.heap_law.specs.Below.heap_partition.Same.{same_box, same_owned, same_cell}
+use Rattle.heap_law.specs.Below.heap_partition.declared.value.BoxPtr.{BoxPtr}
+use Rattle.heap_law.specs.Below.heap_partition.declared.value.Cell.{Cell}
+use Rattle.heap_law.specs.Below.heap_partition.declared.value.Owned.{Owned}
+use Rattle.heap_law.specs.Below.heap_partition.declared.value.Owned.TheVariants as owned
+use Rattle.heap_law.specs.Below.read_cache.Cache.{Copy, copy_of, cell_in, users, users_in, is_cached, can_fill, same_or_absent, fill, can_pin}
+use Rattle.heap_law.specs.Below.thread_state.View.{ThreadState}
+use Rattle.heap_law.specs.Below.thread_state.declared.phase.Phase.{Phase}
+use Rattle.heap_law.specs.Below.thread_state.declared.phase.Phase.TheVariants as phase
+use Rattle.heap_law.specs.Below.server_msgs.declared.message.Message.{Message}
+use Rattle.heap_law.specs.Below.server_msgs.declared.message.Message.TheVariants as message
+use Rattle.heap_law.specs.Below.server_model.Servers.{Server, Cluster, server_at}
+use Rattle.heap_law.specs.Below.server_model.Work.{Hand, used_once, with_cache, working}
+use Rattle.heap_law.specs.Below.server_model.Objects.{waits_for_cell, filled, deliver_fetched}
+use Rattle.heap_law.specs.Below.server_model.Events.{received}
 use Rattle.heap_law.specs.Names.{tot, other}
 use Rattle.heap_law.specs.Things.{copied, sent, things_of}
 use Rattle.heap_law.specs.Follow.{threads_in, thread_at}
@@ -202,7 +202,7 @@ module _ (k : Cluster) (sound : IsSound k) (few : FewEvents k) (number i : ℕ) 
       let h : Hand = record { work = (received i s).work; thread = y } in
       some_if (waits_for_cell y.phase w) _ e (some_map _ (filled w c h) (some_if (can_fill cs w c) _ (fits (copy_of cs w) refl) (uses (working (with_cache (fill cs w c)) h) refl (is_in w y.walk))))
 
-  result : IsSome (Rattle.server_model.specs.Events.deliver_message k.code m (received i s))
+  result : IsSome (Rattle.heap_law.specs.Below.server_model.Events.deliver_message k.code m (received i s))
   result =
       let carried : tot (carries (sight k)) (things_of k) ≡ 0 = sound.requests.carry_what_is_asked in
       let returned : tot (lost (sight k)) (things_of k) ≡ 0 = sound.requests.return_right in

@@ -2,20 +2,20 @@
 use Rattle.std.proofs.Common.{◌≡◌, ℕ, ◌+◌, ◌*◌, ◌≤◌, ◌==◌, ◌&&◌, ◌||◌, nat_lt, Bool, true, false, if◌then◌else◌, List, [], ◌∷◌, Option, Some, None, IsSome, refl, sym, ap₂, subst, arith}
 use Rattle.std.specs.Prelude.{slice_get, option_map}
 use Rattle.std.proofs.lemmas.Bool.{eqb-true}
-use Rattle.fr_typing.proofs.PlaceLemmas.{eq_cases}
-use Rattle.heap_partition.specs.declared.value.Owned.{Owned}
-use Rattle.join_home.specs.Tasks.{Task, TaskState, going, let_go, kept, in_pair, task_in, state_in, over_in, without_task, pair_ended, ended_from}
-use Rattle.join_home.specs.Tasks as tasks
-use Rattle.join_home.specs.declared.answers.EndedAs.{EndedAs}
-use Rattle.thread_state.specs.View.{ThreadState}
-use Rattle.thread_state.specs.declared.phase.Phase.{Phase}
-use Rattle.thread_state.specs.declared.phase.Phase.TheVariants as phase
-use Rattle.server_msgs.specs.declared.message.Message.{Message}
-use Rattle.server_msgs.specs.declared.message.Message.TheVariants as message
-use Rattle.server_model.specs.Servers.{Server, Cluster, server_at}
-use Rattle.server_model.specs.Work.{Hand, Site, thread_in, put_back, at_thread, with_tasks, with_phase, then_some}
-use Rattle.server_model.specs.Joining.{got_par, pair_over, end_answer}
-use Rattle.server_model.specs.Events.{received}
+use Rattle.heap_law.proofs.Below.fr_typing.PlaceLemmas.{eq_cases}
+use Rattle.heap_law.specs.Below.heap_partition.declared.value.Owned.{Owned}
+use Rattle.heap_law.specs.Below.join_home.Tasks.{Task, TaskState, going, let_go, kept, in_pair, task_in, state_in, over_in, without_task, pair_ended, ended_from}
+use Rattle.heap_law.specs.Below.join_home.Tasks as tasks
+use Rattle.heap_law.specs.Below.join_home.declared.answers.EndedAs.{EndedAs}
+use Rattle.heap_law.specs.Below.thread_state.View.{ThreadState}
+use Rattle.heap_law.specs.Below.thread_state.declared.phase.Phase.{Phase}
+use Rattle.heap_law.specs.Below.thread_state.declared.phase.Phase.TheVariants as phase
+use Rattle.heap_law.specs.Below.server_msgs.declared.message.Message.{Message}
+use Rattle.heap_law.specs.Below.server_msgs.declared.message.Message.TheVariants as message
+use Rattle.heap_law.specs.Below.server_model.Servers.{Server, Cluster, server_at}
+use Rattle.heap_law.specs.Below.server_model.Work.{Hand, Site, thread_in, put_back, at_thread, with_tasks, with_phase, then_some}
+use Rattle.heap_law.specs.Below.server_model.Joining.{got_par, pair_over, end_answer}
+use Rattle.heap_law.specs.Below.server_model.Events.{received}
 use Rattle.heap_law.specs.Names.{tot, one, other, if_so}
 use Rattle.heap_law.specs.Things.{Thing, sent, stands, noted, message_things, things_of}
 use Rattle.heap_law.specs.Follow.{Standing, threads_in, thread_at}

@@ -1,19 +1,19 @@
 -- The delivery of a `finished`, from a server to its cluster.
 use Rattle.std.proofs.Common.{◌≡◌, ℕ, zero, suc, ◌+◌, ◌≤◌, ◌==◌, Bool, true, false, if◌then◌else◌, List, [], ◌∷◌, ◌++◌, Option, Some, None, refl, subst, arith}
 use Rattle.std.specs.Prelude.{slice_get, option_map}
-use Rattle.fr_typing.proofs.PlaceLemmas.{eq_cases}
-use Rattle.heap_partition.specs.declared.value.Owned.{Owned}
-use Rattle.join_home.specs.Tasks.{Task, in_pair, task_in, without_task}
-use Rattle.server_msgs.specs.declared.message.Message.{Message}
-use Rattle.server_msgs.specs.declared.message.Message.TheVariants as message
-use Rattle.journal.specs.View.{EntryView}
-use Rattle.server_model.specs.declared.event.Event.{Event}
-use Rattle.server_model.specs.declared.event.What.{What}
-use Rattle.server_model.specs.declared.event.What.TheVariants.{Step, Deliver, Evict, Migrate}
-use Rattle.server_model.specs.Servers.{Server, Cluster, server_at}
-use Rattle.server_model.specs.Work.{thread_in, then_some}
-use Rattle.server_model.specs.Events.{received, does}
-use Rattle.server_model.specs.Clusters.{act_at}
+use Rattle.heap_law.proofs.Below.fr_typing.PlaceLemmas.{eq_cases}
+use Rattle.heap_law.specs.Below.heap_partition.declared.value.Owned.{Owned}
+use Rattle.heap_law.specs.Below.join_home.Tasks.{Task, in_pair, task_in, without_task}
+use Rattle.heap_law.specs.Below.server_msgs.declared.message.Message.{Message}
+use Rattle.heap_law.specs.Below.server_msgs.declared.message.Message.TheVariants as message
+use Rattle.heap_law.specs.Below.journal.View.{EntryView}
+use Rattle.heap_law.specs.Below.server_model.declared.event.Event.{Event}
+use Rattle.heap_law.specs.Below.server_model.declared.event.What.{What}
+use Rattle.heap_law.specs.Below.server_model.declared.event.What.TheVariants.{Step, Deliver, Evict, Migrate}
+use Rattle.heap_law.specs.Below.server_model.Servers.{Server, Cluster, server_at}
+use Rattle.heap_law.specs.Below.server_model.Work.{thread_in, then_some}
+use Rattle.heap_law.specs.Below.server_model.Events.{received, does}
+use Rattle.heap_law.specs.Below.server_model.Clusters.{act_at}
 use Rattle.heap_law.specs.Names.{tot, other, if_so, some}
 use Rattle.heap_law.specs.Things.{Thing, sent, noted, task_things, server_things, things_of}
 use Rattle.heap_law.specs.Sight.{Sight, sight}
@@ -111,15 +111,15 @@ module _ (c : Cluster) (others : List Thing) (s : Server) (same : Same (things_o
     no_step : (t : ℕ) → kind_at c (Step t) s ≡ Some finished → ⊥
     no_step t q = by (thread_in s.threads t) q
       where
-        of_instr : (i : Rattle.fr_base.specs.declared.instruction.Instr.Instr) → instr_kind i ≡ finished → ⊥
-        of_instr (Rattle.fr_base.specs.declared.instruction.Instr.TheVariants.Discard) e = absurd (cc e)
+        of_instr : (i : Rattle.heap_law.specs.Below.fr_base.declared.instruction.Instr.Instr) → instr_kind i ≡ finished → ⊥
+        of_instr (Rattle.heap_law.specs.Below.fr_base.declared.instruction.Instr.TheVariants.Discard) e = absurd (cc e)
         of_instr _ e = absurd (cc e)
 
-        at : (i : Option Rattle.fr_base.specs.declared.instruction.Instr.Instr) → option_map instr_kind i ≡ Some finished → ⊥
+        at : (i : Option Rattle.heap_law.specs.Below.fr_base.declared.instruction.Instr.Instr) → option_map instr_kind i ≡ Some finished → ⊥
         at None e = absurd (cc e)
         at (Some i) e = of_instr i (some_same e)
 
-        by : (x : Option Rattle.thread_state.specs.View.ThreadState) → then_some x (λ y. option_map instr_kind (slice_get c.code y.pc)) ≡ Some finished → ⊥
+        by : (x : Option Rattle.heap_law.specs.Below.thread_state.View.ThreadState) → then_some x (λ y. option_map instr_kind (slice_get c.code y.pc)) ≡ Some finished → ⊥
         by None e = absurd (cc e)
         by (Some y) e = at (slice_get c.code y.pc) e
 

@@ -1,17 +1,17 @@
 -- The delivery of a `finished`: a result is kept, sent, dropped, or is a branch's and vanishes.
 use Rattle.std.proofs.Common.{◌≡◌, ℕ, ◌<◌, ◌==◌, nat_lt, Bool, true, false, if◌then◌else◌, List, [], ◌∷◌, ◌++◌, Option, Some, None, refl, sym, ap, subst, ◌∙◌, arith}
 use Rattle.std.proofs.lemmas.Bool.Decides.{nat_tests}
-use Rattle.fr_typing.proofs.PlaceLemmas.{eq_cases}
-use Rattle.heap_partition.specs.declared.value.Owned.{Owned}
-use Rattle.heap_partition.specs.declared.value.Owned.TheVariants as owned
-use Rattle.join_home.specs.Tasks.{Task, TaskState, going, let_go, kept, asked, in_pair, task_in, state_in, without_task, over_of, over_in, pair_ended, ended_from, ended}
-use Rattle.join_home.specs.declared.answers.EndedAs.{EndedAs}
-use Rattle.join_home.specs.declared.answers.EndedAs.TheVariants as ended_as
-use Rattle.server_msgs.specs.declared.message.Message.TheVariants as message
-use Rattle.server_model.specs.Work.{Work, Site, with_tasks}
-use Rattle.server_model.specs.Drop.{give_up}
-use Rattle.server_model.specs.Joining.{answer, got_par, pair_over, end_answer, deliver_finished}
-use Rattle.server_model.specs.Places.{owns_nothing}
+use Rattle.heap_law.proofs.Below.fr_typing.PlaceLemmas.{eq_cases}
+use Rattle.heap_law.specs.Below.heap_partition.declared.value.Owned.{Owned}
+use Rattle.heap_law.specs.Below.heap_partition.declared.value.Owned.TheVariants as owned
+use Rattle.heap_law.specs.Below.join_home.Tasks.{Task, TaskState, going, let_go, kept, asked, in_pair, task_in, state_in, without_task, over_of, over_in, pair_ended, ended_from, ended}
+use Rattle.heap_law.specs.Below.join_home.declared.answers.EndedAs.{EndedAs}
+use Rattle.heap_law.specs.Below.join_home.declared.answers.EndedAs.TheVariants as ended_as
+use Rattle.heap_law.specs.Below.server_msgs.declared.message.Message.TheVariants as message
+use Rattle.heap_law.specs.Below.server_model.Work.{Work, Site, with_tasks}
+use Rattle.heap_law.specs.Below.server_model.Drop.{give_up}
+use Rattle.heap_law.specs.Below.server_model.Joining.{answer, got_par, pair_over, end_answer, deliver_finished}
+use Rattle.heap_law.specs.Below.server_model.Places.{owns_nothing}
 use Rattle.heap_law.specs.Names.{tot, other}
 use Rattle.heap_law.specs.Naming.{rising, rising_from, numbers_of}
 use Rattle.heap_law.specs.Rooted.{is_unit}

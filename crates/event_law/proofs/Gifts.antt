@@ -1,15 +1,15 @@
 -- Gifts: what a thread waited for comes to it, and its step takes it.
 use Rattle.std.proofs.Common.{◌≡◌, ℕ, List, [], ◌∷◌, ◌++◌, Option, Some, None, refl, sym, subst}
-use Rattle.fr_base.specs.declared.name.MutexNo.{MutexNo}
-use Rattle.heap_partition.specs.declared.value.Owned.{Owned}
-use Rattle.heap_partition.specs.declared.value.Owned.TheVariants as owned
-use Rattle.thread_state.specs.View.{ThreadState}
-use Rattle.thread_state.specs.declared.phase.Phase.TheVariants as phase
-use Rattle.server_msgs.specs.declared.message.Message.TheVariants as message
-use Rattle.server_model.specs.Work.{Hand}
-use Rattle.server_model.specs.Sharing.{given, waits_for_lock, deliver_granted, waits_for_dup, deliver_dupped}
-use Rattle.server_model.specs.Joining.{waits_for_join, deliver_joined}
-use Rattle.server_model.specs.Commit.{take_gift}
+use Rattle.heap_law.specs.Below.fr_base.declared.name.MutexNo.{MutexNo}
+use Rattle.heap_law.specs.Below.heap_partition.declared.value.Owned.{Owned}
+use Rattle.heap_law.specs.Below.heap_partition.declared.value.Owned.TheVariants as owned
+use Rattle.heap_law.specs.Below.thread_state.View.{ThreadState}
+use Rattle.heap_law.specs.Below.thread_state.declared.phase.Phase.TheVariants as phase
+use Rattle.heap_law.specs.Below.server_msgs.declared.message.Message.TheVariants as message
+use Rattle.heap_law.specs.Below.server_model.Work.{Hand}
+use Rattle.heap_law.specs.Below.server_model.Sharing.{given, waits_for_lock, deliver_granted, waits_for_dup, deliver_dupped}
+use Rattle.heap_law.specs.Below.server_model.Joining.{waits_for_join, deliver_joined}
+use Rattle.heap_law.specs.Below.server_model.Commit.{take_gift}
 use Rattle.heap_law.specs.Things.{Thing, Spot, in_hand, as_gift, as_content, as_result, holds, sent, gift_things, walk_things, slot_things, temp_things, things_at}
 use Rattle.event_law.specs.Laws.{Gives}
 use Rattle.event_law.proofs.Trades.{Trade, trade_right, trade_whole}

@@ -1,22 +1,22 @@
 -- Steps that ask for something, or give something to a mutex or a thread.
 use Rattle.std.proofs.Common.{◌≡◌, ℕ, ◌+◌, ◌==◌, Bool, true, false, List, [], ◌∷◌, ◌++◌, Option, Some, None, refl, arith}
-use Rattle.fr_base.specs.declared.name.MutexNo.{MutexNo}
-use Rattle.fr_base.specs.declared.label.Label.TheVariants as label
-use Rattle.fr_base.specs.declared.step.Fresh.TheVariants as fresh
-use Rattle.fr_base.specs.declared.instruction.Operand.{Operand}
-use Rattle.heap_partition.specs.declared.value.Owned.{Owned}
-use Rattle.heap_partition.specs.declared.value.Owned.TheVariants as owned
-use Rattle.mutex_home.specs.Mutexes.{Mutex, can_make, make, next_mutex}
-use Rattle.thread_state.specs.declared.phase.Phase.TheVariants as phase
-use Rattle.thread_state.specs.declared.value.Value.{Value}
-use Rattle.thread_state.specs.declared.value.Value.TheVariants as value
-use Rattle.server_msgs.specs.declared.message.Message.TheVariants as message
-use Rattle.journal.specs.declared.act.Act.{Act}
-use Rattle.journal.specs.declared.act.Act.TheVariants as act
-use Rattle.server_model.specs.Work.{Hand, Popped, send, note, label_all, with_mutexes, working, push_temp, push_slot, pop_slot, pop, pop_owned, taken_as, owned_of, task_of, then_some}
-use Rattle.server_model.specs.Places.{Spot, load_at, cell_at, load_of}
-use Rattle.server_model.specs.Drop.{home_of}
-use Rattle.server_model.specs.Commit.{waiting, label_dropped, ask_join, take_gift, join, end_with, end_thread, mutex_made, mutex, mutex_at, ask_dup, dup, ask_lock, push_content, lock, held_of, send_content, unlock, go_on}
+use Rattle.heap_law.specs.Below.fr_base.declared.name.MutexNo.{MutexNo}
+use Rattle.heap_law.specs.Below.fr_base.declared.label.Label.TheVariants as label
+use Rattle.heap_law.specs.Below.fr_base.declared.step.Fresh.TheVariants as fresh
+use Rattle.heap_law.specs.Below.fr_base.declared.instruction.Operand.{Operand}
+use Rattle.heap_law.specs.Below.heap_partition.declared.value.Owned.{Owned}
+use Rattle.heap_law.specs.Below.heap_partition.declared.value.Owned.TheVariants as owned
+use Rattle.heap_law.specs.Below.mutex_home.Mutexes.{Mutex, can_make, make, next_mutex}
+use Rattle.heap_law.specs.Below.thread_state.declared.phase.Phase.TheVariants as phase
+use Rattle.heap_law.specs.Below.thread_state.declared.value.Value.{Value}
+use Rattle.heap_law.specs.Below.thread_state.declared.value.Value.TheVariants as value
+use Rattle.heap_law.specs.Below.server_msgs.declared.message.Message.TheVariants as message
+use Rattle.heap_law.specs.Below.journal.declared.act.Act.{Act}
+use Rattle.heap_law.specs.Below.journal.declared.act.Act.TheVariants as act
+use Rattle.heap_law.specs.Below.server_model.Work.{Hand, Popped, send, note, label_all, with_mutexes, working, push_temp, push_slot, pop_slot, pop, pop_owned, taken_as, owned_of, task_of, then_some}
+use Rattle.heap_law.specs.Below.server_model.Places.{Spot, load_at, cell_at, load_of}
+use Rattle.heap_law.specs.Below.server_model.Drop.{home_of}
+use Rattle.heap_law.specs.Below.server_model.Commit.{waiting, label_dropped, ask_join, take_gift, join, end_with, end_thread, mutex_made, mutex, mutex_at, ask_dup, dup, ask_lock, push_content, lock, held_of, send_content, unlock, go_on}
 use Rattle.heap_law.specs.Things.{Thing, in_hand, at_temp, as_content, as_result, holds, locks, at_home, things_at, mutex_things}
 use Rattle.event_law.specs.Laws.{Gives}
 use Rattle.event_law.proofs.Trades.{Trade, tot-append, trade_push, trade_left}
@@ -43,7 +43,7 @@ module _ {K : List Thing → Type 0} (k : Kept K) (n e t : ℕ) (others : List T
   noted a h g = record { number = g.number; thread = g.thread; bag = g.bag }
 
   -- a message that carries a value takes it from the hand
-  sends_value : (target : ℕ) (m : Rattle.server_msgs.specs.declared.message.Message.Message) (v : Owned) (h : Hand) → Rule (holds in_hand v ∷ []) (Rattle.heap_law.specs.Things.message_things target m) → HandOk K n e t (holds in_hand v ∷ others) h → Ok (working (send target m) h)
+  sends_value : (target : ℕ) (m : Rattle.heap_law.specs.Below.server_msgs.declared.message.Message.Message) (v : Owned) (h : Hand) → Rule (holds in_hand v ∷ []) (Rattle.heap_law.specs.Things.message_things target m) → HandOk K n e t (holds in_hand v ∷ others) h → Ok (working (send target m) h)
   sends_value target m v h r g =
       let front = Rattle.heap_law.specs.Things.thread_things n false h.thread in
       let there = work_front k n e front others (holds in_hand v) h.work (beside_hand k n e t (holds in_hand v ∷ others) h g) in
@@ -138,7 +138,7 @@ module _ {K : List Thing → Type 0} (k : Kept K) (n e t : ℕ) (others : List T
 
   ends_with : (main : Bool) (v : Owned) (h : Hand) → HandOk K n e t (holds in_hand v ∷ others) h → Gives Ok (end_with main v h)
   ends_with true v h g =
-      let gone = hand_gives_up k n e t others v (label_dropped (value.Own v) h) (labelled k n e t (holds in_hand v ∷ others) (Rattle.server_model.specs.Drop.drop_labels (value.Own v)) h g) in
+      let gone = hand_gives_up k n e t others v (label_dropped (value.Own v) h) (labelled k n e t (holds in_hand v ∷ others) (Rattle.heap_law.specs.Below.server_model.Drop.drop_labels (value.Own v)) h g) in
       record { number = gone.number; thread = gone.thread; bag = gone.bag }
   ends_with false v h g =
       sends_value h.thread.home (message.Finished h.thread.number v) v (working (λ w. label_all (label.End h.thread.number ∷ []) (note (act.Finish h.thread.number) w)) h)

@@ -1,7 +1,7 @@
 -- Handing over what an event appended changes no sum.
 use Rattle.std.proofs.Common.{◌≡◌, ℕ, zero, suc, ◌+◌, List, [], ◌∷◌, ◌++◌, take, drop, refl, sym, ap, ◌∙◌, arith}
-use Rattle.server_model.specs.Servers.{Sent}
-use Rattle.server_model.specs.Clusters.{with_server, with_outbox}
+use Rattle.heap_law.specs.Below.server_model.Servers.{Sent}
+use Rattle.heap_law.specs.Below.server_model.Clusters.{with_server, with_outbox}
 use Rattle.heap_law.proofs.Sums.{server_parts, all_sent, all_sent-append, accepted_all}
 use Rattle.event_law.specs.Laws.{HandOverNewerLaw}
 use Rattle.event_law.proofs.Events.{tot-server}

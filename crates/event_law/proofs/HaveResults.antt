@@ -2,17 +2,17 @@
 use Rattle.std.proofs.Common.{◌≡◌, ◌≤◌, ℕ, ◌+◌, Bool, true, false, if◌then◌else◌, length, Option, Some, None, IsSome, refl, sym, ap, subst, arith}
 use Rattle.std.specs.Prelude.{slice_get, option_map}
 use Rattle.std.proofs.lemmas.Bool.{eq-eqb}
-use Rattle.thread_state.specs.View.{ThreadState}
-use Rattle.server_msgs.specs.declared.message.Message.{Message}
-use Rattle.server_msgs.specs.declared.message.Message.TheVariants as message
-use Rattle.journal.specs.View.{EntryView}
-use Rattle.server_model.specs.declared.event.What.{What}
-use Rattle.server_model.specs.declared.event.What.TheVariants.{Deliver, Evict}
-use Rattle.server_model.specs.Servers.{Server, Cluster, server_at}
-use Rattle.server_model.specs.Work.{thread_in, then_some}
-use Rattle.server_model.specs.Joining.{stand, arrive}
-use Rattle.server_model.specs.Events.{enabled, left_by, received, deliver_message, does}
-use Rattle.server_model.specs.Clusters.{hand_over_newer}
+use Rattle.heap_law.specs.Below.thread_state.View.{ThreadState}
+use Rattle.heap_law.specs.Below.server_msgs.declared.message.Message.{Message}
+use Rattle.heap_law.specs.Below.server_msgs.declared.message.Message.TheVariants as message
+use Rattle.heap_law.specs.Below.journal.View.{EntryView}
+use Rattle.heap_law.specs.Below.server_model.declared.event.What.{What}
+use Rattle.heap_law.specs.Below.server_model.declared.event.What.TheVariants.{Deliver, Evict}
+use Rattle.heap_law.specs.Below.server_model.Servers.{Server, Cluster, server_at}
+use Rattle.heap_law.specs.Below.server_model.Work.{thread_in, then_some}
+use Rattle.heap_law.specs.Below.server_model.Joining.{stand, arrive}
+use Rattle.heap_law.specs.Below.server_model.Events.{enabled, left_by, received, deliver_message, does}
+use Rattle.heap_law.specs.Below.server_model.Clusters.{hand_over_newer}
 use Rattle.heap_law.specs.Names.{tot, one}
 use Rattle.heap_law.specs.Things.{Thing, message_things, thread_things}
 use Rattle.heap_law.specs.Weights.{is_thread}

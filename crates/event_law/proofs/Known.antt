@@ -4,19 +4,19 @@ use Rattle.std.specs.Prelude.{slice_get, slice_set, slice_index_or}
 use Rattle.std.specs.List.{AllByRecursion}
 use Rattle.std.specs.Bool.{⊤}
 use Rattle.std.proofs.lemmas.Bool.Decides.{nat_tests}
-use Rattle.global_addr.specs.Words.{word_of, colour_of, server_of, address_of, next_word}
-use Rattle.heap_partition.specs.declared.value.Cell.{Cell}
-use Rattle.heap_partition.specs.declared.value.Owned.{Owned}
-use Rattle.heap_partition.specs.declared.value.Owned.TheVariants as owned
+use Rattle.heap_law.specs.Below.global_addr.Words.{word_of, colour_of, server_of, address_of, next_word}
+use Rattle.heap_law.specs.Below.heap_partition.declared.value.Cell.{Cell}
+use Rattle.heap_law.specs.Below.heap_partition.declared.value.Owned.{Owned}
+use Rattle.heap_law.specs.Below.heap_partition.declared.value.Owned.TheVariants as owned
 use Rattle.colour_retire.specs.Colours.{picked, rest_of}
-use Rattle.owner_box.specs.View.{PartitionState}
-use Rattle.owner_box.specs.Partition.{cell_of, with_value, stored, put_cell, new_word, made, freed, made_again, renewed}
-use Rattle.read_cache.specs.Cache.{Copy, copy_of, with_users}
-use Rattle.thread_state.specs.declared.value.Value.{Value}
-use Rattle.thread_state.specs.declared.value.Value.TheVariants as value
-use Rattle.server_model.specs.Servers.{Server, server_at}
-use Rattle.server_model.specs.Drop.{home_of}
-use Rattle.server_model.specs.NewWords.{can_grow}
+use Rattle.heap_law.specs.Below.owner_box.View.{PartitionState}
+use Rattle.heap_law.specs.Below.owner_box.Partition.{cell_of, with_value, stored, put_cell, new_word, made, freed, made_again, renewed}
+use Rattle.heap_law.specs.Below.read_cache.Cache.{Copy, copy_of, with_users}
+use Rattle.heap_law.specs.Below.thread_state.declared.value.Value.{Value}
+use Rattle.heap_law.specs.Below.thread_state.declared.value.Value.TheVariants as value
+use Rattle.heap_law.specs.Below.server_model.Servers.{Server, server_at}
+use Rattle.heap_law.specs.Below.server_model.Drop.{home_of}
+use Rattle.heap_law.specs.Below.server_model.NewWords.{can_grow}
 use Rattle.event_law.specs.Laws.{Gives}
 use Rattle.event_law.proofs.Objects.{length_set}
 

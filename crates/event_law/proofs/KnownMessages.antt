@@ -3,44 +3,44 @@ use Rattle.std.proofs.Common.{ℕ, zero, suc, ◌+◌, ◌-◌, ◌==◌, Bool, 
 use Rattle.std.specs.Prelude.{slice_get, option_map}
 use Rattle.std.specs.List.{AllByRecursion}
 use Rattle.std.specs.Bool.{⊤}
-use Rattle.fr_base.specs.Lists.{is_in}
-use Rattle.fr_base.specs.Names.{same_mutex}
-use Rattle.fr_base.specs.declared.name.MutexNo.{MutexNo}
-use Rattle.fr_base.specs.declared.name.ObjNo.{ObjNo}
-use Rattle.fr_base.specs.declared.place.Lval.{Lval}
-use Rattle.fr_base.specs.declared.instruction.Instr.{Instr}
-use Rattle.fr_base.specs.declared.release.Released.{Released}
-use Rattle.fr_base.specs.declared.release.Released.TheVariants as released
-use Rattle.heap_partition.specs.declared.value.Cell.{Cell}
-use Rattle.heap_partition.specs.declared.value.Owned.{Owned}
-use Rattle.heap_partition.specs.declared.value.Owned.TheVariants as owned
-use Rattle.owner_box.specs.Partition.{freed}
-use Rattle.read_cache.specs.Cache.{can_fill, can_pin}
-use Rattle.mutex_home.specs.Mutexes.{Mutex, Mutexes, mutex_in, ask, back_to, back_out, back_in, give_back, more, last_less, less_of, less_in, less}
-use Rattle.mutex_home.specs.declared.answers.Asked.{Asked}
-use Rattle.mutex_home.specs.declared.answers.Asked.TheVariants as asked
-use Rattle.mutex_home.specs.declared.answers.Back.{Back}
-use Rattle.mutex_home.specs.declared.answers.Back.TheVariants as back
-use Rattle.join_home.specs.Tasks.{Task, TaskState, going, let_go, kept, task_in, state_in, state_of, over_in, pair_ended, ended_from, ended, let_go_from, let_go_of}
-use Rattle.join_home.specs.Tasks as tasks
-use Rattle.join_home.specs.declared.answers.EndedAs.{EndedAs}
-use Rattle.join_home.specs.declared.answers.EndedAs.TheVariants as over
-use Rattle.thread_state.specs.View.{ThreadState}
-use Rattle.thread_state.specs.declared.phase.Phase.TheVariants as phase
-use Rattle.thread_state.specs.declared.value.Value.{Value}
-use Rattle.thread_state.specs.declared.value.Value.TheVariants as value
-use Rattle.server_msgs.specs.declared.message.Message.{Message}
-use Rattle.server_msgs.specs.declared.message.Message.TheVariants as message
-use Rattle.server_model.specs.Servers.{Server, Rest}
-use Rattle.server_model.specs.Work.{Work, Hand, Site, put_back, then_some, thread_in, at_thread, beside_threads, look_object, with_mutexes, with_tasks, used_once}
-use Rattle.server_model.specs.NewWords.{NewWord, can_grow, issue_placed}
-use Rattle.server_model.specs.Places.{Spot, in_slot, value_at, set_pointer}
-use Rattle.server_model.specs.Prepare.{Access, ReadTo, ReadPointer, WriteTo, LendTo, EndRef, passing, write_stars}
-use Rattle.server_model.specs.Objects.{deliver_fetch, waits_for_cell, filled, deliver_fetched, deliver_move, chased, waits_under, arrived_at, arrived_slot, passed_spot, arrived_write, arrived_lend, arrived_end, arrived, instr_access, deliver_moved, deliver_drop}
-use Rattle.server_model.specs.Sharing.{given, answer_lock, deliver_lock, waits_for_lock, deliver_granted, answer_back, deliver_unlock, deliver_dup, waits_for_dup, deliver_dupped, give_up_left}
-use Rattle.server_model.specs.Joining.{answer_join, deliver_join, waits_for_join, deliver_joined, got_par, pair_over, end_answer, deliver_finished}
-use Rattle.server_model.specs.Events.{release, deliver_message}
-use Rattle.journal.specs.declared.act.Act.TheVariants as act
+use Rattle.heap_law.specs.Below.fr_base.Lists.{is_in}
+use Rattle.heap_law.specs.Below.fr_base.Names.{same_mutex}
+use Rattle.heap_law.specs.Below.fr_base.declared.name.MutexNo.{MutexNo}
+use Rattle.heap_law.specs.Below.fr_base.declared.name.ObjNo.{ObjNo}
+use Rattle.heap_law.specs.Below.fr_base.declared.place.Lval.{Lval}
+use Rattle.heap_law.specs.Below.fr_base.declared.instruction.Instr.{Instr}
+use Rattle.heap_law.specs.Below.fr_base.declared.release.Released.{Released}
+use Rattle.heap_law.specs.Below.fr_base.declared.release.Released.TheVariants as released
+use Rattle.heap_law.specs.Below.heap_partition.declared.value.Cell.{Cell}
+use Rattle.heap_law.specs.Below.heap_partition.declared.value.Owned.{Owned}
+use Rattle.heap_law.specs.Below.heap_partition.declared.value.Owned.TheVariants as owned
+use Rattle.heap_law.specs.Below.owner_box.Partition.{freed}
+use Rattle.heap_law.specs.Below.read_cache.Cache.{can_fill, can_pin}
+use Rattle.heap_law.specs.Below.mutex_home.Mutexes.{Mutex, Mutexes, mutex_in, ask, back_to, back_out, back_in, give_back, more, last_less, less_of, less_in, less}
+use Rattle.heap_law.specs.Below.mutex_home.declared.answers.Asked.{Asked}
+use Rattle.heap_law.specs.Below.mutex_home.declared.answers.Asked.TheVariants as asked
+use Rattle.heap_law.specs.Below.mutex_home.declared.answers.Back.{Back}
+use Rattle.heap_law.specs.Below.mutex_home.declared.answers.Back.TheVariants as back
+use Rattle.heap_law.specs.Below.join_home.Tasks.{Task, TaskState, going, let_go, kept, task_in, state_in, state_of, over_in, pair_ended, ended_from, ended, let_go_from, let_go_of}
+use Rattle.heap_law.specs.Below.join_home.Tasks as tasks
+use Rattle.heap_law.specs.Below.join_home.declared.answers.EndedAs.{EndedAs}
+use Rattle.heap_law.specs.Below.join_home.declared.answers.EndedAs.TheVariants as over
+use Rattle.heap_law.specs.Below.thread_state.View.{ThreadState}
+use Rattle.heap_law.specs.Below.thread_state.declared.phase.Phase.TheVariants as phase
+use Rattle.heap_law.specs.Below.thread_state.declared.value.Value.{Value}
+use Rattle.heap_law.specs.Below.thread_state.declared.value.Value.TheVariants as value
+use Rattle.heap_law.specs.Below.server_msgs.declared.message.Message.{Message}
+use Rattle.heap_law.specs.Below.server_msgs.declared.message.Message.TheVariants as message
+use Rattle.heap_law.specs.Below.server_model.Servers.{Server, Rest}
+use Rattle.heap_law.specs.Below.server_model.Work.{Work, Hand, Site, put_back, then_some, thread_in, at_thread, beside_threads, look_object, with_mutexes, with_tasks, used_once}
+use Rattle.heap_law.specs.Below.server_model.NewWords.{NewWord, can_grow, issue_placed}
+use Rattle.heap_law.specs.Below.server_model.Places.{Spot, in_slot, value_at, set_pointer}
+use Rattle.heap_law.specs.Below.server_model.Prepare.{Access, ReadTo, ReadPointer, WriteTo, LendTo, EndRef, passing, write_stars}
+use Rattle.heap_law.specs.Below.server_model.Objects.{deliver_fetch, waits_for_cell, filled, deliver_fetched, deliver_move, chased, waits_under, arrived_at, arrived_slot, passed_spot, arrived_write, arrived_lend, arrived_end, arrived, instr_access, deliver_moved, deliver_drop}
+use Rattle.heap_law.specs.Below.server_model.Sharing.{given, answer_lock, deliver_lock, waits_for_lock, deliver_granted, answer_back, deliver_unlock, deliver_dup, waits_for_dup, deliver_dupped, give_up_left}
+use Rattle.heap_law.specs.Below.server_model.Joining.{answer_join, deliver_join, waits_for_join, deliver_joined, got_par, pair_over, end_answer, deliver_finished}
+use Rattle.heap_law.specs.Below.server_model.Events.{release, deliver_message}
+use Rattle.heap_law.specs.Below.journal.declared.act.Act.TheVariants as act
 use Rattle.event_law.specs.Laws.{Gives}
 use Rattle.event_law.proofs.Results.{then_gives, map_gives, over_gives, bind_gives, test_gives, stand_gives}
 use Rattle.event_law.proofs.ObjectMessages.{looked_object}
@@ -112,7 +112,7 @@ module _ (ss : List Server) (r : Rest) where
   drops v b w k a =
       map_gives Sent (look_object w.rest.partition v b) _ (λ c q.
       let there : CellKnown ss (Some c) = subst (CellKnown ss) (looked_object w.rest.partition v b c q).0 (looked_known ss w.rest.partition v k) in
-      gives_up ss r c.value (Rattle.server_model.specs.Work.note (act.Free b v) (Rattle.server_model.specs.Work.with_partition (freed w.rest.partition v) w)) there a)
+      gives_up ss r c.value (Rattle.heap_law.specs.Below.server_model.Work.note (act.Free b v) (Rattle.heap_law.specs.Below.server_model.Work.with_partition (freed w.rest.partition v) w)) there a)
 
   uses_it : (v : ℕ) (b : Bool) (h : Hand) → SentHand h → Gives SentHand (used_once v b h)
   uses_it v true h a = a
@@ -137,7 +137,7 @@ module _ (ss : List Server) (r : Rest) where
   comes_lend slot (suc zero) old new h a = a
   comes_lend slot (suc (suc d)) old new h a = by (waits_under old (slice_get h.thread.slots (chased d h.thread.slots slot)))
     where
-      by : (b : Bool) → Gives SentHand (if b then arrived_at (in_slot (chased d h.thread.slots slot)) new h else Some (Rattle.server_model.specs.Work.with_phase (phase.Taken new) h))
+      by : (b : Bool) → Gives SentHand (if b then arrived_at (in_slot (chased d h.thread.slots slot)) new h else Some (Rattle.heap_law.specs.Below.server_model.Work.with_phase (phase.Taken new) h))
       by true = comes_at new (in_slot (chased d h.thread.slots slot)) h a
       by false = a
 
@@ -199,7 +199,7 @@ module _ (ss : List Server) (r : Rest) where
   backs : (ms : Mutexes) (m : MutexNo) (v : Owned) → OwnedKnown ss v → AllByRecursion (MutexKnown ss) ms.there → Gives BackKnown (give_back ms m v)
   backs ms m v k all = by (mutex_in ms.there m) (found ms.there m all)
     where
-      alone : (x : Mutex) (b : Bool) → BackKnown (if b then (Rattle.mutex_home.specs.Mutexes.end_mutex ms x.number, back.Ended v) else (Rattle.mutex_home.specs.Mutexes.put_mutex ms (record x { content = Some v }), back.Kept))
+      alone : (x : Mutex) (b : Bool) → BackKnown (if b then (Rattle.heap_law.specs.Below.mutex_home.Mutexes.end_mutex ms x.number, back.Ended v) else (Rattle.heap_law.specs.Below.mutex_home.Mutexes.put_mutex ms (record x { content = Some v }), back.Kept))
       alone x true = k
       alone x false = tt
 
@@ -236,7 +236,7 @@ module _ (ss : List Server) (r : Rest) where
       last x None q = tt
       last x (Some v) q = q
 
-      one : (x : Mutex) (b : Bool) → MutexKnown ss x → LeftKnown (if b then last_less ms x x.content else (Rattle.mutex_home.specs.Mutexes.put_mutex ms (record x { shares = x.shares - 1 }), None))
+      one : (x : Mutex) (b : Bool) → MutexKnown ss x → LeftKnown (if b then last_less ms x x.content else (Rattle.heap_law.specs.Below.mutex_home.Mutexes.put_mutex ms (record x { shares = x.shares - 1 }), None))
       one x true q = last x x.content q.inside
       one x false q = tt
 

@@ -2,23 +2,23 @@
 use Rattle.std.proofs.Common.{◌≡◌, ℕ, nat_lt, List, [], ◌∷◌, length, Option, Some, None, refl, subst}
 use Rattle.std.specs.Prelude.{slice_get, slice_set}
 use Rattle.std.specs.List.{AllByRecursion}
-use Rattle.heap_partition.specs.declared.value.BoxPtr.{BoxPtr}
-use Rattle.heap_partition.specs.declared.value.Cell.{Cell}
-use Rattle.heap_partition.specs.declared.value.Owned.{Owned}
-use Rattle.heap_partition.specs.declared.value.Owned.TheVariants as owned
-use Rattle.global_addr.specs.Words.{server_of, address_of}
-use Rattle.owner_box.specs.View.{PartitionState}
-use Rattle.owner_box.specs.Partition.{stored}
-use Rattle.read_cache.specs.Cache.{Copy, copy_of, cell_in}
-use Rattle.mutex_home.specs.Mutexes.{Mutexes}
-use Rattle.join_home.specs.Tasks.{Task}
-use Rattle.thread_state.specs.declared.phase.Phase.{Phase}
-use Rattle.server_msgs.specs.declared.message.Message.{Message}
-use Rattle.thread_state.specs.declared.value.Value.{Value}
-use Rattle.thread_state.specs.declared.value.Value.TheVariants as value
-use Rattle.server_model.specs.Servers.{Sent, Server}
-use Rattle.server_model.specs.Work.{Hand, with_partition, look, leads_here, working, with_slots, front_of}
-use Rattle.server_model.specs.Places.{Spot, in_slot, on_top, in_cell, in_copy, nowhere, value_in, value_at, written, note_slot, note_write, put_at, pointer_of, with_word, set_pointer}
+use Rattle.heap_law.specs.Below.heap_partition.declared.value.BoxPtr.{BoxPtr}
+use Rattle.heap_law.specs.Below.heap_partition.declared.value.Cell.{Cell}
+use Rattle.heap_law.specs.Below.heap_partition.declared.value.Owned.{Owned}
+use Rattle.heap_law.specs.Below.heap_partition.declared.value.Owned.TheVariants as owned
+use Rattle.heap_law.specs.Below.global_addr.Words.{server_of, address_of}
+use Rattle.heap_law.specs.Below.owner_box.View.{PartitionState}
+use Rattle.heap_law.specs.Below.owner_box.Partition.{stored}
+use Rattle.heap_law.specs.Below.read_cache.Cache.{Copy, copy_of, cell_in}
+use Rattle.heap_law.specs.Below.mutex_home.Mutexes.{Mutexes}
+use Rattle.heap_law.specs.Below.join_home.Tasks.{Task}
+use Rattle.heap_law.specs.Below.thread_state.declared.phase.Phase.{Phase}
+use Rattle.heap_law.specs.Below.server_msgs.declared.message.Message.{Message}
+use Rattle.heap_law.specs.Below.thread_state.declared.value.Value.{Value}
+use Rattle.heap_law.specs.Below.thread_state.declared.value.Value.TheVariants as value
+use Rattle.heap_law.specs.Below.server_model.Servers.{Sent, Server}
+use Rattle.heap_law.specs.Below.server_model.Work.{Hand, with_partition, look, leads_here, working, with_slots, front_of}
+use Rattle.heap_law.specs.Below.server_model.Places.{Spot, in_slot, on_top, in_cell, in_copy, nowhere, value_in, value_at, written, note_slot, note_write, put_at, pointer_of, with_word, set_pointer}
 use Rattle.event_law.specs.Laws.{Gives}
 use Rattle.event_law.proofs.Results.{then_gives, test_gives}
 use Rattle.event_law.proofs.Cells.{looked}

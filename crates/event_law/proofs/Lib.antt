@@ -1,3 +1,4 @@
+pub mod Below
 pub mod Trades
 pub mod Rules
 pub mod RulesKeep

@@ -1,13 +1,13 @@
 -- What the delivery of a message keeps: the message is in the hand, with what it carries.
 use Rattle.std.proofs.Common.{◌≡◌, ℕ, List, ◌∷◌, ◌++◌, true, refl, arith}
-use Rattle.fr_base.specs.declared.instruction.Instr.{Instr}
-use Rattle.server_msgs.specs.declared.message.Message.{Message}
-use Rattle.server_msgs.specs.declared.message.Message.TheVariants as message
-use Rattle.server_model.specs.Work.{Site}
-use Rattle.server_model.specs.Objects.{deliver_fetch, deliver_fetched, deliver_move, deliver_moved, deliver_drop}
-use Rattle.server_model.specs.Events.{release, deliver_message}
-use Rattle.server_model.specs.Sharing.{deliver_lock, deliver_granted, deliver_unlock, deliver_dup, deliver_dupped}
-use Rattle.server_model.specs.Joining.{deliver_join, deliver_joined}
+use Rattle.heap_law.specs.Below.fr_base.declared.instruction.Instr.{Instr}
+use Rattle.heap_law.specs.Below.server_msgs.declared.message.Message.{Message}
+use Rattle.heap_law.specs.Below.server_msgs.declared.message.Message.TheVariants as message
+use Rattle.heap_law.specs.Below.server_model.Work.{Site}
+use Rattle.heap_law.specs.Below.server_model.Objects.{deliver_fetch, deliver_fetched, deliver_move, deliver_moved, deliver_drop}
+use Rattle.heap_law.specs.Below.server_model.Events.{release, deliver_message}
+use Rattle.heap_law.specs.Below.server_model.Sharing.{deliver_lock, deliver_granted, deliver_unlock, deliver_dup, deliver_dupped}
+use Rattle.heap_law.specs.Below.server_model.Joining.{deliver_join, deliver_joined}
 use Rattle.heap_law.specs.Things.{Thing, in_hand, as_content, as_result, holds, flies, sent, thread_things, message_things}
 use Rattle.event_law.specs.Kinds.{message_kind}
 use Rattle.event_law.specs.Laws.{Gives}
@@ -17,7 +17,7 @@ use Rattle.event_law.proofs.Bags.{SiteOk}
 use Rattle.event_law.proofs.Chains.{work_front, hand_front, site_trades, at_thread_keeps, beside_keeps}
 use Rattle.event_law.proofs.Objects.{one_goes}
 use Rattle.event_law.proofs.ObjectMessages.{fetches, fetched_comes, moves_away, moved_comes, drops_object}
-use Rattle.fr_base.specs.declared.release.Released.TheVariants as released
+use Rattle.heap_law.specs.Below.fr_base.declared.release.Released.TheVariants as released
 use Rattle.event_law.proofs.MutexMessages.{locks_deliver, unlocks_deliver, dups_deliver, releases_deliver}
 use Rattle.event_law.proofs.TaskMessages.{joins_deliver, releases_task, arrives}
 use Rattle.event_law.proofs.Gifts.{granted_comes, dupped_comes, joined_comes}

@@ -2,25 +2,25 @@
 use Rattle.std.proofs.Common.{◌≡◌, ℕ, ◌+◌, ◌-◌, ◌≤◌, ◌==◌, ◌&&◌, not, nat_lt, Bool, true, false, if◌then◌else◌, List, [], ◌∷◌, ◌++◌, Option, Some, None, IsSome, refl, sym, subst, ◌∙◌, arith}
 use Rattle.std.specs.Prelude.{option_map}
 use Rattle.std.proofs.lemmas.Bool.Decides.{nat_tests}
-use Rattle.fr_typing.proofs.PlaceLemmas.{eq_cases}
-use Rattle.fr_base.specs.declared.name.MutexNo.{MutexNo}
-use Rattle.heap_partition.specs.declared.value.Cell.{Cell}
-use Rattle.heap_partition.specs.declared.value.Owned.{Owned}
-use Rattle.mut_borrow.specs.declared.shared.SharedRef.{SharedRef}
-use Rattle.read_cache.specs.Cache.{Copy, copy_of, users, with_users, can_unpin, unpin}
-use Rattle.mutex_home.specs.Mutexes.{Mutex}
-use Rattle.join_home.specs.Tasks.{TaskState, kept}
-use Rattle.migration.specs.Packing.{unpin_all, pinned_word, pinned_words, used_words, pack_thread}
-use Rattle.thread_state.specs.View.{ThreadState}
-use Rattle.thread_state.specs.declared.value.Value.{Value}
-use Rattle.thread_state.specs.declared.value.Value.TheVariants as value
-use Rattle.server_msgs.specs.declared.message.Message.{Message}
-use Rattle.server_msgs.specs.declared.message.Message.TheVariants as message
-use Rattle.server_model.specs.declared.event.What.TheVariants.{Migrate}
-use Rattle.server_model.specs.Servers.{Server, Cluster, server_at}
-use Rattle.server_model.specs.Work.{Site, thread_in, without_thread, then_some}
-use Rattle.server_model.specs.Moving.{depart, migrate}
-use Rattle.server_model.specs.Events.{is_ready, has_phase, begin_work, begin_at, left_by}
+use Rattle.heap_law.proofs.Below.fr_typing.PlaceLemmas.{eq_cases}
+use Rattle.heap_law.specs.Below.fr_base.declared.name.MutexNo.{MutexNo}
+use Rattle.heap_law.specs.Below.heap_partition.declared.value.Cell.{Cell}
+use Rattle.heap_law.specs.Below.heap_partition.declared.value.Owned.{Owned}
+use Rattle.heap_law.specs.Below.mut_borrow.declared.shared.SharedRef.{SharedRef}
+use Rattle.heap_law.specs.Below.read_cache.Cache.{Copy, copy_of, users, with_users, can_unpin, unpin}
+use Rattle.heap_law.specs.Below.mutex_home.Mutexes.{Mutex}
+use Rattle.heap_law.specs.Below.join_home.Tasks.{TaskState, kept}
+use Rattle.heap_law.specs.Below.migration.Packing.{unpin_all, pinned_word, pinned_words, used_words, pack_thread}
+use Rattle.heap_law.specs.Below.thread_state.View.{ThreadState}
+use Rattle.heap_law.specs.Below.thread_state.declared.value.Value.{Value}
+use Rattle.heap_law.specs.Below.thread_state.declared.value.Value.TheVariants as value
+use Rattle.heap_law.specs.Below.server_msgs.declared.message.Message.{Message}
+use Rattle.heap_law.specs.Below.server_msgs.declared.message.Message.TheVariants as message
+use Rattle.heap_law.specs.Below.server_model.declared.event.What.TheVariants.{Migrate}
+use Rattle.heap_law.specs.Below.server_model.Servers.{Server, Cluster, server_at}
+use Rattle.heap_law.specs.Below.server_model.Work.{Site, thread_in, without_thread, then_some}
+use Rattle.heap_law.specs.Below.server_model.Moving.{depart, migrate}
+use Rattle.heap_law.specs.Below.server_model.Events.{is_ready, has_phase, begin_work, begin_at, left_by}
 use Rattle.heap_law.specs.Names.{tot, one, other, if_so}
 use Rattle.heap_law.specs.Things.{Thing, Spot, Location, copied, uses, is_free, things_at, cell_things, free_things, partition_things, copy_things, content_things, queue_things, mutex_things, result_things, task_things, gift_things, walk_things, pin_things, value_things, slot_things, temp_things, thread_things, standing_things, waiting_things, leaving_things, message_things, server_things, things_of}
 use Rattle.heap_law.specs.Sight.{sight}
@@ -52,15 +52,15 @@ other_users : (cs : List Copy) (w m v : ℕ) → (v ≡ w → ⊥) → users (wi
 other_users [] w m v ne = refl
 other_users (c ∷ cs) w m v ne =
     eq_cases (λ b. users (if b then record c { users = m } ∷ cs else c ∷ with_users cs w m) v ≡ users (c ∷ cs) v) c.word w
-    (λ e. eq_cases (λ b. Rattle.read_cache.specs.Cache.users_in (if b then Some (record c { users = m }) else copy_of cs v) ≡ Rattle.read_cache.specs.Cache.users_in (if b then Some c else copy_of cs v)) c.word v (λ d. absurd (ne (sym d ∙ e))) (λ q. refl))
-    (λ q. eq_cases (λ b. Rattle.read_cache.specs.Cache.users_in (if b then Some c else copy_of (with_users cs w m) v) ≡ Rattle.read_cache.specs.Cache.users_in (if b then Some c else copy_of cs v)) c.word v (λ d. refl) (λ q2. other_users cs w m v ne))
+    (λ e. eq_cases (λ b. Rattle.heap_law.specs.Below.read_cache.Cache.users_in (if b then Some (record c { users = m }) else copy_of cs v) ≡ Rattle.heap_law.specs.Below.read_cache.Cache.users_in (if b then Some c else copy_of cs v)) c.word v (λ d. absurd (ne (sym d ∙ e))) (λ q. refl))
+    (λ q. eq_cases (λ b. Rattle.heap_law.specs.Below.read_cache.Cache.users_in (if b then Some c else copy_of (with_users cs w m) v) ≡ Rattle.heap_law.specs.Below.read_cache.Cache.users_in (if b then Some c else copy_of cs v)) c.word v (λ d. refl) (λ q2. other_users cs w m v ne))
 
 own_users : (cs : List Copy) (w m : ℕ) → 1 ≤ users cs w → users (with_users cs w m) w ≡ m
 own_users [] w m l = absurd (omega (arith, l))
 own_users (c ∷ cs) w m l =
-    eq_cases (λ b. 1 ≤ Rattle.read_cache.specs.Cache.users_in (if b then Some c else copy_of cs w) → users (if b then record c { users = m } ∷ cs else c ∷ with_users cs w m) w ≡ m) c.word w
-    (λ e k. eq_cases (λ b. Rattle.read_cache.specs.Cache.users_in (if b then Some (record c { users = m }) else copy_of cs w) ≡ m) c.word w (λ d. refl) (λ ne. absurd (ne e)))
-    (λ ne k. eq_cases (λ b. Rattle.read_cache.specs.Cache.users_in (if b then Some c else copy_of (with_users cs w m) w) ≡ m) c.word w (λ d. absurd (ne d)) (λ q. own_users cs w m k)) l
+    eq_cases (λ b. 1 ≤ Rattle.heap_law.specs.Below.read_cache.Cache.users_in (if b then Some c else copy_of cs w) → users (if b then record c { users = m } ∷ cs else c ∷ with_users cs w m) w ≡ m) c.word w
+    (λ e k. eq_cases (λ b. Rattle.heap_law.specs.Below.read_cache.Cache.users_in (if b then Some (record c { users = m }) else copy_of cs w) ≡ m) c.word w (λ d. refl) (λ ne. absurd (ne e)))
+    (λ ne k. eq_cases (λ b. Rattle.heap_law.specs.Below.read_cache.Cache.users_in (if b then Some c else copy_of (with_users cs w m) w) ≡ m) c.word w (λ d. absurd (ne d)) (λ q. own_users cs w m k)) l
 
 self : (x : ℕ) → one (x == x) ≡ 1
 self x = eq_cases (λ b. one b ≡ 1) x x (λ e. refl) (λ ne. absurd (ne refl))
@@ -235,7 +235,7 @@ module _ (n v : ℕ) where
   all_users : (cs : List Copy) → tot (same_word v) cs ≤ 1 → tot (users_of (n, v)) (things_at (copy_things n) 0 cs) ≤ users cs v
   all_users [] l = omega arith
   all_users (c ∷ cs) l =
-      eq_cases (λ b. one (c.word == v) ≡ one b → users_of (n, v) (copied n c) ≡ if_so (n == n && b) c.users → tot (users_of (n, v)) (things_at (copy_things n) 0 (c ∷ cs)) ≤ Rattle.read_cache.specs.Cache.users_in (if b then Some c else copy_of cs v)) c.word v
+      eq_cases (λ b. one (c.word == v) ≡ one b → users_of (n, v) (copied n c) ≡ if_so (n == n && b) c.users → tot (users_of (n, v)) (things_at (copy_things n) 0 (c ∷ cs)) ≤ Rattle.heap_law.specs.Below.read_cache.Cache.users_in (if b then Some c else copy_of cs v)) c.word v
       (λ e w g. omega (arith, front c cs, g, at_most (n == n) c.users, none_left cs (omega (arith, l, w))))
       (λ ne w g. omega (arith, front c cs, g, no_word (n == n) false c.users refl, all_users cs (omega (arith, l, w)))) refl refl
 

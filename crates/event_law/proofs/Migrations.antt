@@ -1,21 +1,21 @@
 -- A thread leaves: its uses end, and it goes as a parcel.
 use Rattle.std.proofs.Common.{if◌then◌else◌, ◌≡◌, ℕ, ◌+◌, Bool, true, false, List, [], ◌∷◌, ◌++◌, Some, None, refl, sym, subst, arith}
 use Rattle.std.specs.Prelude.{map}
-use Rattle.fr_base.specs.declared.instruction.Instr.{Instr}
-use Rattle.fr_base.specs.declared.settings.Options.{Options}
-use Rattle.read_cache.specs.Cache.{Copy}
-use Rattle.mut_borrow.specs.declared.shared.SharedRef.{SharedRef}
-use Rattle.thread_state.specs.View.{ThreadState}
-use Rattle.thread_state.specs.declared.value.Value.{Value}
-use Rattle.thread_state.specs.declared.value.Value.TheVariants as value
-use Rattle.server_msgs.specs.declared.message.Message.TheVariants as message
-use Rattle.journal.specs.declared.act.Act.TheVariants as act
-use Rattle.server_model.specs.declared.event.What.TheVariants.{Migrate}
-use Rattle.server_model.specs.Servers.{Server}
-use Rattle.server_model.specs.Work.{Work, Site, note, with_cache, thread_in, without_thread}
-use Rattle.migration.specs.Packing.{unpin_all, unpinned, pinned_word, pinned_words, used_words, packed, pack_thread}
-use Rattle.server_model.specs.Moving.{depart, migrate}
-use Rattle.server_model.specs.Events.{begin_at, left_by, does}
+use Rattle.heap_law.specs.Below.fr_base.declared.instruction.Instr.{Instr}
+use Rattle.heap_law.specs.Below.fr_base.declared.settings.Options.{Options}
+use Rattle.heap_law.specs.Below.read_cache.Cache.{Copy}
+use Rattle.heap_law.specs.Below.mut_borrow.declared.shared.SharedRef.{SharedRef}
+use Rattle.heap_law.specs.Below.thread_state.View.{ThreadState}
+use Rattle.heap_law.specs.Below.thread_state.declared.value.Value.{Value}
+use Rattle.heap_law.specs.Below.thread_state.declared.value.Value.TheVariants as value
+use Rattle.heap_law.specs.Below.server_msgs.declared.message.Message.TheVariants as message
+use Rattle.heap_law.specs.Below.journal.declared.act.Act.TheVariants as act
+use Rattle.heap_law.specs.Below.server_model.declared.event.What.TheVariants.{Migrate}
+use Rattle.heap_law.specs.Below.server_model.Servers.{Server}
+use Rattle.heap_law.specs.Below.server_model.Work.{Work, Site, note, with_cache, thread_in, without_thread}
+use Rattle.heap_law.specs.Below.migration.Packing.{unpin_all, unpinned, pinned_word, pinned_words, used_words, packed, pack_thread}
+use Rattle.heap_law.specs.Below.server_model.Moving.{depart, migrate}
+use Rattle.heap_law.specs.Below.server_model.Events.{begin_at, left_by, does}
 use Rattle.heap_law.specs.Names.{tot}
 use Rattle.heap_law.specs.Things.{Thing, Spot, Location, shares, uses, stands, gift_things, walk_things, value_things, slot_things, temp_things, things_at, thread_things, server_things}
 use Rattle.event_law.specs.Laws.{Gives}
@@ -117,7 +117,7 @@ module _ (n target : ℕ) where
       ))))
 
 module _ {K : List Thing → Type 0} (k : Kept K) (n e : ℕ) (others : List Thing) where
-  parcels : (target : ℕ) (p : ThreadState) (w : Work) → WorkOk K n e (thread_things target true p ++ others) w → WorkOk K n e others (Rattle.server_model.specs.Work.send target (message.Migrate p) w)
+  parcels : (target : ℕ) (p : ThreadState) (w : Work) → WorkOk K n e (thread_things target true p ++ others) w → WorkOk K n e others (Rattle.heap_law.specs.Below.server_model.Work.send target (message.Migrate p) w)
   parcels target p w g =
       let parcel = thread_things target true p in
       work_sends k n e (parcel ++ others) w target (message.Migrate p) (record { rest = others; before = λ f. tot-append f parcel others; after = λ f. omega arith }) (beside (sends target (message.Migrate p) refl) (same parcel)) g
@@ -154,7 +154,7 @@ module _ {K : List Thing → Type 0} (k : Kept K) (n e : ℕ) (others : List Thi
           all : WorkOk K n e (thread_things target true z ++ (b ++ others)) (with_cache cs x.work) → WorkOk K n e (b ++ others) (depart target x.work (z, cs))
           all u = one_sent (note (act.Depart z.number target) (with_cache cs x.work)) (record { number = u.number; bag = u.bag })
             where
-              one_sent : (w : Work) → WorkOk K n e (thread_things target true z ++ (b ++ others)) w → WorkOk K n e (b ++ others) (Rattle.server_model.specs.Work.send target (message.Migrate z) w)
+              one_sent : (w : Work) → WorkOk K n e (thread_things target true z ++ (b ++ others)) w → WorkOk K n e (b ++ others) (Rattle.heap_law.specs.Below.server_model.Work.send target (message.Migrate z) w)
               one_sent w u = work_sends k n e (thread_things target true z ++ (b ++ others)) w target (message.Migrate z) (record { rest = b ++ others; before = λ f. tot-append f (thread_things target true z) (b ++ others); after = λ f. omega arith }) (beside (sends target (message.Migrate z) refl) (same (thread_things target true z))) u
 
 module _ {K : List Thing → Type 0} (k : Kept K) where

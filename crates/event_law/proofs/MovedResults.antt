@@ -6,27 +6,27 @@ use Rattle.std.specs.Bool.{⊤}
 use Rattle.std.proofs.lemmas.Option.{slice_get_within}
 use Rattle.std.proofs.lemmas.Bool.{eqb-true, eq-eqb}
 use Rattle.std.proofs.lemmas.Bool.Decides.{nat_tests}
-use Rattle.fr_base.specs.Lists.{last_of}
-use Rattle.fr_base.specs.declared.place.Lval.{Lval}
-use Rattle.fr_base.specs.declared.instruction.Instr.{Instr}
-use Rattle.fr_base.specs.declared.instruction.Instr.TheVariants as instr
-use Rattle.heap_partition.specs.declared.value.Cell.{Cell}
-use Rattle.heap_partition.specs.declared.value.Owned.TheVariants as owned
-use Rattle.mut_borrow.specs.declared.mutable.MutRef.{MutRef}
-use Rattle.thread_state.specs.View.{ThreadState}
-use Rattle.thread_state.specs.declared.phase.Phase.{Phase}
-use Rattle.thread_state.specs.declared.phase.Phase.TheVariants as phase
-use Rattle.thread_state.specs.declared.value.Value.{Value}
-use Rattle.thread_state.specs.declared.value.Value.TheVariants as value
-use Rattle.server_msgs.specs.declared.message.Message.{Message}
-use Rattle.server_msgs.specs.declared.message.Message.TheVariants as message
-use Rattle.server_model.specs.Servers.{Server, Cluster, server_at}
-use Rattle.server_model.specs.Work.{Work, Hand, thread_in, then_some}
-use Rattle.server_model.specs.NewWords.{can_grow}
-use Rattle.server_model.specs.Places.{Spot, in_slot, on_top, with_word, put_at, set_pointer}
-use Rattle.server_model.specs.Prepare.{passing, write_stars}
-use Rattle.server_model.specs.Objects.{waits_for_cell, chased, waits_under, arrived_at, arrived_slot, passed_spot, arrived_read, arrived_write, arrived_lend, arrived_end, arrived, instr_access, came, deliver_moved}
-use Rattle.server_model.specs.Events.{received}
+use Rattle.heap_law.specs.Below.fr_base.Lists.{last_of}
+use Rattle.heap_law.specs.Below.fr_base.declared.place.Lval.{Lval}
+use Rattle.heap_law.specs.Below.fr_base.declared.instruction.Instr.{Instr}
+use Rattle.heap_law.specs.Below.fr_base.declared.instruction.Instr.TheVariants as instr
+use Rattle.heap_law.specs.Below.heap_partition.declared.value.Cell.{Cell}
+use Rattle.heap_law.specs.Below.heap_partition.declared.value.Owned.TheVariants as owned
+use Rattle.heap_law.specs.Below.mut_borrow.declared.mutable.MutRef.{MutRef}
+use Rattle.heap_law.specs.Below.thread_state.View.{ThreadState}
+use Rattle.heap_law.specs.Below.thread_state.declared.phase.Phase.{Phase}
+use Rattle.heap_law.specs.Below.thread_state.declared.phase.Phase.TheVariants as phase
+use Rattle.heap_law.specs.Below.thread_state.declared.value.Value.{Value}
+use Rattle.heap_law.specs.Below.thread_state.declared.value.Value.TheVariants as value
+use Rattle.heap_law.specs.Below.server_msgs.declared.message.Message.{Message}
+use Rattle.heap_law.specs.Below.server_msgs.declared.message.Message.TheVariants as message
+use Rattle.heap_law.specs.Below.server_model.Servers.{Server, Cluster, server_at}
+use Rattle.heap_law.specs.Below.server_model.Work.{Work, Hand, thread_in, then_some}
+use Rattle.heap_law.specs.Below.server_model.NewWords.{can_grow}
+use Rattle.heap_law.specs.Below.server_model.Places.{Spot, in_slot, on_top, with_word, put_at, set_pointer}
+use Rattle.heap_law.specs.Below.server_model.Prepare.{passing, write_stars}
+use Rattle.heap_law.specs.Below.server_model.Objects.{waits_for_cell, chased, waits_under, arrived_at, arrived_slot, passed_spot, arrived_read, arrived_write, arrived_lend, arrived_end, arrived, instr_access, came, deliver_moved}
+use Rattle.heap_law.specs.Below.server_model.Events.{received}
 use Rattle.heap_law.specs.Names.{tot, one, other, if_so, some, same_object, Among}
 use Rattle.heap_law.specs.Things.{Location, at_slot, at_temp, in_cell, Thing, sent, stands, things_of}
 use Rattle.heap_law.specs.Follow.{Standing, Ground, threads_in, thread_at, cell_of, value_in, value_behind, leads, locate, hop_at, hops}
@@ -182,8 +182,8 @@ module _ (g : Ground) (t : ℕ) where
     chases slot zero j e q = let same : slot ≡ j = cc in let none : 0 + e ≡ e = omega arith in ap (λ z. chased z slots slot) none ∙ ap (chased e slots) same
     chases slot (suc i) j e q =
         let hop = to_slot (value_behind g (locate g t slot i)) t j q in
-        ⊎_elim (λ (r : value_behind g (locate g t slot i) ≡ Some (value.SharedSlot j)). let at = in_a_slot slot i (value.SharedSlot j) r tt in step at.0 at.1 (ap (λ o. Rattle.server_model.specs.Objects.chased_from (chased e slots) at.0 o) at.2) (chases slot i at.0 (suc e) at.1))
-        (λ (r : value_behind g (locate g t slot i) ≡ Some (value.MutSlot j)). let at = in_a_slot slot i (value.MutSlot j) r tt in step at.0 at.1 (ap (λ o. Rattle.server_model.specs.Objects.chased_from (chased e slots) at.0 o) at.2) (chases slot i at.0 (suc e) at.1)) hop.1
+        ⊎_elim (λ (r : value_behind g (locate g t slot i) ≡ Some (value.SharedSlot j)). let at = in_a_slot slot i (value.SharedSlot j) r tt in step at.0 at.1 (ap (λ o. Rattle.heap_law.specs.Below.server_model.Objects.chased_from (chased e slots) at.0 o) at.2) (chases slot i at.0 (suc e) at.1))
+        (λ (r : value_behind g (locate g t slot i) ≡ Some (value.MutSlot j)). let at = in_a_slot slot i (value.MutSlot j) r tt in step at.0 at.1 (ap (λ o. Rattle.heap_law.specs.Below.server_model.Objects.chased_from (chased e slots) at.0 o) at.2) (chases slot i at.0 (suc e) at.1)) hop.1
       where
         step : (m : ℕ) → locate g t slot i ≡ Some (at_slot t m) → chased (suc e) slots m ≡ chased e slots j → chased (i + suc e) slots slot ≡ chased (suc e) slots m → chased (suc i + e) slots slot ≡ chased e slots j
         step m at next go = let same : suc i + e ≡ i + suc e = omega arith in ap (λ z. chased z slots slot) same ∙ go ∙ next
@@ -191,7 +191,7 @@ module _ (g : Ground) (t : ℕ) where
     -- it stays at a mutable reference
     stays : (e j : ℕ) (r : MutRef) → slice_get slots j ≡ Some (value.Mut r) → chased e slots j ≡ j
     stays zero j r q = refl
-    stays (suc e) j r q = ap (λ o. Rattle.server_model.specs.Objects.chased_from (chased e slots) j o) q
+    stays (suc e) j r q = ap (λ o. Rattle.heap_law.specs.Below.server_model.Objects.chased_from (chased e slots) j o) q
 
     -- so a mutable reference at a hop of a place is found by chasing
     found : (slot i d : ℕ) (r : MutRef) → i ≤ d → value_behind g (locate g t slot i) ≡ Some (value.Mut r) → slice_get slots (chased d slots slot) ≡ Some (value.Mut r)
@@ -431,7 +431,7 @@ module _ (k : Cluster) (sound : IsSound k) (few : FewEvents k) (number i : ℕ) 
     lent_from slot (suc (suc d)) l = by (waits_under old (slice_get h.thread.slots (chased d h.thread.slots slot))) refl
       where
         by : (b : Bool) → waits_under old (slice_get h.thread.slots (chased d h.thread.slots slot)) ≡ b
-            → IsSome (if b then arrived_at (in_slot (chased d h.thread.slots slot)) new h else Some (Rattle.server_model.specs.Work.with_phase (phase.Taken new) h))
+            → IsSome (if b then arrived_at (in_slot (chased d h.thread.slots slot)) new h else Some (Rattle.heap_law.specs.Below.server_model.Work.with_phase (phase.Taken new) h))
         by true e = under_old (chased d h.thread.slots slot) (slice_get h.thread.slots (chased d h.thread.slots slot)) refl e
         by false e = refl
 
@@ -474,12 +474,12 @@ module _ (k : Cluster) (sound : IsSound k) (few : FewEvents k) (number i : ℕ) 
     no_path_none : (X : Type 0) → path_of (slice_get k.code y.pc) y ≡ no_path → X
     no_path_none X e = let x = turn no_path e in let none : None ≡ Some x.0 = x.1 in absurd (cc none)
 
-    slot_ends : (j : ℕ) (o : Option Value) → slice_get y.slots j ≡ o → path_of (slice_get k.code y.pc) y ≡ Rattle.heap_law.specs.Paths.ending o → IsSome (arrived (Rattle.server_model.specs.Prepare.ending (in_slot j) o) old new h)
+    slot_ends : (j : ℕ) (o : Option Value) → slice_get y.slots j ≡ o → path_of (slice_get k.code y.pc) y ≡ Rattle.heap_law.specs.Paths.ending o → IsSome (arrived (Rattle.heap_law.specs.Below.server_model.Prepare.ending (in_slot j) o) old new h)
     slot_ends j (Some (value.Mut r)) d e =
         subst (λ o. IsSome (arrived_end (in_slot j) o old new h)) (sym (slot_has j ∙ d)) (ends_at (in_slot j) r e (sets_slot j new (value.Mut r) h (slot_has j ∙ d) refl))
     slot_ends j _ d e = no_path_none _ e
 
-    top_ends : (o : Option Value) → last_of y.temps ≡ o → path_of (slice_get k.code y.pc) y ≡ Rattle.heap_law.specs.Paths.ending o → IsSome (arrived (Rattle.server_model.specs.Prepare.ending on_top o) old new h)
+    top_ends : (o : Option Value) → last_of y.temps ≡ o → path_of (slice_get k.code y.pc) y ≡ Rattle.heap_law.specs.Paths.ending o → IsSome (arrived (Rattle.heap_law.specs.Below.server_model.Prepare.ending on_top o) old new h)
     top_ends (Some (value.Mut r)) d e =
         let top : last_of h.thread.temps ≡ Some (value.Mut r) = ap (λ (x : ThreadState). last_of x.temps) mine ∙ d in
         subst (λ o. IsSome (arrived_end on_top o old new h)) (sym top) (ends_at on_top r e (subst (λ o. IsSome (then_some o (λ v. then_some (with_word new v) (λ z. put_at on_top z h)))) (sym top) refl))
@@ -487,15 +487,15 @@ module _ (k : Cluster) (sound : IsSound k) (few : FewEvents k) (number i : ℕ) 
 
     -- EACH INSTRUCTION
 
-    assigns : (w : Lval) (d : ℕ) → path_of (slice_get k.code y.pc) y ≡ Rattle.heap_law.specs.Paths.assigning y.slots w d → IsSome (arrived (Rattle.server_model.specs.Prepare.assigned w d y) old new h)
+    assigns : (w : Lval) (d : ℕ) → path_of (slice_get k.code y.pc) y ≡ Rattle.heap_law.specs.Paths.assigning y.slots w d → IsSome (arrived (Rattle.heap_law.specs.Below.server_model.Prepare.assigned w d y) old new h)
     assigns w zero e = slot_ends w.slot (slice_get y.slots w.slot) refl e
     assigns w (suc d) e = for_write w e
 
-    takes : (w : Lval) (d : ℕ) → path_of (slice_get k.code y.pc) y ≡ Rattle.heap_law.specs.Paths.taking w d → IsSome (arrived (Some (Rattle.server_model.specs.Prepare.read_or_taken w d true)) old new h)
+    takes : (w : Lval) (d : ℕ) → path_of (slice_get k.code y.pc) y ≡ Rattle.heap_law.specs.Paths.taking w d → IsSome (arrived (Some (Rattle.heap_law.specs.Below.server_model.Prepare.read_or_taken w d true)) old new h)
     takes w zero e = no_path_none _ e
     takes w (suc d) e = for_write w e
 
-    copies : (w : Lval) (d : ℕ) → path_of (slice_get k.code y.pc) y ≡ reads w → IsSome (arrived (Some (Rattle.server_model.specs.Prepare.read_or_taken w d false)) old new h)
+    copies : (w : Lval) (d : ℕ) → path_of (slice_get k.code y.pc) y ≡ reads w → IsSome (arrived (Some (Rattle.heap_law.specs.Below.server_model.Prepare.read_or_taken w d false)) old new h)
     copies w zero e = for_read w e
     copies w (suc d) e = for_read w e
 

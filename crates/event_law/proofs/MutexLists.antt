@@ -1,8 +1,8 @@
 -- What a list of mutexes trades: a mutex changes, comes or goes.
 use Rattle.std.proofs.Common.{◌≡◌, ℕ, ◌+◌, Bool, true, false, if◌then◌else◌, List, [], ◌∷◌, Some, refl, sym, subst, ◌∙◌, arith}
-use Rattle.fr_base.specs.declared.name.MutexNo.{MutexNo}
-use Rattle.fr_base.specs.Names.{same_mutex}
-use Rattle.mutex_home.specs.Mutexes.{Mutex, mutex_in, with_mutex, without_mutex}
+use Rattle.heap_law.specs.Below.fr_base.declared.name.MutexNo.{MutexNo}
+use Rattle.heap_law.specs.Below.fr_base.Names.{same_mutex}
+use Rattle.heap_law.specs.Below.mutex_home.Mutexes.{Mutex, mutex_in, with_mutex, without_mutex}
 use Rattle.heap_law.specs.Names.{tot}
 use Rattle.heap_law.specs.Things.{Thing, things_at, mutex_things}
 use Rattle.heap_law.proofs.Names.{same_mutexes}

@@ -3,18 +3,18 @@ use Rattle.std.proofs.Common.{◌≡◌, ℕ, ◌+◌, ◌-◌, ◌<◌, ◌==�
 use Rattle.std.specs.Prelude.{◌^◌}
 use Rattle.std.proofs.lemmas.Bool.{eqb-true}
 use Rattle.std.proofs.lemmas.Bool.Decides.{nat_tests}
-use Rattle.fr_base.specs.declared.name.MutexNo.{MutexNo}
-use Rattle.fr_base.specs.declared.release.Released.TheVariants as released
-use Rattle.heap_partition.specs.declared.value.Owned.{Owned}
-use Rattle.mutex_home.specs.Mutexes.{Mutex, Mutexes, mutex_in, put_mutex, end_mutex, asked_of, ask, back_to, back_out, give_back, more, last_less, less_of, less}
-use Rattle.mutex_home.specs.declared.answers.Asked.{Asked}
-use Rattle.mutex_home.specs.declared.answers.Asked.TheVariants.{Queued, Granted}
-use Rattle.mutex_home.specs.declared.answers.Back.{Back}
-use Rattle.mutex_home.specs.declared.answers.Back.TheVariants as back
-use Rattle.server_msgs.specs.declared.message.Message.TheVariants as message
-use Rattle.journal.specs.declared.act.Act.TheVariants as act
-use Rattle.server_model.specs.Work.{Work, note, with_mutexes}
-use Rattle.server_model.specs.Sharing.{grant, answer_lock, deliver_lock, answer_back, deliver_unlock, deliver_dup, give_up_left, release_mutex}
+use Rattle.heap_law.specs.Below.fr_base.declared.name.MutexNo.{MutexNo}
+use Rattle.heap_law.specs.Below.fr_base.declared.release.Released.TheVariants as released
+use Rattle.heap_law.specs.Below.heap_partition.declared.value.Owned.{Owned}
+use Rattle.heap_law.specs.Below.mutex_home.Mutexes.{Mutex, Mutexes, mutex_in, put_mutex, end_mutex, asked_of, ask, back_to, back_out, give_back, more, last_less, less_of, less}
+use Rattle.heap_law.specs.Below.mutex_home.declared.answers.Asked.{Asked}
+use Rattle.heap_law.specs.Below.mutex_home.declared.answers.Asked.TheVariants.{Queued, Granted}
+use Rattle.heap_law.specs.Below.mutex_home.declared.answers.Back.{Back}
+use Rattle.heap_law.specs.Below.mutex_home.declared.answers.Back.TheVariants as back
+use Rattle.heap_law.specs.Below.server_msgs.declared.message.Message.TheVariants as message
+use Rattle.heap_law.specs.Below.journal.declared.act.Act.TheVariants as act
+use Rattle.heap_law.specs.Below.server_model.Work.{Work, note, with_mutexes}
+use Rattle.heap_law.specs.Below.server_model.Sharing.{grant, answer_lock, deliver_lock, answer_back, deliver_unlock, deliver_dup, give_up_left, release_mutex}
 use Rattle.heap_law.specs.Names.{tot}
 use Rattle.heap_law.specs.Things.{Thing, in_hand, as_content, holds, sent, at_home, queued, things_at, content_things, queue_things, mutex_things}
 use Rattle.event_law.specs.Laws.{Gives}
@@ -82,7 +82,7 @@ module _ {K : List Thing → Type 0} (k : Kept K) (n e : ℕ) where
       content x q None z = puts w m x (record x { queue = x.queue ++ (r, t) ∷ [] }) q refl (trade_none others) (queue_rule x r t) g
       content x q (Some v) z = puts w m x (record x { content = None }) q refl (some_come (holds in_hand v ∷ []) others) (takes_content x v z) g
 
-      by : (o : Option Mutex) → mutex_in w.rest.mutexes.there m ≡ o → Gives (λ a. WorkOk K n e (granted_things a.1 ++ others) (with_mutexes a.0 w)) (Rattle.mutex_home.specs.Mutexes.asked_in w.rest.mutexes r t o)
+      by : (o : Option Mutex) → mutex_in w.rest.mutexes.there m ≡ o → Gives (λ a. WorkOk K n e (granted_things a.1 ++ others) (with_mutexes a.0 w)) (Rattle.heap_law.specs.Below.mutex_home.Mutexes.asked_in w.rest.mutexes r t o)
       by None q = tt
       by (Some x) q = content x q x.content refl
 
@@ -152,7 +152,7 @@ module _ {K : List Thing → Type 0} (k : Kept K) (n e : ℕ) where
       content x q None z = queue x q z x.queue refl
       content x q (Some u) z = tt
 
-      by : (o : Option Mutex) → mutex_in w.rest.mutexes.there m ≡ o → Gives (λ a. WorkOk K n e (back_things a.1 ++ others) (with_mutexes a.0 w)) (Rattle.mutex_home.specs.Mutexes.back_in w.rest.mutexes v o)
+      by : (o : Option Mutex) → mutex_in w.rest.mutexes.there m ≡ o → Gives (λ a. WorkOk K n e (back_things a.1 ++ others) (with_mutexes a.0 w)) (Rattle.heap_law.specs.Below.mutex_home.Mutexes.back_in w.rest.mutexes v o)
       by None q = tt
       by (Some x) q = content x q x.content refl
 
@@ -179,7 +179,7 @@ module _ {K : List Thing → Type 0} (k : Kept K) (n e : ℕ) where
       over_gives (λ ms. WorkOk K n e (sent r (message.Dupped m t) ∷ others) (with_mutexes ms w)) (WorkOk K n e others) (more w.rest.mutexes m) _ (by (mutex_in w.rest.mutexes.there m) refl)
       (λ ms u. work_sends k n e (sent r (message.Dupped m t) ∷ others) (note (act.Dupped m t r) (with_mutexes ms w)) r (message.Dupped m t) (one_goes (sent r (message.Dupped m t)) others) (same (sent r (message.Dupped m t) ∷ [])) (record { number = u.number; bag = u.bag }))
     where
-      by : (o : Option Mutex) → mutex_in w.rest.mutexes.there m ≡ o → Gives (λ ms. WorkOk K n e (sent r (message.Dupped m t) ∷ others) (with_mutexes ms w)) (Rattle.mutex_home.specs.Mutexes.more_in w.rest.mutexes o)
+      by : (o : Option Mutex) → mutex_in w.rest.mutexes.there m ≡ o → Gives (λ ms. WorkOk K n e (sent r (message.Dupped m t) ∷ others) (with_mutexes ms w)) (Rattle.heap_law.specs.Below.mutex_home.Mutexes.more_in w.rest.mutexes o)
       by None q = tt
       by (Some x) q =
           test_gives (λ ms. WorkOk K n e (sent r (message.Dupped m t) ∷ others) (with_mutexes ms w)) (nat_lt 0 x.shares && nat_lt x.shares (2 ^ 64 - 1)) _ (λ on.
@@ -242,7 +242,7 @@ module _ {K : List Thing → Type 0} (k : Kept K) (n e : ℕ) where
           let one_less : x.shares ≡ (x.shares - 1) + 1 = omega (arith, some) in
           puts w m x (record x { shares = x.shares - 1 }) q refl (gone x) (less_rule x (record x { shares = x.shares - 1 }) refl one_less refl refl) (here x q)
 
-      by : (o : Option Mutex) → mutex_in w.rest.mutexes.there m ≡ o → Gives (λ a. WorkOk K n e (left_things a.1 ++ others) (with_mutexes a.0 w)) (Rattle.mutex_home.specs.Mutexes.less_in w.rest.mutexes o)
+      by : (o : Option Mutex) → mutex_in w.rest.mutexes.there m ≡ o → Gives (λ a. WorkOk K n e (left_things a.1 ++ others) (with_mutexes a.0 w)) (Rattle.heap_law.specs.Below.mutex_home.Mutexes.less_in w.rest.mutexes o)
       by None q = tt
       by (Some x) q = test_gives (λ a. WorkOk K n e (left_things a.1 ++ others) (with_mutexes a.0 w)) (nat_lt 0 x.shares) (Some (less_of w.rest.mutexes x)) (λ on. shares x q on (x.shares == 1) refl)
 

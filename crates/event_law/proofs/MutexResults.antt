@@ -4,17 +4,17 @@ use Rattle.std.proofs.Common.{◌≡◌, ℕ, zero, suc, ◌+◌, ◌≤◌, ◌
 use Rattle.std.specs.Prelude.{slice_get}
 use Rattle.std.proofs.lemmas.Bool.{eqb-true}
 use Rattle.std.proofs.lemmas.Bool.Decides.{nat_tests}
-use Rattle.fr_typing.proofs.PlaceLemmas.{eq_cases}
-use Rattle.fr_base.specs.Names.{same_mutex}
-use Rattle.fr_base.specs.declared.name.MutexNo.{MutexNo}
-use Rattle.fr_base.specs.declared.release.Released.TheVariants as released
-use Rattle.heap_partition.specs.declared.value.Owned.{Owned}
-use Rattle.mutex_home.specs.Mutexes.{Mutex, Mutexes, mutex_in, asked_in, back_out, back_in, less_in}
-use Rattle.join_home.specs.Tasks.{Task}
-use Rattle.thread_state.specs.View.{ThreadState}
-use Rattle.server_msgs.specs.declared.message.Message.{Message}
-use Rattle.server_msgs.specs.declared.message.Message.TheVariants as message
-use Rattle.server_model.specs.Servers.{Server, Cluster, server_at}
+use Rattle.heap_law.proofs.Below.fr_typing.PlaceLemmas.{eq_cases}
+use Rattle.heap_law.specs.Below.fr_base.Names.{same_mutex}
+use Rattle.heap_law.specs.Below.fr_base.declared.name.MutexNo.{MutexNo}
+use Rattle.heap_law.specs.Below.fr_base.declared.release.Released.TheVariants as released
+use Rattle.heap_law.specs.Below.heap_partition.declared.value.Owned.{Owned}
+use Rattle.heap_law.specs.Below.mutex_home.Mutexes.{Mutex, Mutexes, mutex_in, asked_in, back_out, back_in, less_in}
+use Rattle.heap_law.specs.Below.join_home.Tasks.{Task}
+use Rattle.heap_law.specs.Below.thread_state.View.{ThreadState}
+use Rattle.heap_law.specs.Below.server_msgs.declared.message.Message.{Message}
+use Rattle.heap_law.specs.Below.server_msgs.declared.message.Message.TheVariants as message
+use Rattle.heap_law.specs.Below.server_model.Servers.{Server, Cluster, server_at}
 use Rattle.heap_law.specs.Names.{tot, one, other, some, if_so}
 use Rattle.heap_law.specs.Things.{Thing, sent, at_home, things_at, content_things, queue_things, mutex_things, task_things, standing_things, thread_things, waiting_things, leaving_things, message_things, server_things, things_of}
 use Rattle.heap_law.specs.Sight.{sight}
@@ -253,7 +253,7 @@ module _ (k : Cluster) (sound : IsSound k) (number : ℕ) (s : Server) (at : ser
   less_some : (ms : Mutexes) (o : Option Mutex) (y : Mutex) → o ≡ Some y → nat_lt 0 y.shares ≡ true → IsSome (less_in ms o)
   less_some ms o y e l = subst (λ z. IsSome (less_in ms z)) (sym e) (some_if (nat_lt 0 y.shares) l)
     where
-      some_if : (b : Bool) → b ≡ true → IsSome (if b then Some (Rattle.mutex_home.specs.Mutexes.less_of ms y) else None)
+      some_if : (b : Bool) → b ≡ true → IsSome (if b then Some (Rattle.heap_law.specs.Below.mutex_home.Mutexes.less_of ms y) else None)
       some_if true e = refl
       some_if false e = absurd (cc e)
 

@@ -1,13 +1,13 @@
 -- New words: a tint changes nothing, and a renewal takes an object from its address and puts it to another one.
 use Rattle.std.proofs.Common.{◌≡◌, ℕ, ◌+◌, ◌==◌, ◌&&◌, Bool, true, false, nat_lt, if◌then◌else◌, List, ◌++◌, Option, Some, None, refl, sym, ap, subst, ◌∙◌}
 use Rattle.std.specs.Prelude.{is_some}
-use Rattle.global_addr.specs.Words.{colour_of, server_of}
-use Rattle.heap_partition.specs.declared.value.BoxPtr.{BoxPtr}
-use Rattle.heap_partition.specs.declared.value.Cell.{Cell}
-use Rattle.owner_box.specs.Partition.{freed, made_again, renewed, cell_of}
-use Rattle.server_model.specs.Work.{Work, Hand, with_partition, leads_here, look}
-use Rattle.server_model.specs.NewWords.{NewWord, can_grow, is_last, issue_tint, issue_renewal, issue_colour}
-use Rattle.server_model.specs.Places.{Spot, put_word}
+use Rattle.heap_law.specs.Below.global_addr.Words.{colour_of, server_of}
+use Rattle.heap_law.specs.Below.heap_partition.declared.value.BoxPtr.{BoxPtr}
+use Rattle.heap_law.specs.Below.heap_partition.declared.value.Cell.{Cell}
+use Rattle.heap_law.specs.Below.owner_box.Partition.{freed, made_again, renewed, cell_of}
+use Rattle.heap_law.specs.Below.server_model.Work.{Work, Hand, with_partition, leads_here, look}
+use Rattle.heap_law.specs.Below.server_model.NewWords.{NewWord, can_grow, is_last, issue_tint, issue_renewal, issue_colour}
+use Rattle.heap_law.specs.Below.server_model.Places.{Spot, put_word}
 use Rattle.heap_law.specs.Things.{Thing, thread_things}
 use Rattle.heap_law.proofs.Names.{and_left, and_right}
 use Rattle.event_law.specs.Laws.{Gives}

@@ -1,13 +1,13 @@
 -- In a sound cluster a note of a thread stands at its home, and is the one that its number finds.
 use Rattle.std.proofs.Common.{◌≡◌, ℕ, ◌+◌, ◌≤◌, ◌<◌, ◌==◌, ◌&&◌, nat_lt, Bool, true, false, if◌then◌else◌, List, [], ◌∷◌, Some, refl, sym, ap, ◌∙◌, arith}
 use Rattle.std.proofs.lemmas.Bool.Decides.{nat_tests}
-use Rattle.fr_typing.proofs.PlaceLemmas.{eq_cases}
-use Rattle.join_home.specs.Tasks.{Task, TaskState, task_in}
-use Rattle.mutex_home.specs.Mutexes.{Mutex}
-use Rattle.thread_state.specs.View.{ThreadState}
-use Rattle.server_msgs.specs.declared.message.Message.{Message}
-use Rattle.server_msgs.specs.declared.message.Message.TheVariants as message
-use Rattle.server_model.specs.Servers.{Server, Cluster, server_at}
+use Rattle.heap_law.proofs.Below.fr_typing.PlaceLemmas.{eq_cases}
+use Rattle.heap_law.specs.Below.join_home.Tasks.{Task, TaskState, task_in}
+use Rattle.heap_law.specs.Below.mutex_home.Mutexes.{Mutex}
+use Rattle.heap_law.specs.Below.thread_state.View.{ThreadState}
+use Rattle.heap_law.specs.Below.server_msgs.declared.message.Message.{Message}
+use Rattle.heap_law.specs.Below.server_msgs.declared.message.Message.TheVariants as message
+use Rattle.heap_law.specs.Below.server_model.Servers.{Server, Cluster, server_at}
 use Rattle.heap_law.specs.Names.{tot, one, other, if_so}
 use Rattle.heap_law.specs.Things.{Thing, noted, things_at, content_things, queue_things, mutex_things, task_things, standing_things, thread_things, waiting_things, leaving_things, message_things, server_things, things_of}
 use Rattle.heap_law.specs.Requests.{home_of}
@@ -56,7 +56,7 @@ module _ (u n : ℕ) (h : TaskState → Bool) where
   message_none r (message.Migrate x) = omega (arith, thread_none r true x)
   message_none r _ = refl
 
-  queue_none : (x : Rattle.fr_base.specs.declared.name.MutexNo.MutexNo) (i : ℕ) (q : List (ℕ × ℕ)) → tot here (things_at (queue_things x) i q) ≡ 0
+  queue_none : (x : Rattle.heap_law.specs.Below.fr_base.declared.name.MutexNo.MutexNo) (i : ℕ) (q : List (ℕ × ℕ)) → tot here (things_at (queue_things x) i q) ≡ 0
   queue_none x i [] = refl
   queue_none x i (a ∷ q) = omega (arith, queue_none x (i + 1) q)
 

@@ -1,26 +1,26 @@
 -- Messages about objects: what each delivery keeps.
 use Rattle.std.proofs.Common.{◌≡◌, ℕ, zero, suc, ◌+◌, ◌-◌, ◌==◌, Bool, true, false, if◌then◌else◌, List, [], ◌∷◌, ◌++◌, Option, Some, None, refl, subst, ◌∙◌, arith}
 use Rattle.std.specs.Prelude.{slice_get}
-use Rattle.fr_base.specs.declared.instruction.Instr.{Instr}
-use Rattle.fr_base.specs.declared.name.ObjNo.{ObjNo}
-use Rattle.fr_base.specs.declared.place.Lval.{Lval}
-use Rattle.fr_store.proofs.Keys.{object_cases}
-use Rattle.fr_base.specs.Names.{same_object}
-use Rattle.heap_partition.specs.declared.value.Cell.{Cell}
-use Rattle.owner_box.specs.View.{PartitionState}
-use Rattle.owner_box.specs.Partition.{freed, made, new_word}
-use Rattle.read_cache.specs.Cache.{can_fill, fill}
-use Rattle.thread_state.specs.declared.phase.Phase.TheVariants as phase
-use Rattle.thread_state.specs.declared.value.Value.{Value}
-use Rattle.thread_state.specs.declared.value.Value.TheVariants as value
-use Rattle.server_msgs.specs.declared.message.Message.{Message}
-use Rattle.server_msgs.specs.declared.message.Message.TheVariants as message
-use Rattle.journal.specs.declared.act.Act.TheVariants as act
-use Rattle.server_model.specs.Work.{Work, Hand, note, with_partition, with_cache, with_phase, working, look, look_object, then_some}
-use Rattle.server_model.specs.NewWords.{NewWord, can_grow, issue_placed}
-use Rattle.server_model.specs.Places.{Spot, in_slot, value_at, set_pointer}
-use Rattle.server_model.specs.Prepare.{Access, ReadTo, ReadPointer, WriteTo, LendTo, EndRef, passing, write_stars}
-use Rattle.server_model.specs.Objects.{deliver_fetch, filled, waits_for_cell, deliver_fetched, deliver_move, chased, waits_under, arrived_at, arrived_slot, passed_spot, arrived_write, arrived_lend, arrived_end, arrived, instr_access, deliver_moved, deliver_drop}
+use Rattle.heap_law.specs.Below.fr_base.declared.instruction.Instr.{Instr}
+use Rattle.heap_law.specs.Below.fr_base.declared.name.ObjNo.{ObjNo}
+use Rattle.heap_law.specs.Below.fr_base.declared.place.Lval.{Lval}
+use Rattle.heap_law.proofs.Below.fr_store.Keys.{object_cases}
+use Rattle.heap_law.specs.Below.fr_base.Names.{same_object}
+use Rattle.heap_law.specs.Below.heap_partition.declared.value.Cell.{Cell}
+use Rattle.heap_law.specs.Below.owner_box.View.{PartitionState}
+use Rattle.heap_law.specs.Below.owner_box.Partition.{freed, made, new_word}
+use Rattle.heap_law.specs.Below.read_cache.Cache.{can_fill, fill}
+use Rattle.heap_law.specs.Below.thread_state.declared.phase.Phase.TheVariants as phase
+use Rattle.heap_law.specs.Below.thread_state.declared.value.Value.{Value}
+use Rattle.heap_law.specs.Below.thread_state.declared.value.Value.TheVariants as value
+use Rattle.heap_law.specs.Below.server_msgs.declared.message.Message.{Message}
+use Rattle.heap_law.specs.Below.server_msgs.declared.message.Message.TheVariants as message
+use Rattle.heap_law.specs.Below.journal.declared.act.Act.TheVariants as act
+use Rattle.heap_law.specs.Below.server_model.Work.{Work, Hand, note, with_partition, with_cache, with_phase, working, look, look_object, then_some}
+use Rattle.heap_law.specs.Below.server_model.NewWords.{NewWord, can_grow, issue_placed}
+use Rattle.heap_law.specs.Below.server_model.Places.{Spot, in_slot, value_at, set_pointer}
+use Rattle.heap_law.specs.Below.server_model.Prepare.{Access, ReadTo, ReadPointer, WriteTo, LendTo, EndRef, passing, write_stars}
+use Rattle.heap_law.specs.Below.server_model.Objects.{deliver_fetch, filled, waits_for_cell, deliver_fetched, deliver_move, chased, waits_under, arrived_at, arrived_slot, passed_spot, arrived_write, arrived_lend, arrived_end, arrived, instr_access, deliver_moved, deliver_drop}
 use Rattle.heap_law.specs.Things.{Thing, in_hand, holds, flies, sent, thread_things}
 use Rattle.event_law.specs.Laws.{Gives}
 use Rattle.event_law.proofs.Trades.{tot-append, trade_none}
@@ -140,7 +140,7 @@ module _ {K : List Thing → Type 0} (k : Kept K) (n e : ℕ) where
     comes_for (Some (EndRef s)) old new h g = comes_end s (value_at h s) old new h g
 
     -- an object comes to lie here, with the word of its act
-    pub issues_placed : (a : ℕ → Rattle.journal.specs.declared.act.Act.Act) (w : ℕ) (c : Cell) (h : Hand) → HandOk K n e t (flies w c ∷ others) h
+    pub issues_placed : (a : ℕ → Rattle.heap_law.specs.Below.journal.declared.act.Act.Act) (w : ℕ) (c : Cell) (h : Hand) → HandOk K n e t (flies w c ∷ others) h
         → Gives (λ (m : NewWord). Ok (record h { work = m.work })) (issue_placed a c h.work)
     issues_placed a w c h g =
         let front = thread_things n false h.thread in

@@ -3,19 +3,19 @@
 use Rattle.std.proofs.Common.{◌≡◌, ◌≤◌, ◌<◌, ℕ, zero, suc, ◌+◌, ◌==◌, ◌&&◌, nat_lt, is_some, Bool, true, false, if◌then◌else◌, List, [], ◌∷◌, Option, Some, None, IsSome, refl, sym, ap, subst, ◌∙◌, arith}
 use Rattle.std.specs.Prelude.{slice_get, slice_index_or}
 use Rattle.std.proofs.lemmas.Bool.Decides.{nat_tests}
-use Rattle.fr_typing.proofs.PlaceLemmas.{eq_cases}
-use Rattle.fr_base.specs.declared.name.ObjNo.{ObjNo}
-use Rattle.global_addr.specs.Words.{colour_of, server_of, address_of}
-use Rattle.heap_partition.specs.declared.value.Cell.{Cell}
-use Rattle.owner_box.specs.View.{PartitionState}
-use Rattle.owner_box.specs.Partition.{cell_of}
-use Rattle.mutex_home.specs.Mutexes.{Mutex}
-use Rattle.join_home.specs.Tasks.{Task}
-use Rattle.thread_state.specs.View.{ThreadState}
-use Rattle.server_msgs.specs.declared.message.Message.{Message}
-use Rattle.server_msgs.specs.declared.message.Message.TheVariants as message
-use Rattle.server_model.specs.Servers.{Server, Cluster, server_at}
-use Rattle.server_model.specs.Work.{leads_here, look_object}
+use Rattle.heap_law.proofs.Below.fr_typing.PlaceLemmas.{eq_cases}
+use Rattle.heap_law.specs.Below.fr_base.declared.name.ObjNo.{ObjNo}
+use Rattle.heap_law.specs.Below.global_addr.Words.{colour_of, server_of, address_of}
+use Rattle.heap_law.specs.Below.heap_partition.declared.value.Cell.{Cell}
+use Rattle.heap_law.specs.Below.owner_box.View.{PartitionState}
+use Rattle.heap_law.specs.Below.owner_box.Partition.{cell_of}
+use Rattle.heap_law.specs.Below.mutex_home.Mutexes.{Mutex}
+use Rattle.heap_law.specs.Below.join_home.Tasks.{Task}
+use Rattle.heap_law.specs.Below.thread_state.View.{ThreadState}
+use Rattle.heap_law.specs.Below.server_msgs.declared.message.Message.{Message}
+use Rattle.heap_law.specs.Below.server_msgs.declared.message.Message.TheVariants as message
+use Rattle.heap_law.specs.Below.server_model.Servers.{Server, Cluster, server_at}
+use Rattle.heap_law.specs.Below.server_model.Work.{leads_here, look_object}
 use Rattle.heap_law.specs.Names.{tot, one, other, some, same_object}
 use Rattle.heap_law.specs.Things.{Location, Thing, lies, flies, sent, things_at, cell_things, queue_things, mutex_things, task_things, thread_things, standing_things, message_things, waiting_things, leaving_things, partition_things, server_things, things_of}
 use Rattle.heap_law.specs.Sight.{Sight, is_word, sight, word}
@@ -71,7 +71,7 @@ module _ (w : ℕ) (o : ObjNo) where
   message_none r (message.Migrate t) = omega (arith, thread_none r true t)
   message_none r _ = refl
 
-  queue_none : (m : Rattle.fr_base.specs.declared.name.MutexNo.MutexNo) (i : ℕ) (q : List (ℕ × ℕ)) → tot f (things_at (queue_things m) i q) ≡ 0
+  queue_none : (m : Rattle.heap_law.specs.Below.fr_base.declared.name.MutexNo.MutexNo) (i : ℕ) (q : List (ℕ × ℕ)) → tot f (things_at (queue_things m) i q) ≡ 0
   queue_none m i [] = refl
   queue_none m i (a ∷ q) = omega (arith, queue_none m (i + 1) q)
 

@@ -3,14 +3,14 @@ use Rattle.std.proofs.Common.{◌≡◌, ℕ, zero, suc, ◌+◌, ◌<◌, ◌�
 use Rattle.std.specs.Prelude.{slice_get, slice_set}
 use Rattle.std.proofs.lemmas.Bool.{eq-eqb}
 use Rattle.std.proofs.lemmas.Bool.Decides.{nat_tests}
-use Rattle.fr_typing.proofs.PlaceLemmas.{eq_cases}
-use Rattle.global_addr.specs.Words.{colour_of, address_of}
-use Rattle.heap_partition.specs.declared.value.Cell.{Cell}
+use Rattle.heap_law.proofs.Below.fr_typing.PlaceLemmas.{eq_cases}
+use Rattle.heap_law.specs.Below.global_addr.Words.{colour_of, address_of}
+use Rattle.heap_law.specs.Below.heap_partition.declared.value.Cell.{Cell}
 use Rattle.colour_retire.specs.Colours.{picked, rest_of}
-use Rattle.owner_box.specs.View.{PartitionState}
-use Rattle.owner_box.specs.Partition.{put_cell, made, freed}
-use Rattle.server_model.specs.Servers.{Rest}
-use Rattle.server_model.specs.Work.{Work, look, with_partition}
+use Rattle.heap_law.specs.Below.owner_box.View.{PartitionState}
+use Rattle.heap_law.specs.Below.owner_box.Partition.{put_cell, made, freed}
+use Rattle.heap_law.specs.Below.server_model.Servers.{Rest}
+use Rattle.heap_law.specs.Below.server_model.Work.{Work, look, with_partition}
 use Rattle.heap_law.specs.Names.{tot, one}
 use Rattle.heap_law.specs.Things.{Thing, lies, flies, vacant, retired, counts, things_at, cell_things, free_things, partition_things}
 use Rattle.heap_law.specs.Weights.{states, below}

@@ -1,22 +1,22 @@
 -- Each event of a sound cluster leaves as many task values of each thread as are owed of its result: both become more and less by what the event makes and spends.
 use Rattle.std.proofs.Common.{◌≡◌, ℕ, ◌+◌, ◌==◌, is_some, true, false, Option, Some, None, refl, sym, ap, subst, ◌∙◌, arith}
 use Rattle.std.specs.Prelude.{slice_get, option_map}
-use Rattle.fr_base.specs.declared.instruction.Instr.{Instr}
-use Rattle.fr_base.specs.declared.instruction.Instr.TheVariants as instr
-use Rattle.fr_base.specs.declared.instruction.Operand.{Operand}
-use Rattle.fr_base.specs.declared.release.Released.TheVariants as released
-use Rattle.heap_partition.specs.declared.value.Owned.{Owned}
-use Rattle.thread_state.specs.View.{ThreadState}
-use Rattle.server_msgs.specs.declared.message.Message.{Message}
-use Rattle.server_msgs.specs.declared.message.Message.TheVariants as message
-use Rattle.journal.specs.View.{EntryView}
-use Rattle.server_model.specs.declared.event.Event.{Event}
-use Rattle.server_model.specs.declared.event.What.{What}
-use Rattle.server_model.specs.declared.event.What.TheVariants.{Step, Deliver, Evict, Migrate}
-use Rattle.server_model.specs.Servers.{Server, Cluster, server_at}
-use Rattle.server_model.specs.Work.{thread_in, then_some}
-use Rattle.server_model.specs.Events.{enabled, begin_work, left_by, received, deliver_message, step_in, stepped, does}
-use Rattle.server_model.specs.Clusters.{with_server, done_at, act_at}
+use Rattle.heap_law.specs.Below.fr_base.declared.instruction.Instr.{Instr}
+use Rattle.heap_law.specs.Below.fr_base.declared.instruction.Instr.TheVariants as instr
+use Rattle.heap_law.specs.Below.fr_base.declared.instruction.Operand.{Operand}
+use Rattle.heap_law.specs.Below.fr_base.declared.release.Released.TheVariants as released
+use Rattle.heap_law.specs.Below.heap_partition.declared.value.Owned.{Owned}
+use Rattle.heap_law.specs.Below.thread_state.View.{ThreadState}
+use Rattle.heap_law.specs.Below.server_msgs.declared.message.Message.{Message}
+use Rattle.heap_law.specs.Below.server_msgs.declared.message.Message.TheVariants as message
+use Rattle.heap_law.specs.Below.journal.View.{EntryView}
+use Rattle.heap_law.specs.Below.server_model.declared.event.Event.{Event}
+use Rattle.heap_law.specs.Below.server_model.declared.event.What.{What}
+use Rattle.heap_law.specs.Below.server_model.declared.event.What.TheVariants.{Step, Deliver, Evict, Migrate}
+use Rattle.heap_law.specs.Below.server_model.Servers.{Server, Cluster, server_at}
+use Rattle.heap_law.specs.Below.server_model.Work.{thread_in, then_some}
+use Rattle.heap_law.specs.Below.server_model.Events.{enabled, begin_work, left_by, received, deliver_message, step_in, stepped, does}
+use Rattle.heap_law.specs.Below.server_model.Clusters.{with_server, done_at, act_at}
 use Rattle.heap_law.specs.Names.{tot, one, other, if_so}
 use Rattle.heap_law.specs.Things.{things_of, servers_things}
 use Rattle.heap_law.specs.Sight.{sight}
@@ -108,10 +108,10 @@ module _ (k : Cluster) (sound : IsSound k) (few : FewEvents k) (n : ℕ) (s : Se
     join_waits o q None e = none_spent (Step t) (λ u. holds_result k.code u y) (λ u. bare_held k.code u y e) (asking_leaves_task_values k n t s y o sound here at q e)
     join_waits o q (Some v) e = join_values o v q e
 
-    instr_values : (i : Instr) → slice_get k.code y.pc ≡ Some i → Stepped (made_by i (Rattle.server_model.specs.Start.next_thread s.rest))
+    instr_values : (i : Instr) → slice_get k.code y.pc ≡ Some i → Stepped (made_by i (Rattle.heap_law.specs.Below.server_model.Start.next_thread s.rest))
     instr_values (instr.Spawn cs pc) q =
         let none = (gift_fits k sound n s here t y at (instr.Spawn cs pc) q).1 in
-        weaker _ (Values (made_by (instr.Spawn cs pc) (Rattle.server_model.specs.Start.next_thread s.rest)) (λ u. holds_result k.code u y)) (act_at k (event (Step t)))
+        weaker _ (Values (made_by (instr.Spawn cs pc) (Rattle.heap_law.specs.Below.server_model.Start.next_thread s.rest)) (λ u. holds_result k.code u y)) (act_at k (event (Step t)))
         (spawns_make_one k (event (Step t)) s (subst (λ o. then_some o (kind_at k (Step t)) ≡ Some (instr_kind (instr.Spawn cs pc))) (sym here) (kind_is (instr.Spawn cs pc) q)) here sound few) (λ d g u. omega (arith, g u, none u y refl refl))
     instr_values (instr.Join o) q = join_waits o q y.gift refl
     instr_values i q =
@@ -123,9 +123,9 @@ module _ (k : Cluster) (sound : IsSound k) (few : FewEvents k) (n : ℕ) (s : Se
       where
         nothing : slice_get k.code y.pc ≡ None → does k.code k.options s (Step t) ≡ None
         nothing q = ap (λ o. option_map (stepped s) (then_some (option_map (λ x. record { work = begin_work s.rest; thread = x }) o) (step_in k.code k.options.servers))) at
-            ∙ ap (λ o. option_map (stepped s) (then_some o (λ i. Rattle.server_model.specs.Events.step k.options.servers i (record { work = begin_work s.rest; thread = y })))) q
+            ∙ ap (λ o. option_map (stepped s) (then_some o (λ i. Rattle.heap_law.specs.Below.server_model.Events.step k.options.servers i (record { work = begin_work s.rest; thread = y })))) q
 
-        by : (o : Option Instr) → slice_get k.code y.pc ≡ o → Stepped (Rattle.event_law.proofs.Turns.made_at o (Rattle.server_model.specs.Start.next_thread s.rest))
+        by : (o : Option Instr) → slice_get k.code y.pc ≡ o → Stepped (Rattle.event_law.proofs.Turns.made_at o (Rattle.heap_law.specs.Below.server_model.Start.next_thread s.rest))
         by None q = of_nothing (Values (λ u. 0) (λ u. holds_result k.code u y)) (Step t) (nothing q)
         by (Some i) q = instr_values i q
 

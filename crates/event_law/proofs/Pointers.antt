@@ -1,11 +1,11 @@
 -- A pointer gets another word, wherever it stands: in a slot, on top of the temporary values, in a cell that lies here.
 use Rattle.std.proofs.Common.{◌≡◌, ℕ, List, [], ◌∷◌, ◌++◌, Some, refl, subst}
-use Rattle.heap_partition.specs.declared.value.Owned.TheVariants as owned
-use Rattle.mut_borrow.specs.declared.mutable.MutRef.{MutRef}
-use Rattle.thread_state.specs.declared.value.Value.{Value}
-use Rattle.thread_state.specs.declared.value.Value.TheVariants as value
-use Rattle.server_model.specs.Work.{Hand}
-use Rattle.server_model.specs.Places.{Spot, value_at, with_word, took, set_pointer}
+use Rattle.heap_law.specs.Below.heap_partition.declared.value.Owned.TheVariants as owned
+use Rattle.heap_law.specs.Below.mut_borrow.declared.mutable.MutRef.{MutRef}
+use Rattle.heap_law.specs.Below.thread_state.declared.value.Value.{Value}
+use Rattle.heap_law.specs.Below.thread_state.declared.value.Value.TheVariants as value
+use Rattle.heap_law.specs.Below.server_model.Work.{Hand}
+use Rattle.heap_law.specs.Below.server_model.Places.{Spot, value_at, with_word, took, set_pointer}
 use Rattle.heap_law.specs.Things.{Thing, Location, holds, borrows, value_things}
 use Rattle.heap_law.specs.Things as things
 use Rattle.event_law.specs.Laws.{Gives}

@@ -1,28 +1,28 @@
 -- Making a place ready: reads, writes, borrows and ends, one lemma for each function.
 use Rattle.std.proofs.Common.{◌≡◌, ℕ, zero, suc, ◌+◌, ◌==◌, Bool, true, false, nat_lt, if◌then◌else◌, List, [], ◌∷◌, ◌++◌, Option, Some, None, refl, sym, ap, subst, ◌∙◌}
 use Rattle.std.specs.Bool.{⊤}
-use Rattle.fr_base.specs.declared.place.Lval.{Lval}
-use Rattle.global_addr.specs.Words.{colour_of, server_of}
-use Rattle.heap_partition.specs.declared.value.BoxPtr.{BoxPtr}
-use Rattle.read_cache.specs.Cache.{can_pin, pin}
-use Rattle.mut_borrow.specs.Refs.{cleaned_answer, finish_word}
-use Rattle.mut_borrow.specs.declared.shared.SharedRef.{SharedRef}
-use Rattle.mut_borrow.specs.declared.mutable.MutRef.{MutRef}
-use Rattle.mut_borrow.specs.declared.mutable.Cleaned.{Cleaned}
-use Rattle.mut_borrow.specs.declared.mutable.Cleaned.TheVariants as cleaned
-use Rattle.thread_state.specs.declared.phase.Phase.TheVariants as phase
-use Rattle.thread_state.specs.declared.value.Value.{Value}
-use Rattle.thread_state.specs.declared.value.Value.TheVariants as value
-use Rattle.server_msgs.specs.declared.message.Message.TheVariants as message
-use Rattle.journal.specs.declared.act.Act.{Act}
-use Rattle.journal.specs.declared.act.Act.TheVariants as act
+use Rattle.heap_law.specs.Below.fr_base.declared.place.Lval.{Lval}
+use Rattle.heap_law.specs.Below.global_addr.Words.{colour_of, server_of}
+use Rattle.heap_law.specs.Below.heap_partition.declared.value.BoxPtr.{BoxPtr}
+use Rattle.heap_law.specs.Below.read_cache.Cache.{can_pin, pin}
+use Rattle.heap_law.specs.Below.mut_borrow.Refs.{cleaned_answer, finish_word}
+use Rattle.heap_law.specs.Below.mut_borrow.declared.shared.SharedRef.{SharedRef}
+use Rattle.heap_law.specs.Below.mut_borrow.declared.mutable.MutRef.{MutRef}
+use Rattle.heap_law.specs.Below.mut_borrow.declared.mutable.Cleaned.{Cleaned}
+use Rattle.heap_law.specs.Below.mut_borrow.declared.mutable.Cleaned.TheVariants as cleaned
+use Rattle.heap_law.specs.Below.thread_state.declared.phase.Phase.TheVariants as phase
+use Rattle.heap_law.specs.Below.thread_state.declared.value.Value.{Value}
+use Rattle.heap_law.specs.Below.thread_state.declared.value.Value.TheVariants as value
+use Rattle.heap_law.specs.Below.server_msgs.declared.message.Message.TheVariants as message
+use Rattle.heap_law.specs.Below.journal.declared.act.Act.{Act}
+use Rattle.heap_law.specs.Below.journal.declared.act.Act.TheVariants as act
 use Rattle.place_walk.specs.declared.hop.Hop.{Hop}
 use Rattle.place_walk.specs.declared.hop.Hop.TheVariants as hop
 use Rattle.place_walk.specs.Hops.{read_hop, write_hop}
-use Rattle.server_model.specs.Work.{Hand, send, note, with_cache, working, then_some}
-use Rattle.server_model.specs.NewWords.{NewWord, issue_tint, issue_renewal, issue_colour}
-use Rattle.server_model.specs.Places.{Spot, in_slot, on_top, in_cell, in_copy, nowhere, value_at, load_at, put_at, pointer_of, put_word}
-use Rattle.server_model.specs.Prepare.{Access, ReadTo, ReadPointer, WriteTo, LendTo, EndRef, Prepared, ready, requested, nothing, and_then, ready_at, ask_copy, ask_object, request_by, box_of, clean_last, cleaned_by, clean_value, pinned_once, use_copy, hopped, local, hit_by, read_by, read_value, read_clean, tinted_first, read_star, read_stars, passing, box_ready, colour_box, write_by, pass_by, write_value, write_star, write_stars, read_pointer, is_taken, lend_by, lend_value, lend_pointer, follow_holder, follow_ended, unlabelled, end_ref, prepare}
+use Rattle.heap_law.specs.Below.server_model.Work.{Hand, send, note, with_cache, working, then_some}
+use Rattle.heap_law.specs.Below.server_model.NewWords.{NewWord, issue_tint, issue_renewal, issue_colour}
+use Rattle.heap_law.specs.Below.server_model.Places.{Spot, in_slot, on_top, in_cell, in_copy, nowhere, value_at, load_at, put_at, pointer_of, put_word}
+use Rattle.heap_law.specs.Below.server_model.Prepare.{Access, ReadTo, ReadPointer, WriteTo, LendTo, EndRef, Prepared, ready, requested, nothing, and_then, ready_at, ask_copy, ask_object, request_by, box_of, clean_last, cleaned_by, clean_value, pinned_once, use_copy, hopped, local, hit_by, read_by, read_value, read_clean, tinted_first, read_star, read_stars, passing, box_ready, colour_box, write_by, pass_by, write_value, write_star, write_stars, read_pointer, is_taken, lend_by, lend_value, lend_pointer, follow_holder, follow_ended, unlabelled, end_ref, prepare}
 use Rattle.heap_law.specs.Things.{Thing, Location, shares, uses, pin_things, value_things}
 use Rattle.heap_law.specs.Things as things
 use Rattle.event_law.specs.Laws.{Gives}

@@ -1,19 +1,19 @@
 -- What a step says: making a place ready says nothing but the request that it may end with, and values that are dropped say nothing that is answered.
 use Rattle.std.proofs.Common.{◌≡◌, ℕ, ◌+◌, true, false, if◌then◌else◌, List, [], ◌∷◌, ◌++◌, length, Option, None, refl, sym, subst, ◌∙◌, arith, Bool, ◌==◌}
-use Rattle.fr_typing.proofs.PlaceLemmas.{eq_cases}
-use Rattle.fr_base.specs.declared.instruction.Instr.{Instr}
-use Rattle.global_addr.specs.Words.{server_of}
-use Rattle.heap_partition.specs.declared.value.Owned.{Owned}
-use Rattle.mutex_home.specs.Mutexes.{Mutexes}
-use Rattle.join_home.specs.Tasks.{Task}
-use Rattle.thread_state.specs.View.{ThreadState}
-use Rattle.thread_state.specs.declared.phase.Phase.{Phase}
-use Rattle.thread_state.specs.declared.phase.Phase.TheVariants as phase
-use Rattle.server_msgs.specs.declared.message.Message.{Message}
-use Rattle.server_msgs.specs.declared.message.Message.TheVariants as message
-use Rattle.server_model.specs.Servers.{Sent, Rest, Server}
-use Rattle.server_model.specs.Work.{Work, Hand, sent_from, send, working}
-use Rattle.server_model.specs.Events.{can_step}
+use Rattle.heap_law.proofs.Below.fr_typing.PlaceLemmas.{eq_cases}
+use Rattle.heap_law.specs.Below.fr_base.declared.instruction.Instr.{Instr}
+use Rattle.heap_law.specs.Below.global_addr.Words.{server_of}
+use Rattle.heap_law.specs.Below.heap_partition.declared.value.Owned.{Owned}
+use Rattle.heap_law.specs.Below.mutex_home.Mutexes.{Mutexes}
+use Rattle.heap_law.specs.Below.join_home.Tasks.{Task}
+use Rattle.heap_law.specs.Below.thread_state.View.{ThreadState}
+use Rattle.heap_law.specs.Below.thread_state.declared.phase.Phase.{Phase}
+use Rattle.heap_law.specs.Below.thread_state.declared.phase.Phase.TheVariants as phase
+use Rattle.heap_law.specs.Below.server_msgs.declared.message.Message.{Message}
+use Rattle.heap_law.specs.Below.server_msgs.declared.message.Message.TheVariants as message
+use Rattle.heap_law.specs.Below.server_model.Servers.{Sent, Rest, Server}
+use Rattle.heap_law.specs.Below.server_model.Work.{Work, Hand, sent_from, send, working}
+use Rattle.heap_law.specs.Below.server_model.Events.{can_step}
 use Rattle.heap_law.specs.Names.{tot}
 use Rattle.heap_law.specs.Things.{Thing, stands, sent, things_at, mutex_things, task_things, waiting_things, message_things, server_things}
 use Rattle.heap_law.proofs.Sums.{server_parts, waiting_pushed, all_sent, all_sent-append}
@@ -155,11 +155,11 @@ quiet_asks code y r c none ss = record {
   for_copy = λ p h k g.
       let m = message.Fetch p.word p.object h.work.rest.number h.thread.number in
       let told = g.1 in
-      asks_after code (IsGift y) y r (server_of p.word) m (working (Rattle.server_model.specs.Work.note (Rattle.journal.specs.declared.act.Act.TheVariants.Ask p.object p.word)) h) (record h.thread { phase = phase.WaitCell p.word }) refl c refl
+      asks_after code (IsGift y) y r (server_of p.word) m (working (Rattle.heap_law.specs.Below.server_model.Work.note (Rattle.heap_law.specs.Below.journal.declared.act.Act.TheVariants.Ask p.object p.word)) h) (record h.thread { phase = phase.WaitCell p.word }) refl c refl
       (λ t. none t (record h.thread { phase = phase.WaitCell p.word }) told.given told.placed) (record { waiting = refl; alone = λ t. refl; lives = refl; answer = refl; goes_on = λ t. refl; no_result = λ t. (refl, refl) }) told;
   for_object = λ p h k g.
       let m = message.Move p.word p.object h.work.rest.number h.thread.number in
       let told = g.1 in
-      asks_after code (IsGift y) y r (server_of p.word) m (working (Rattle.server_model.specs.Work.note (Rattle.journal.specs.declared.act.Act.TheVariants.Pull p.object p.word)) h) (record h.thread { phase = phase.WaitCell p.word }) refl c refl
+      asks_after code (IsGift y) y r (server_of p.word) m (working (Rattle.heap_law.specs.Below.server_model.Work.note (Rattle.heap_law.specs.Below.journal.declared.act.Act.TheVariants.Pull p.object p.word)) h) (record h.thread { phase = phase.WaitCell p.word }) refl c refl
       (λ t. none t (record h.thread { phase = phase.WaitCell p.word }) told.given told.placed) (record { waiting = refl; alone = λ t. refl; lives = refl; answer = refl; goes_on = λ t. refl; no_result = λ t. (refl, refl) }) told;
 }

@@ -1,9 +1,9 @@
 -- What holds of a result, where there is one.
 use Rattle.std.proofs.Common.{◌≡◌, Bool, true, false, if◌then◌else◌, Option, Some, None, refl, subst}
 use Rattle.std.specs.Prelude.{option_map}
-use Rattle.thread_state.specs.View.{ThreadState}
-use Rattle.server_model.specs.Work.{Site, with_thread, then_some}
-use Rattle.server_model.specs.Joining.{stand}
+use Rattle.heap_law.specs.Below.thread_state.View.{ThreadState}
+use Rattle.heap_law.specs.Below.server_model.Work.{Site, with_thread, then_some}
+use Rattle.heap_law.specs.Below.server_model.Joining.{stand}
 use Rattle.event_law.specs.Laws.{Gives}
 
 pub then_gives : {X Y : Type 0} (P : Y → Type 0) (x : Option X) (go : X → Option Y) → ((a : X) → x ≡ Some a → Gives P (go a)) → Gives P (then_some x go)

@@ -2,19 +2,19 @@
 use Rattle.std.proofs.Common.{◌≡◌, ℕ, ◌+◌, ◌≤◌, ◌==◌, ◌&&◌, Bool, true, false, List, [], ◌∷◌, ◌++◌, refl, sym, ap, ◌∙◌, arith}
 use Rattle.std.specs.Prelude.{nat_lt}
 use Rattle.std.proofs.lemmas.Bool.Decides.{nat_tests}
-use Rattle.fr_base.specs.declared.name.ObjNo.{ObjNo}
-use Rattle.fr_base.specs.declared.name.MutexNo.{MutexNo}
-use Rattle.fr_base.specs.declared.release.Released.TheVariants as released
-use Rattle.global_addr.specs.Words.{server_of}
-use Rattle.heap_partition.specs.declared.value.BoxPtr.{BoxPtr}
-use Rattle.heap_partition.specs.declared.value.Owned.{Owned}
-use Rattle.heap_partition.specs.declared.value.Owned.TheVariants as owned
-use Rattle.mutex_home.specs.Mutexes.{Mutex}
-use Rattle.thread_state.specs.declared.value.Value.{Value}
-use Rattle.thread_state.specs.declared.value.Value.TheVariants as value
-use Rattle.server_msgs.specs.declared.message.Message.{Message}
-use Rattle.server_msgs.specs.declared.message.Message.TheVariants as message
-use Rattle.server_model.specs.Drop.{home_of}
+use Rattle.heap_law.specs.Below.fr_base.declared.name.ObjNo.{ObjNo}
+use Rattle.heap_law.specs.Below.fr_base.declared.name.MutexNo.{MutexNo}
+use Rattle.heap_law.specs.Below.fr_base.declared.release.Released.TheVariants as released
+use Rattle.heap_law.specs.Below.global_addr.Words.{server_of}
+use Rattle.heap_law.specs.Below.heap_partition.declared.value.BoxPtr.{BoxPtr}
+use Rattle.heap_law.specs.Below.heap_partition.declared.value.Owned.{Owned}
+use Rattle.heap_law.specs.Below.heap_partition.declared.value.Owned.TheVariants as owned
+use Rattle.heap_law.specs.Below.mutex_home.Mutexes.{Mutex}
+use Rattle.heap_law.specs.Below.thread_state.declared.value.Value.{Value}
+use Rattle.heap_law.specs.Below.thread_state.declared.value.Value.TheVariants as value
+use Rattle.heap_law.specs.Below.server_msgs.declared.message.Message.{Message}
+use Rattle.heap_law.specs.Below.server_msgs.declared.message.Message.TheVariants as message
+use Rattle.heap_law.specs.Below.server_model.Drop.{home_of}
 use Rattle.heap_law.specs.Names.{tot, one, if_so, same_mutex, boxes, mutex_values, task_values}
 use Rattle.heap_law.specs.Things.{Thing, Location, Spot, in_hand, holds, shares, borrows, locks, lies, flies, vacant, retired, copied, uses, sent, stands, at_home, counts, value_things}
 use Rattle.heap_law.specs.Weights.{cells, owners, states, below, uses_of, users_of, shares_of, shares_at_home, tasks_of, is_thread}
@@ -25,8 +25,8 @@ use Rattle.event_law.proofs.Rules.{Rule, none, both, next, turned, comes, goes, 
 -- a weight that doesn't see where a value stands
 pub record Blind (f : Thing → ℕ) : Type 0 where
   pub owned : (p q : Spot) (v : Owned) → f (holds p v) ≡ f (holds q v)
-  pub shared : (l m : Location) (r : Rattle.mut_borrow.specs.declared.shared.SharedRef.SharedRef) → f (shares l r) ≡ f (shares m r)
-  pub borrowed : (l m : Location) (r : Rattle.mut_borrow.specs.declared.mutable.MutRef.MutRef) → f (borrows l r) ≡ f (borrows m r)
+  pub shared : (l m : Location) (r : Rattle.heap_law.specs.Below.mut_borrow.declared.shared.SharedRef.SharedRef) → f (shares l r) ≡ f (shares m r)
+  pub borrowed : (l m : Location) (r : Rattle.heap_law.specs.Below.mut_borrow.declared.mutable.MutRef.MutRef) → f (borrows l r) ≡ f (borrows m r)
   pub locked : (l m : Location) (n : MutexNo) → f (locks l n) ≡ f (locks m n)
 
 carried : (f : Thing → ℕ) → Blind f → (s : ℕ) (p q : Spot) (l m : Location) (v : Value) → tot f (value_things s q m v) ≡ tot f (value_things s p l v)

@@ -3,18 +3,18 @@ use Rattle.std.proofs.Common.{◌≡◌, ℕ, ◌==◌, ◌&&◌, not, Bool, tru
 use Rattle.std.specs.Prelude.{slice_get, option_map}
 use Rattle.std.specs.List.{AllByRecursion}
 use Rattle.std.proofs.lemmas.Bool.Decides.{nat_tests}
-use Rattle.read_cache.specs.Cache.{can_evict}
-use Rattle.thread_state.specs.View.{ThreadState}
-use Rattle.server_msgs.specs.declared.message.Message.TheVariants as message
-use Rattle.journal.specs.View.{EntryView}
-use Rattle.server_model.specs.declared.event.What.{What}
-use Rattle.server_model.specs.declared.event.What.TheVariants.{Step, Deliver, Evict, Migrate}
-use Rattle.server_model.specs.Servers.{Server, Cluster, server_at}
-use Rattle.server_model.specs.Work.{Work, Hand, Site, then_some, thread_in, beside_threads}
-use Rattle.migration.specs.Packing.{pack_thread}
-use Rattle.server_model.specs.Moving.{migrate}
-use Rattle.server_model.specs.Events.{Stepped, has_phase, is_ready, enabled, begin_work, begin_at, left_by, received, deliver_message, deliver, evict_copy, step, step_in, stepped, does}
-use Rattle.server_model.specs.Clusters.{done_at}
+use Rattle.heap_law.specs.Below.read_cache.Cache.{can_evict}
+use Rattle.heap_law.specs.Below.thread_state.View.{ThreadState}
+use Rattle.heap_law.specs.Below.server_msgs.declared.message.Message.TheVariants as message
+use Rattle.heap_law.specs.Below.journal.View.{EntryView}
+use Rattle.heap_law.specs.Below.server_model.declared.event.What.{What}
+use Rattle.heap_law.specs.Below.server_model.declared.event.What.TheVariants.{Step, Deliver, Evict, Migrate}
+use Rattle.heap_law.specs.Below.server_model.Servers.{Server, Cluster, server_at}
+use Rattle.heap_law.specs.Below.server_model.Work.{Work, Hand, Site, then_some, thread_in, beside_threads}
+use Rattle.heap_law.specs.Below.migration.Packing.{pack_thread}
+use Rattle.heap_law.specs.Below.server_model.Moving.{migrate}
+use Rattle.heap_law.specs.Below.server_model.Events.{Stepped, has_phase, is_ready, enabled, begin_work, begin_at, left_by, received, deliver_message, deliver, evict_copy, step, step_in, stepped, does}
+use Rattle.heap_law.specs.Below.server_model.Clusters.{done_at}
 use Rattle.heap_law.specs.Things.{things_of}
 use Rattle.heap_law.specs.Coherent.{IsSound}
 use Rattle.heap_law.proofs.Names.{and_left, and_right}

@@ -1,10 +1,10 @@
 -- What an event puts into its server's outbox goes to servers that are there.
 use Rattle.std.proofs.Common.{◌≡◌, ℕ, ◌==◌, Bool, true, false, if◌then◌else◌, List, [], ◌∷◌, ◌++◌, length, drop, Some, IsSome, refl, sym, ap, subst, ◌∙◌, append-nil, append_assoc}
-use Rattle.fr_typing.proofs.PlaceLemmas.{eq_cases}
-use Rattle.server_msgs.specs.declared.message.Message.{Message}
-use Rattle.server_model.specs.Servers.{Sent, Rest, Server, server_at}
-use Rattle.server_model.specs.Work.{sent_from}
-use Rattle.server_model.specs.Clusters.{with_server}
+use Rattle.heap_law.proofs.Below.fr_typing.PlaceLemmas.{eq_cases}
+use Rattle.heap_law.specs.Below.server_msgs.declared.message.Message.{Message}
+use Rattle.heap_law.specs.Below.server_model.Servers.{Sent, Rest, Server, server_at}
+use Rattle.heap_law.specs.Below.server_model.Work.{sent_from}
+use Rattle.heap_law.specs.Below.server_model.Clusters.{with_server}
 use Rattle.event_law.specs.Laws.{GoTo}
 
 -- a server after an event: its number, and what it has put into its outbox, all of it to servers that are there

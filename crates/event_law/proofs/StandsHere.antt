@@ -1,12 +1,12 @@
 -- In a sound cluster a thread that an answer goes to stands at the server where the answer waits, in the phase that waits for it and without a gift.
 use Rattle.std.proofs.Common.{◌≡◌, ℕ, ◌+◌, ◌≤◌, ◌==◌, ◌&&◌, not, is_some, Bool, true, false, if◌then◌else◌, List, [], ◌∷◌, Option, Some, None, refl, sym, ap, subst, arith}
-use Rattle.fr_typing.proofs.PlaceLemmas.{eq_cases}
-use Rattle.thread_state.specs.View.{ThreadState}
-use Rattle.thread_state.specs.declared.phase.Phase.{Phase}
-use Rattle.server_msgs.specs.declared.message.Message.{Message}
-use Rattle.server_msgs.specs.declared.message.Message.TheVariants as message
-use Rattle.server_model.specs.Servers.{Server, Cluster, server_at}
-use Rattle.server_model.specs.Work.{thread_in}
+use Rattle.heap_law.proofs.Below.fr_typing.PlaceLemmas.{eq_cases}
+use Rattle.heap_law.specs.Below.thread_state.View.{ThreadState}
+use Rattle.heap_law.specs.Below.thread_state.declared.phase.Phase.{Phase}
+use Rattle.heap_law.specs.Below.server_msgs.declared.message.Message.{Message}
+use Rattle.heap_law.specs.Below.server_msgs.declared.message.Message.TheVariants as message
+use Rattle.heap_law.specs.Below.server_model.Servers.{Server, Cluster, server_at}
+use Rattle.heap_law.specs.Below.server_model.Work.{thread_in}
 use Rattle.heap_law.specs.Names.{tot, one, other, if_so}
 use Rattle.heap_law.specs.Things.{Thing, stands, message_things, waiting_things, leaving_things, standing_things, thread_things, server_things, things_of}
 use Rattle.heap_law.specs.Follow.{Standing, threads_in, thread_at}

@@ -2,21 +2,21 @@
 use Rattle.std.proofs.Common.{◌≡◌, ℕ, ◌+◌, ◌^◌, ◌<◌, List, ◌++◌, Option, Some, None, refl, sym, subst, arith}
 use Rattle.std.specs.Prelude.{slice_get, option_map}
 use Rattle.std.specs.Bool.{⊤}
-use Rattle.fr_base.specs.declared.instruction.Instr.{Instr}
-use Rattle.fr_base.specs.declared.instruction.Instr.TheVariants as instr
-use Rattle.thread_state.specs.View.{ThreadState}
-use Rattle.server_msgs.specs.declared.message.Message.{Message}
-use Rattle.server_msgs.specs.declared.message.Message.TheVariants as message
-use Rattle.journal.specs.View.{EntryView}
-use Rattle.server_model.specs.declared.event.Event.{Event}
-use Rattle.server_model.specs.declared.event.What.{What}
-use Rattle.server_model.specs.declared.event.What.TheVariants.{Step, Deliver, Evict, Migrate}
-use Rattle.server_model.specs.Servers.{Server, Cluster, server_at}
-use Rattle.server_model.specs.Work.{Hand, put_back, thread_in, without_thread, then_some}
-use Rattle.server_model.specs.Commit.{Committed, done, waits, refused, spawn, par}
-use Rattle.server_model.specs.Start.{next_thread}
-use Rattle.server_model.specs.Events.{enabled, begin_work, begin_at, step, step_in, stepped, does}
-use Rattle.server_model.specs.Clusters.{with_server, done_at, act_at}
+use Rattle.heap_law.specs.Below.fr_base.declared.instruction.Instr.{Instr}
+use Rattle.heap_law.specs.Below.fr_base.declared.instruction.Instr.TheVariants as instr
+use Rattle.heap_law.specs.Below.thread_state.View.{ThreadState}
+use Rattle.heap_law.specs.Below.server_msgs.declared.message.Message.{Message}
+use Rattle.heap_law.specs.Below.server_msgs.declared.message.Message.TheVariants as message
+use Rattle.heap_law.specs.Below.journal.View.{EntryView}
+use Rattle.heap_law.specs.Below.server_model.declared.event.Event.{Event}
+use Rattle.heap_law.specs.Below.server_model.declared.event.What.{What}
+use Rattle.heap_law.specs.Below.server_model.declared.event.What.TheVariants.{Step, Deliver, Evict, Migrate}
+use Rattle.heap_law.specs.Below.server_model.Servers.{Server, Cluster, server_at}
+use Rattle.heap_law.specs.Below.server_model.Work.{Hand, put_back, thread_in, without_thread, then_some}
+use Rattle.heap_law.specs.Below.server_model.Commit.{Committed, done, waits, refused, spawn, par}
+use Rattle.heap_law.specs.Below.server_model.Start.{next_thread}
+use Rattle.heap_law.specs.Below.server_model.Events.{enabled, begin_work, begin_at, step, step_in, stepped, does}
+use Rattle.heap_law.specs.Below.server_model.Clusters.{with_server, done_at, act_at}
 use Rattle.heap_law.specs.Things.{Thing, server_things, servers_things, things_of}
 use Rattle.heap_law.specs.Coherent.{Holds, names_counted}
 use Rattle.event_law.specs.Kinds.{Kind, step_spawn, step_par, message_kind, instr_kind, kind_at, kind_of}

@@ -2,25 +2,25 @@
 use Rattle.std.proofs.Common.{◌≡◌, ℕ, ◌+◌, ◌*◌, ◌^◌, ◌<◌, ◌==◌, Bool, true, false, if◌then◌else◌, List, [], ◌∷◌, ◌++◌, Some, None, refl, ap, subst, ◌∙◌, arith}
 use Rattle.std.specs.Prelude.{slice_get}
 use Rattle.std.specs.Bool.{⊤}
-use Rattle.fr_base.specs.Rooms.{WithRoom}
-use Rattle.fr_base.specs.declared.label.Label.TheVariants as label
-use Rattle.fr_base.specs.declared.step.Fresh.TheVariants as fresh
-use Rattle.heap_partition.specs.declared.value.Owned.{Owned}
-use Rattle.heap_partition.specs.declared.value.Owned.TheVariants as owned
-use Rattle.mut_borrow.specs.declared.shared.SharedRef.{SharedRef}
-use Rattle.join_home.specs.Tasks.{Task, TaskState, going, in_pair, can_begin, can_begin_pair}
-use Rattle.join_home.specs.Tasks as tasks
-use Rattle.thread_state.specs.View.{new_thread}
-use Rattle.thread_state.specs.declared.phase.Phase.TheVariants as phase
-use Rattle.thread_state.specs.declared.value.Value.{Value}
-use Rattle.thread_state.specs.declared.value.Value.TheVariants as value
-use Rattle.server_msgs.specs.declared.message.Message.{Message}
-use Rattle.server_msgs.specs.declared.message.Message.TheVariants as message
-use Rattle.journal.specs.declared.act.Act.TheVariants as act
-use Rattle.server_model.specs.Servers.{Rest}
-use Rattle.server_model.specs.Work.{Work, Hand, sent_from, note, label_all, with_tasks, with_slots, working, then_some}
-use Rattle.server_model.specs.Start.{next_thread, server_for, start_thread, captured, left_after, capture_from, capture}
-use Rattle.server_model.specs.Commit.{go_on, begun, spawn_with, spawn, pair_begun, par_with, par}
+use Rattle.heap_law.specs.Below.fr_base.Rooms.{WithRoom}
+use Rattle.heap_law.specs.Below.fr_base.declared.label.Label.TheVariants as label
+use Rattle.heap_law.specs.Below.fr_base.declared.step.Fresh.TheVariants as fresh
+use Rattle.heap_law.specs.Below.heap_partition.declared.value.Owned.{Owned}
+use Rattle.heap_law.specs.Below.heap_partition.declared.value.Owned.TheVariants as owned
+use Rattle.heap_law.specs.Below.mut_borrow.declared.shared.SharedRef.{SharedRef}
+use Rattle.heap_law.specs.Below.join_home.Tasks.{Task, TaskState, going, in_pair, can_begin, can_begin_pair}
+use Rattle.heap_law.specs.Below.join_home.Tasks as tasks
+use Rattle.heap_law.specs.Below.thread_state.View.{new_thread}
+use Rattle.heap_law.specs.Below.thread_state.declared.phase.Phase.TheVariants as phase
+use Rattle.heap_law.specs.Below.thread_state.declared.value.Value.{Value}
+use Rattle.heap_law.specs.Below.thread_state.declared.value.Value.TheVariants as value
+use Rattle.heap_law.specs.Below.server_msgs.declared.message.Message.{Message}
+use Rattle.heap_law.specs.Below.server_msgs.declared.message.Message.TheVariants as message
+use Rattle.heap_law.specs.Below.journal.declared.act.Act.TheVariants as act
+use Rattle.heap_law.specs.Below.server_model.Servers.{Rest}
+use Rattle.heap_law.specs.Below.server_model.Work.{Work, Hand, sent_from, note, label_all, with_tasks, with_slots, working, then_some}
+use Rattle.heap_law.specs.Below.server_model.Start.{next_thread, server_for, start_thread, captured, left_after, capture_from, capture}
+use Rattle.heap_law.specs.Below.server_model.Commit.{go_on, begun, spawn_with, spawn, pair_begun, par_with, par}
 use Rattle.heap_law.specs.Things.{Thing, Location, Spot, in_hand, in_slot, at_slot, at_temp, holds, shares, stands, sent, things_at, value_things, slot_things, task_things, thread_things, message_things}
 use Rattle.event_law.specs.Laws.{Gives}
 use Rattle.event_law.proofs.Trades.{Trade, tot-append, tot-push, trade_left, trade_push}
@@ -57,7 +57,7 @@ loose_moves x s r p q l m = in_turn (goes (shares l (record x { pinned = false }
 
 captured_moves : (branch moves : Bool) (v u : Value) → captured branch moves v ≡ Some u → Moves u
 captured_moves branch true (value.Own v) u e = subst Moves (some_same e) (own_moves v)
-captured_moves branch false (value.Own v) u e = by (Rattle.server_model.specs.Places.owns_nothing v) e
+captured_moves branch false (value.Own v) u e = by (Rattle.heap_law.specs.Below.server_model.Places.owns_nothing v) e
   where
     by : (b : Bool) → (if b then Some (value.Own v) else None) ≡ Some u → Moves u
     by true d = subst Moves (some_same d) (own_moves v)

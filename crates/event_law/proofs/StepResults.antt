@@ -1,24 +1,24 @@
 -- In a sound cluster the step at the end of a pair has a result, and that of a join whose result is there.
 use Rattle.std.proofs.Common.{◌≡◌, ℕ, is_some, Bool, true, false, List, [], ◌∷◌, Option, Some, IsSome, refl, sym, subst, arith}
 use Rattle.std.specs.Prelude.{slice_get, option_map, length}
-use Rattle.fr_base.specs.Lists.{last_of}
-use Rattle.fr_base.specs.declared.instruction.Instr.{Instr}
-use Rattle.fr_base.specs.declared.instruction.Instr.TheVariants as instr
-use Rattle.fr_base.specs.declared.instruction.Operand.{Operand}
-use Rattle.fr_base.specs.declared.instruction.Operand.TheVariants as operand
-use Rattle.heap_partition.specs.declared.value.Owned.{Owned}
-use Rattle.heap_partition.specs.declared.value.Owned.TheVariants as owned
-use Rattle.migration.specs.Packing.{unpin_all}
-use Rattle.thread_state.specs.View.{ThreadState}
-use Rattle.thread_state.specs.declared.value.Value.{Value}
-use Rattle.thread_state.specs.declared.value.Value.TheVariants as value
-use Rattle.thread_state.specs.declared.phase.Phase.{Phase}
-use Rattle.thread_state.specs.declared.phase.Phase.TheVariants as phase
-use Rattle.server_model.specs.declared.event.What.TheVariants.{Step}
-use Rattle.server_model.specs.Servers.{Server, Cluster, server_at}
-use Rattle.server_model.specs.Work.{Hand, thread_in, then_some, taken_as, task_of, push_temp, with_temps, front_of}
-use Rattle.server_model.specs.Commit.{goes_on, go_on, take_gift, join, par_end, settle}
-use Rattle.server_model.specs.Events.{can_step, has_phase, enabled, begin_work, committed, step, step_in, stepped, does}
+use Rattle.heap_law.specs.Below.fr_base.Lists.{last_of}
+use Rattle.heap_law.specs.Below.fr_base.declared.instruction.Instr.{Instr}
+use Rattle.heap_law.specs.Below.fr_base.declared.instruction.Instr.TheVariants as instr
+use Rattle.heap_law.specs.Below.fr_base.declared.instruction.Operand.{Operand}
+use Rattle.heap_law.specs.Below.fr_base.declared.instruction.Operand.TheVariants as operand
+use Rattle.heap_law.specs.Below.heap_partition.declared.value.Owned.{Owned}
+use Rattle.heap_law.specs.Below.heap_partition.declared.value.Owned.TheVariants as owned
+use Rattle.heap_law.specs.Below.migration.Packing.{unpin_all}
+use Rattle.heap_law.specs.Below.thread_state.View.{ThreadState}
+use Rattle.heap_law.specs.Below.thread_state.declared.value.Value.{Value}
+use Rattle.heap_law.specs.Below.thread_state.declared.value.Value.TheVariants as value
+use Rattle.heap_law.specs.Below.thread_state.declared.phase.Phase.{Phase}
+use Rattle.heap_law.specs.Below.thread_state.declared.phase.Phase.TheVariants as phase
+use Rattle.heap_law.specs.Below.server_model.declared.event.What.TheVariants.{Step}
+use Rattle.heap_law.specs.Below.server_model.Servers.{Server, Cluster, server_at}
+use Rattle.heap_law.specs.Below.server_model.Work.{Hand, thread_in, then_some, taken_as, task_of, push_temp, with_temps, front_of}
+use Rattle.heap_law.specs.Below.server_model.Commit.{goes_on, go_on, take_gift, join, par_end, settle}
+use Rattle.heap_law.specs.Below.server_model.Events.{can_step, has_phase, enabled, begin_work, committed, step, step_in, stepped, does}
 use Rattle.heap_law.specs.Names.{other, if_so}
 use Rattle.heap_law.specs.Follow.{Standing}
 use Rattle.heap_law.specs.Sight.{sight}

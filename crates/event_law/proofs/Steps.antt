@@ -1,15 +1,15 @@
 -- A step of a thread: its place is made ready, and the plain step follows where it is.
 use Rattle.std.proofs.Common.{◌≡◌, ℕ, List, ◌++◌, Option, Some, None, refl}
 use Rattle.std.specs.Prelude.{slice_get, option_map}
-use Rattle.fr_base.specs.declared.instruction.Instr.{Instr}
-use Rattle.fr_base.specs.declared.settings.Options.{Options}
-use Rattle.thread_state.specs.View.{ThreadState}
-use Rattle.server_model.specs.declared.event.What.TheVariants.{Step}
-use Rattle.server_model.specs.Servers.{Server}
-use Rattle.server_model.specs.Work.{Hand, put_back, thread_in, without_thread, then_some}
-use Rattle.server_model.specs.Prepare.{Prepared, ready, requested, nothing, access_of, prepare}
-use Rattle.server_model.specs.Commit.{Committed, done, waits, refused, commit, settle}
-use Rattle.server_model.specs.Events.{begin_work, begin_at, Stepped, done_step, wait_step, committed, prepared, step, step_in, stepped, does}
+use Rattle.heap_law.specs.Below.fr_base.declared.instruction.Instr.{Instr}
+use Rattle.heap_law.specs.Below.fr_base.declared.settings.Options.{Options}
+use Rattle.heap_law.specs.Below.thread_state.View.{ThreadState}
+use Rattle.heap_law.specs.Below.server_model.declared.event.What.TheVariants.{Step}
+use Rattle.heap_law.specs.Below.server_model.Servers.{Server}
+use Rattle.heap_law.specs.Below.server_model.Work.{Hand, put_back, thread_in, without_thread, then_some}
+use Rattle.heap_law.specs.Below.server_model.Prepare.{Prepared, ready, requested, nothing, access_of, prepare}
+use Rattle.heap_law.specs.Below.server_model.Commit.{Committed, done, waits, refused, commit, settle}
+use Rattle.heap_law.specs.Below.server_model.Events.{begin_work, begin_at, Stepped, done_step, wait_step, committed, prepared, step, step_in, stepped, does}
 use Rattle.heap_law.specs.Things.{Thing, server_things}
 use Rattle.event_law.specs.Kinds.{instr_kind}
 use Rattle.event_law.specs.Laws.{Gives}

@@ -1,12 +1,12 @@
 -- How many task values of each thread an event leaves: as many as there were, or one more where a thread is spawned.
 use Rattle.std.proofs.Common.{◌≡◌, ℕ, Some, refl, sym, subst}
 use Rattle.std.specs.Prelude.{option_map}
-use Rattle.journal.specs.View.{EntryView}
-use Rattle.server_model.specs.declared.event.Event.{Event}
-use Rattle.server_model.specs.Servers.{Server, Cluster, server_at}
-use Rattle.server_model.specs.Work.{then_some}
-use Rattle.server_model.specs.Start.{next_thread}
-use Rattle.server_model.specs.Clusters.{with_server, done_at, act_at}
+use Rattle.heap_law.specs.Below.journal.View.{EntryView}
+use Rattle.heap_law.specs.Below.server_model.declared.event.Event.{Event}
+use Rattle.heap_law.specs.Below.server_model.Servers.{Server, Cluster, server_at}
+use Rattle.heap_law.specs.Below.server_model.Work.{then_some}
+use Rattle.heap_law.specs.Below.server_model.Start.{next_thread}
+use Rattle.heap_law.specs.Below.server_model.Clusters.{with_server, done_at, act_at}
 use Rattle.heap_law.specs.Things.{things_of}
 use Rattle.heap_law.specs.Coherent.{IsSound}
 use Rattle.event_law.specs.Kinds.{Kind, finished, released, step_box, step_spawn, step_join, step_par, kind_of}

@@ -2,25 +2,25 @@
 use Rattle.std.proofs.Common.{◌≡◌, ℕ, zero, suc, ◌+◌, ◌*◌, ◌-◌, ◌≤◌, ◌==◌, ◌&&◌, nat_lt, not, is_some, Bool, true, false, if◌then◌else◌, List, [], ◌∷◌, ◌++◌, length, Option, Some, None, IsSome, refl, sym, ap, subst, ◌∙◌, arith}
 use Rattle.std.specs.Prelude.{slice_get}
 use Rattle.std.proofs.lemmas.Bool.{eqb-true}
-use Rattle.fr_typing.proofs.PlaceLemmas.{eq_cases}
-use Rattle.fr_base.specs.Lists.{last_of}
-use Rattle.fr_base.specs.declared.instruction.Instr.{Instr}
-use Rattle.fr_base.specs.declared.instruction.Instr.TheVariants as instr
-use Rattle.fr_base.specs.declared.instruction.Operand.{Operand}
-use Rattle.fr_base.specs.declared.instruction.Operand.TheVariants as operand
-use Rattle.fr_base.specs.declared.release.Released.TheVariants as released
-use Rattle.heap_partition.specs.declared.value.Owned.{Owned}
-use Rattle.heap_partition.specs.declared.value.Owned.TheVariants as owned
-use Rattle.join_home.specs.Tasks.{Task, TaskState, going, let_go, kept, in_pair, task_in, state_in, asked_from, let_go_from}
-use Rattle.join_home.specs.Tasks as tasks
-use Rattle.thread_state.specs.View.{ThreadState}
-use Rattle.thread_state.specs.declared.value.Value.{Value}
-use Rattle.thread_state.specs.declared.value.Value.TheVariants as value
-use Rattle.thread_state.specs.declared.phase.Phase.{Phase}
-use Rattle.thread_state.specs.declared.phase.Phase.TheVariants as phase
-use Rattle.server_msgs.specs.declared.message.Message.{Message}
-use Rattle.server_msgs.specs.declared.message.Message.TheVariants as message
-use Rattle.server_model.specs.Servers.{Server, Cluster, server_at}
+use Rattle.heap_law.proofs.Below.fr_typing.PlaceLemmas.{eq_cases}
+use Rattle.heap_law.specs.Below.fr_base.Lists.{last_of}
+use Rattle.heap_law.specs.Below.fr_base.declared.instruction.Instr.{Instr}
+use Rattle.heap_law.specs.Below.fr_base.declared.instruction.Instr.TheVariants as instr
+use Rattle.heap_law.specs.Below.fr_base.declared.instruction.Operand.{Operand}
+use Rattle.heap_law.specs.Below.fr_base.declared.instruction.Operand.TheVariants as operand
+use Rattle.heap_law.specs.Below.fr_base.declared.release.Released.TheVariants as released
+use Rattle.heap_law.specs.Below.heap_partition.declared.value.Owned.{Owned}
+use Rattle.heap_law.specs.Below.heap_partition.declared.value.Owned.TheVariants as owned
+use Rattle.heap_law.specs.Below.join_home.Tasks.{Task, TaskState, going, let_go, kept, in_pair, task_in, state_in, asked_from, let_go_from}
+use Rattle.heap_law.specs.Below.join_home.Tasks as tasks
+use Rattle.heap_law.specs.Below.thread_state.View.{ThreadState}
+use Rattle.heap_law.specs.Below.thread_state.declared.value.Value.{Value}
+use Rattle.heap_law.specs.Below.thread_state.declared.value.Value.TheVariants as value
+use Rattle.heap_law.specs.Below.thread_state.declared.phase.Phase.{Phase}
+use Rattle.heap_law.specs.Below.thread_state.declared.phase.Phase.TheVariants as phase
+use Rattle.heap_law.specs.Below.server_msgs.declared.message.Message.{Message}
+use Rattle.heap_law.specs.Below.server_msgs.declared.message.Message.TheVariants as message
+use Rattle.heap_law.specs.Below.server_model.Servers.{Server, Cluster, server_at}
 use Rattle.heap_law.specs.Names.{tot, one, other, if_so, task_values}
 use Rattle.heap_law.specs.Things.{Thing, holds, sent, stands, noted, flies, counts, as_content, as_result, things_at, gift_things, walk_things, slot_things, temp_things, thread_things, standing_things, waiting_things, leaving_things, message_things, server_things, servers_things, things_of}
 use Rattle.heap_law.specs.Follow.{Standing, threads_in, thread_at}
@@ -51,7 +51,7 @@ pub record SeesThreads (f : Thing → ℕ) : Type 0 where
   pub unnoted : Unnoted f
   pub counted : (s a b c d e : ℕ) → f (counts s a b c d e) ≡ 0
   pub sends : (t : ℕ) (m : Message) → f (sent t m) ≡ 0
-  pub flying : (w : ℕ) (c : Rattle.heap_partition.specs.declared.value.Cell.Cell) → f (flies w c) ≡ 0
+  pub flying : (w : ℕ) (c : Rattle.heap_law.specs.Below.heap_partition.declared.value.Cell.Cell) → f (flies w c) ≡ 0
 
 module _ (f g : Thing → ℕ) (sees : SeesThreads f) (less : (r : ℕ) (p : Bool) (x : ThreadState) → f (stands r p x) ≤ tot g (thread_things r p x)) where
   thread_less : (r : ℕ) (p : Bool) (x : ThreadState) → tot f (thread_things r p x) ≤ tot g (thread_things r p x)

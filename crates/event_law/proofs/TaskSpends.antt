@@ -1,27 +1,27 @@
 -- An event that spends a task value: the delivery of a task's `release`, and a join that is done. The rules keep one fact until it goes, and another from there.
 use Rattle.std.proofs.Common.{◌≡◌, ℕ, ◌+◌, ◌==◌, false, List, [], ◌∷◌, ◌++◌, Some, None, refl, sym, ap, subst, ◌∙◌, arith}
 use Rattle.std.specs.Prelude.{slice_get, option_map}
-use Rattle.fr_base.specs.declared.instruction.Instr.{Instr}
-use Rattle.fr_base.specs.declared.instruction.Instr.TheVariants as instr
-use Rattle.fr_base.specs.declared.instruction.Operand.{Operand}
-use Rattle.fr_base.specs.declared.instruction.Operand.TheVariants as operand
-use Rattle.fr_base.specs.declared.name.MutexNo.{MutexNo}
-use Rattle.fr_base.specs.declared.release.Released.TheVariants as released
-use Rattle.fr_base.specs.declared.settings.Options.{Options}
-use Rattle.heap_partition.specs.declared.value.Owned.{Owned}
-use Rattle.heap_partition.specs.declared.value.Owned.TheVariants as owned
-use Rattle.thread_state.specs.View.{ThreadState}
-use Rattle.thread_state.specs.declared.value.Value.{Value}
-use Rattle.thread_state.specs.declared.value.Value.TheVariants as value
-use Rattle.server_msgs.specs.declared.message.Message.TheVariants as message
-use Rattle.journal.specs.View.{EntryView}
-use Rattle.server_model.specs.declared.event.What.{What}
-use Rattle.server_model.specs.declared.event.What.TheVariants.{Step, Deliver}
-use Rattle.server_model.specs.Servers.{Server, Cluster, server_at}
-use Rattle.server_model.specs.Work.{Hand, Popped, last_of, receive, pop, taken_as, task_of, push_temp, put_back, thread_in, without_thread, then_some}
-use Rattle.server_model.specs.Commit.{take_gift, join}
-use Rattle.server_model.specs.Events.{enabled, begin_work, begin_at, left_by, received, release, deliver_message, deliver, committed, step, step_in, stepped, does}
-use Rattle.server_model.specs.Clusters.{with_server, done_at, act_at}
+use Rattle.heap_law.specs.Below.fr_base.declared.instruction.Instr.{Instr}
+use Rattle.heap_law.specs.Below.fr_base.declared.instruction.Instr.TheVariants as instr
+use Rattle.heap_law.specs.Below.fr_base.declared.instruction.Operand.{Operand}
+use Rattle.heap_law.specs.Below.fr_base.declared.instruction.Operand.TheVariants as operand
+use Rattle.heap_law.specs.Below.fr_base.declared.name.MutexNo.{MutexNo}
+use Rattle.heap_law.specs.Below.fr_base.declared.release.Released.TheVariants as released
+use Rattle.heap_law.specs.Below.fr_base.declared.settings.Options.{Options}
+use Rattle.heap_law.specs.Below.heap_partition.declared.value.Owned.{Owned}
+use Rattle.heap_law.specs.Below.heap_partition.declared.value.Owned.TheVariants as owned
+use Rattle.heap_law.specs.Below.thread_state.View.{ThreadState}
+use Rattle.heap_law.specs.Below.thread_state.declared.value.Value.{Value}
+use Rattle.heap_law.specs.Below.thread_state.declared.value.Value.TheVariants as value
+use Rattle.heap_law.specs.Below.server_msgs.declared.message.Message.TheVariants as message
+use Rattle.heap_law.specs.Below.journal.View.{EntryView}
+use Rattle.heap_law.specs.Below.server_model.declared.event.What.{What}
+use Rattle.heap_law.specs.Below.server_model.declared.event.What.TheVariants.{Step, Deliver}
+use Rattle.heap_law.specs.Below.server_model.Servers.{Server, Cluster, server_at}
+use Rattle.heap_law.specs.Below.server_model.Work.{Hand, Popped, last_of, receive, pop, taken_as, task_of, push_temp, put_back, thread_in, without_thread, then_some}
+use Rattle.heap_law.specs.Below.server_model.Commit.{take_gift, join}
+use Rattle.heap_law.specs.Below.server_model.Events.{enabled, begin_work, begin_at, left_by, received, release, deliver_message, deliver, committed, step, step_in, stepped, does}
+use Rattle.heap_law.specs.Below.server_model.Clusters.{with_server, done_at, act_at}
 use Rattle.heap_law.specs.Names.{tot, one}
 use Rattle.heap_law.specs.Paths.{popped, joined_thread}
 use Rattle.heap_law.specs.Paths as paths

@@ -1,10 +1,10 @@
 -- In a sound cluster a thread that stands at a server is the one that is found under its number.
 use Rattle.std.proofs.Common.{◌≡◌, ◌≤◌, ℕ, ◌+◌, false, if◌then◌else◌, List, [], ◌∷◌, ◌++◌, Some, refl, sym, ap, subst, ◌∙◌, arith}
 use Rattle.std.proofs.lemmas.Bool.{eq-eqb}
-use Rattle.fr_typing.proofs.PlaceLemmas.{eq_cases}
-use Rattle.thread_state.specs.View.{ThreadState}
-use Rattle.server_model.specs.Servers.{Server, Cluster, server_at}
-use Rattle.server_model.specs.Work.{thread_in}
+use Rattle.heap_law.proofs.Below.fr_typing.PlaceLemmas.{eq_cases}
+use Rattle.heap_law.specs.Below.thread_state.View.{ThreadState}
+use Rattle.heap_law.specs.Below.server_model.Servers.{Server, Cluster, server_at}
+use Rattle.heap_law.specs.Below.server_model.Work.{thread_in}
 use Rattle.heap_law.specs.Names.{tot, one}
 use Rattle.heap_law.specs.Things.{Thing, stands, things_at, partition_things, copy_things, mutex_things, task_things, standing_things, waiting_things, leaving_things, server_things, servers_things, things_of}
 use Rattle.heap_law.specs.Follow.{Standing, threads_in, thread_at}

@@ -1,27 +1,27 @@
 -- Each event of a sound cluster keeps the sums on asking: who waits for an answer, who is noted as a half of a pair, who goes on, and whose result stands somewhere.
 use Rattle.std.proofs.Common.{◌≡◌, ℕ, ◌+◌, ◌==◌, ◌&&◌, not, Bool, true, false, nat_lt, if◌then◌else◌, List, [], ◌∷◌, length, Option, Some, None, refl, ap, arith}
 use Rattle.std.specs.Prelude.{slice_get, option_map}
-use Rattle.fr_base.specs.declared.release.Released.TheVariants as released
-use Rattle.fr_base.specs.declared.instruction.Instr.{Instr}
-use Rattle.heap_partition.specs.declared.value.Owned.TheVariants as owned
-use Rattle.read_cache.specs.Cache.{Copy, can_evict, evict}
-use Rattle.mutex_home.specs.Mutexes.{Mutex, mutex_in}
-use Rattle.thread_state.specs.View.{ThreadState}
-use Rattle.server_msgs.specs.declared.message.Message.{Message}
-use Rattle.server_msgs.specs.declared.message.Message.TheVariants as message
-use Rattle.journal.specs.View.{EntryView}
-use Rattle.server_model.specs.declared.event.Event.{Event}
-use Rattle.server_model.specs.declared.event.What.{What}
-use Rattle.server_model.specs.declared.event.What.TheVariants.{Step, Deliver, Evict, Migrate}
-use Rattle.server_model.specs.Servers.{Server, Cluster, server_at}
-use Rattle.server_model.specs.Work.{Work, then_some, thread_in}
-use Rattle.server_model.specs.Objects.{deliver_fetch, deliver_fetched, deliver_move, deliver_moved, deliver_drop}
-use Rattle.server_model.specs.Sharing.{deliver_lock, waits_for_lock, deliver_granted, deliver_unlock, deliver_dup, waits_for_dup, deliver_dupped}
-use Rattle.server_model.specs.Joining.{deliver_join, waits_for_join, deliver_joined}
-use Rattle.migration.specs.Packing.{unpin_all, used_words, packed, pack_thread}
-use Rattle.server_model.specs.Start.{next_thread}
-use Rattle.server_model.specs.Events.{can_step, is_ready, has_phase, enabled, begin_work, left_by, received, release, deliver_message, step_in, stepped, does}
-use Rattle.server_model.specs.Clusters.{done_at, act_at, apply}
+use Rattle.heap_law.specs.Below.fr_base.declared.release.Released.TheVariants as released
+use Rattle.heap_law.specs.Below.fr_base.declared.instruction.Instr.{Instr}
+use Rattle.heap_law.specs.Below.heap_partition.declared.value.Owned.TheVariants as owned
+use Rattle.heap_law.specs.Below.read_cache.Cache.{Copy, can_evict, evict}
+use Rattle.heap_law.specs.Below.mutex_home.Mutexes.{Mutex, mutex_in}
+use Rattle.heap_law.specs.Below.thread_state.View.{ThreadState}
+use Rattle.heap_law.specs.Below.server_msgs.declared.message.Message.{Message}
+use Rattle.heap_law.specs.Below.server_msgs.declared.message.Message.TheVariants as message
+use Rattle.heap_law.specs.Below.journal.View.{EntryView}
+use Rattle.heap_law.specs.Below.server_model.declared.event.Event.{Event}
+use Rattle.heap_law.specs.Below.server_model.declared.event.What.{What}
+use Rattle.heap_law.specs.Below.server_model.declared.event.What.TheVariants.{Step, Deliver, Evict, Migrate}
+use Rattle.heap_law.specs.Below.server_model.Servers.{Server, Cluster, server_at}
+use Rattle.heap_law.specs.Below.server_model.Work.{Work, then_some, thread_in}
+use Rattle.heap_law.specs.Below.server_model.Objects.{deliver_fetch, deliver_fetched, deliver_move, deliver_moved, deliver_drop}
+use Rattle.heap_law.specs.Below.server_model.Sharing.{deliver_lock, waits_for_lock, deliver_granted, deliver_unlock, deliver_dup, waits_for_dup, deliver_dupped}
+use Rattle.heap_law.specs.Below.server_model.Joining.{deliver_join, waits_for_join, deliver_joined}
+use Rattle.heap_law.specs.Below.migration.Packing.{unpin_all, used_words, packed, pack_thread}
+use Rattle.heap_law.specs.Below.server_model.Start.{next_thread}
+use Rattle.heap_law.specs.Below.server_model.Events.{can_step, is_ready, has_phase, enabled, begin_work, left_by, received, release, deliver_message, step_in, stepped, does}
+use Rattle.heap_law.specs.Below.server_model.Clusters.{done_at, act_at, apply}
 use Rattle.heap_law.specs.Names.{tot, one, if_so}
 use Rattle.heap_law.specs.Things.{at_home, servers_things, things_of}
 use Rattle.heap_law.specs.Sharing.{queued_inside}
@@ -92,7 +92,7 @@ module _ (k : Cluster) (sound : IsSound k) (few : FewEvents k) (number : ℕ) (s
   Done made spent r = Turns (by_so_much made spent) s r.0
 
   -- no thread waits for a mutex whose content is in
-  none_waits : (i : ℕ) (x : Rattle.fr_base.specs.declared.name.MutexNo.MutexNo) (z : Mutex) → mutex_in s.rest.mutexes.there x ≡ Some z → NoneWaits k.code s i z
+  none_waits : (i : ℕ) (x : Rattle.heap_law.specs.Below.fr_base.declared.name.MutexNo.MutexNo) (z : Mutex) → mutex_in s.rest.mutexes.there x ≡ Some z → NoneWaits k.code s i z
   none_waits i x z e inside =
       let f = queued_inside in
       let all : tot f (things_of k) ≡ 0 = sound.mutexes_and_tasks.queue_while_out in
@@ -162,7 +162,7 @@ module _ (k : Cluster) (sound : IsSound k) (few : FewEvents k) (number : ℕ) (s
   evicting : (w : ℕ) → Gives (Done zeros zeros) (does k.code k.options s (Evict w))
   evicting w = by (can_evict s.rest.cache w)
     where
-      by : (b : Bool) → Gives (Done zeros zeros) (option_map (left_by s.events None None) (option_map (λ x. record { work = x; threads = s.threads }) (if b then Some (Rattle.server_model.specs.Work.note (Rattle.journal.specs.declared.act.Act.TheVariants.Evict w) (Rattle.server_model.specs.Work.with_cache (evict s.rest.cache w) (begin_work s.rest))) else None)))
+      by : (b : Bool) → Gives (Done zeros zeros) (option_map (left_by s.events None None) (option_map (λ x. record { work = x; threads = s.threads }) (if b then Some (Rattle.heap_law.specs.Below.server_model.Work.note (Rattle.heap_law.specs.Below.journal.declared.act.Act.TheVariants.Evict w) (Rattle.heap_law.specs.Below.server_model.Work.with_cache (evict s.rest.cache w) (begin_work s.rest))) else None)))
       by true = nothing_turns k.code s (evict s.rest.cache w)
       by false = tt
 
@@ -170,12 +170,12 @@ module _ (k : Cluster) (sound : IsSound k) (few : FewEvents k) (number : ℕ) (s
   leaving t target on = by (thread_in s.threads t) refl on
     where
       by : (o : Option ThreadState) → thread_in s.threads t ≡ o → has_phase is_ready o ≡ true
-          → Gives (Done zeros zeros) (option_map (left_by s.events (Some t) None) (then_some o (λ y. option_map (λ p. record { work = Rattle.server_model.specs.Moving.depart target (begin_work s.rest) p; threads = Rattle.server_model.specs.Work.without_thread s.threads t }) (pack_thread (record y { moved_since_step = true }) s.rest.cache))))
+          → Gives (Done zeros zeros) (option_map (left_by s.events (Some t) None) (then_some o (λ y. option_map (λ p. record { work = Rattle.heap_law.specs.Below.server_model.Moving.depart target (begin_work s.rest) p; threads = Rattle.heap_law.specs.Below.server_model.Work.without_thread s.threads t }) (pack_thread (record y { moved_since_step = true }) s.rest.cache))))
       by None e on = tt
       by (Some y) e on = packs (unpin_all (used_words (record y { moved_since_step = true })) s.rest.cache)
         where
           packs : (c : Option (List Copy))
-              → Gives (Done zeros zeros) (option_map (left_by s.events (Some t) None) (option_map (λ p. record { work = Rattle.server_model.specs.Moving.depart target (begin_work s.rest) p; threads = Rattle.server_model.specs.Work.without_thread s.threads t }) (option_map (λ left. (packed (record y { moved_since_step = true }), left)) c)))
+              → Gives (Done zeros zeros) (option_map (left_by s.events (Some t) None) (option_map (λ p. record { work = Rattle.heap_law.specs.Below.server_model.Moving.depart target (begin_work s.rest) p; threads = Rattle.heap_law.specs.Below.server_model.Work.without_thread s.threads t }) (option_map (λ left. (packed (record y { moved_since_step = true }), left)) c)))
           packs None = tt
           packs (Some cs) = leaving_turns k.code s t target y (packed (record y { moved_since_step = true })) cs e refl refl (no_gift k sound number s here t y e (ready_ungot y.phase on)) (no_gift k sound number s here t y e (ready_ungot y.phase on)) on
 

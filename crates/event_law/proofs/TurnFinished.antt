@@ -2,22 +2,22 @@
 use Rattle.std.proofs.Common.{◌≡◌, ℕ, ◌+◌, ◌==◌, ◌&&◌, ◌||◌, not, Bool, true, false, if◌then◌else◌, List, [], ◌∷◌, ◌++◌, Option, Some, None, refl, sym, ap, ap₂, subst, ◌∙◌, arith}
 use Rattle.std.specs.Prelude.{slice_get, option_map}
 use Rattle.std.proofs.lemmas.Bool.{eqb-true}
-use Rattle.fr_base.specs.declared.instruction.Instr.{Instr}
-use Rattle.heap_partition.specs.declared.value.Owned.{Owned}
-use Rattle.join_home.specs.Tasks.{Task, TaskState, going, let_go, kept, in_pair, task_in, state_in, with_state, without_task, over_of, over_in, pair_ended, ended_from}
-use Rattle.join_home.specs.Tasks as tasks
-use Rattle.join_home.specs.declared.answers.EndedAs.{EndedAs}
-use Rattle.join_home.specs.declared.answers.EndedAs.TheVariants as over
-use Rattle.thread_state.specs.View.{ThreadState, is_over}
-use Rattle.thread_state.specs.declared.phase.Phase.{Phase}
-use Rattle.thread_state.specs.declared.phase.Phase.TheVariants as phase
-use Rattle.server_msgs.specs.declared.message.Message.{Message}
-use Rattle.server_msgs.specs.declared.message.Message.TheVariants as message
-use Rattle.server_model.specs.Servers.{Rest, Server}
-use Rattle.server_model.specs.Drop.{give_up}
-use Rattle.server_model.specs.Work.{Work, Hand, Site, receive, sent_from, thread_in, with_tasks, with_phase, then_some}
-use Rattle.server_model.specs.Joining.{got_par, pair_over, end_answer, deliver_finished}
-use Rattle.server_model.specs.Events.{begin_work, received}
+use Rattle.heap_law.specs.Below.fr_base.declared.instruction.Instr.{Instr}
+use Rattle.heap_law.specs.Below.heap_partition.declared.value.Owned.{Owned}
+use Rattle.heap_law.specs.Below.join_home.Tasks.{Task, TaskState, going, let_go, kept, in_pair, task_in, state_in, with_state, without_task, over_of, over_in, pair_ended, ended_from}
+use Rattle.heap_law.specs.Below.join_home.Tasks as tasks
+use Rattle.heap_law.specs.Below.join_home.declared.answers.EndedAs.{EndedAs}
+use Rattle.heap_law.specs.Below.join_home.declared.answers.EndedAs.TheVariants as over
+use Rattle.heap_law.specs.Below.thread_state.View.{ThreadState, is_over}
+use Rattle.heap_law.specs.Below.thread_state.declared.phase.Phase.{Phase}
+use Rattle.heap_law.specs.Below.thread_state.declared.phase.Phase.TheVariants as phase
+use Rattle.heap_law.specs.Below.server_msgs.declared.message.Message.{Message}
+use Rattle.heap_law.specs.Below.server_msgs.declared.message.Message.TheVariants as message
+use Rattle.heap_law.specs.Below.server_model.Servers.{Rest, Server}
+use Rattle.heap_law.specs.Below.server_model.Drop.{give_up}
+use Rattle.heap_law.specs.Below.server_model.Work.{Work, Hand, Site, receive, sent_from, thread_in, with_tasks, with_phase, then_some}
+use Rattle.heap_law.specs.Below.server_model.Joining.{got_par, pair_over, end_answer, deliver_finished}
+use Rattle.heap_law.specs.Below.server_model.Events.{begin_work, received}
 use Rattle.heap_law.specs.Names.{one, if_so}
 use Rattle.heap_law.specs.Naming.{rising, numbers_of}
 use Rattle.heap_law.specs.Things.{Thing, stands, noted, message_things}

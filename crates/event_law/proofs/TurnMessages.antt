@@ -1,36 +1,36 @@
 -- What the delivery of each message but `finished` changes of what is heard, and that what goes and what comes weigh the same.
 use Rattle.std.proofs.Common.{◌≡◌, ◌≤◌, ℕ, zero, suc, ◌+◌, ◌-◌, ◌^◌, ◌==◌, ◌&&◌, Bool, true, false, nat_lt, if◌then◌else◌, List, [], ◌∷◌, ◌++◌, Option, Some, None, refl, sym, ap, subst, append-nil, arith}
 use Rattle.std.specs.Prelude.{slice_get, option_map, is_some}
-use Rattle.fr_base.specs.Lists.{is_in}
-use Rattle.fr_base.specs.declared.name.MutexNo.{MutexNo}
-use Rattle.fr_base.specs.declared.name.ObjNo.{ObjNo}
-use Rattle.fr_base.specs.declared.place.Lval.{Lval}
-use Rattle.fr_base.specs.declared.instruction.Instr.{Instr}
-use Rattle.fr_base.specs.declared.release.Released.TheVariants as released
-use Rattle.heap_partition.specs.declared.value.Cell.{Cell}
-use Rattle.heap_partition.specs.declared.value.Owned.{Owned}
-use Rattle.owner_box.specs.Partition.{freed}
-use Rattle.read_cache.specs.Cache.{can_fill, can_pin}
-use Rattle.mutex_home.specs.Mutexes.{Mutex, Mutexes, mutex_in, put_mutex, end_mutex, asked_of, asked_in, back_to, back_out, back_in, more_in, more, last_less, less_of, less_in}
-use Rattle.mutex_home.specs.declared.answers.Back.{Back}
-use Rattle.mutex_home.specs.declared.answers.Back.TheVariants as back
-use Rattle.thread_state.specs.View.{ThreadState}
-use Rattle.thread_state.specs.declared.phase.Phase.{Phase}
-use Rattle.thread_state.specs.declared.phase.Phase.TheVariants as phase
-use Rattle.thread_state.specs.declared.value.Value.{Value}
-use Rattle.thread_state.specs.declared.value.Value.TheVariants as value
-use Rattle.server_msgs.specs.declared.message.Message.{Message}
-use Rattle.server_msgs.specs.declared.message.Message.TheVariants as message
-use Rattle.journal.specs.declared.act.Act.TheVariants as act
-use Rattle.server_model.specs.Servers.{Rest, Server}
-use Rattle.server_model.specs.Drop.{give_up}
-use Rattle.server_model.specs.Work.{Work, Hand, Site, receive, sent_from, working, put_back, then_some, thread_in, at_thread, beside_threads, look_object, with_phase, with_mutexes, with_partition, note, used_once}
-use Rattle.server_model.specs.NewWords.{NewWord, can_grow, issue_placed}
-use Rattle.server_model.specs.Places.{Spot, in_slot, value_at, set_pointer}
-use Rattle.server_model.specs.Prepare.{Access, ReadTo, ReadPointer, WriteTo, LendTo, EndRef, passing, write_stars}
-use Rattle.server_model.specs.Objects.{deliver_fetch, waits_for_cell, filled, deliver_fetched, deliver_move, chased, waits_under, arrived_at, arrived_slot, passed_spot, arrived_write, arrived_lend, arrived_end, arrived, instr_access, deliver_moved, deliver_drop}
-use Rattle.server_model.specs.Sharing.{given, answer_lock, deliver_lock, answer_back, deliver_unlock, deliver_dup, give_up_left, release_mutex}
-use Rattle.server_model.specs.Events.{can_step, begin_work, received}
+use Rattle.heap_law.specs.Below.fr_base.Lists.{is_in}
+use Rattle.heap_law.specs.Below.fr_base.declared.name.MutexNo.{MutexNo}
+use Rattle.heap_law.specs.Below.fr_base.declared.name.ObjNo.{ObjNo}
+use Rattle.heap_law.specs.Below.fr_base.declared.place.Lval.{Lval}
+use Rattle.heap_law.specs.Below.fr_base.declared.instruction.Instr.{Instr}
+use Rattle.heap_law.specs.Below.fr_base.declared.release.Released.TheVariants as released
+use Rattle.heap_law.specs.Below.heap_partition.declared.value.Cell.{Cell}
+use Rattle.heap_law.specs.Below.heap_partition.declared.value.Owned.{Owned}
+use Rattle.heap_law.specs.Below.owner_box.Partition.{freed}
+use Rattle.heap_law.specs.Below.read_cache.Cache.{can_fill, can_pin}
+use Rattle.heap_law.specs.Below.mutex_home.Mutexes.{Mutex, Mutexes, mutex_in, put_mutex, end_mutex, asked_of, asked_in, back_to, back_out, back_in, more_in, more, last_less, less_of, less_in}
+use Rattle.heap_law.specs.Below.mutex_home.declared.answers.Back.{Back}
+use Rattle.heap_law.specs.Below.mutex_home.declared.answers.Back.TheVariants as back
+use Rattle.heap_law.specs.Below.thread_state.View.{ThreadState}
+use Rattle.heap_law.specs.Below.thread_state.declared.phase.Phase.{Phase}
+use Rattle.heap_law.specs.Below.thread_state.declared.phase.Phase.TheVariants as phase
+use Rattle.heap_law.specs.Below.thread_state.declared.value.Value.{Value}
+use Rattle.heap_law.specs.Below.thread_state.declared.value.Value.TheVariants as value
+use Rattle.heap_law.specs.Below.server_msgs.declared.message.Message.{Message}
+use Rattle.heap_law.specs.Below.server_msgs.declared.message.Message.TheVariants as message
+use Rattle.heap_law.specs.Below.journal.declared.act.Act.TheVariants as act
+use Rattle.heap_law.specs.Below.server_model.Servers.{Rest, Server}
+use Rattle.heap_law.specs.Below.server_model.Drop.{give_up}
+use Rattle.heap_law.specs.Below.server_model.Work.{Work, Hand, Site, receive, sent_from, working, put_back, then_some, thread_in, at_thread, beside_threads, look_object, with_phase, with_mutexes, with_partition, note, used_once}
+use Rattle.heap_law.specs.Below.server_model.NewWords.{NewWord, can_grow, issue_placed}
+use Rattle.heap_law.specs.Below.server_model.Places.{Spot, in_slot, value_at, set_pointer}
+use Rattle.heap_law.specs.Below.server_model.Prepare.{Access, ReadTo, ReadPointer, WriteTo, LendTo, EndRef, passing, write_stars}
+use Rattle.heap_law.specs.Below.server_model.Objects.{deliver_fetch, waits_for_cell, filled, deliver_fetched, deliver_move, chased, waits_under, arrived_at, arrived_slot, passed_spot, arrived_write, arrived_lend, arrived_end, arrived, instr_access, deliver_moved, deliver_drop}
+use Rattle.heap_law.specs.Below.server_model.Sharing.{given, answer_lock, deliver_lock, answer_back, deliver_unlock, deliver_dup, give_up_left, release_mutex}
+use Rattle.heap_law.specs.Below.server_model.Events.{can_step, begin_work, received}
 use Rattle.heap_law.specs.Names.{tot}
 use Rattle.heap_law.specs.Sharing.{joined_of, got_phase}
 use Rattle.heap_law.specs.Things.{Thing, stands, queued, things_at, queue_things, message_things}

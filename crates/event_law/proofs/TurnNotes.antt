@@ -1,22 +1,22 @@
 -- The delivery of a `join`, of the `release` of a task, and of a thread: what is heard changes by as much as it weighs. A copy goes, and a thread leaves.
 use Rattle.std.proofs.Common.{◌≡◌, ℕ, ◌+◌, ◌==◌, ◌&&◌, not, nat_lt, Bool, true, false, if◌then◌else◌, List, [], ◌∷◌, ◌++◌, Option, Some, None, refl, ap, ap₂, ◌∙◌, arith}
 use Rattle.std.specs.Prelude.{slice_get, option_map}
-use Rattle.fr_base.specs.declared.instruction.Instr.{Instr}
-use Rattle.heap_partition.specs.declared.value.Owned.{Owned}
-use Rattle.fr_base.specs.declared.release.Released.TheVariants as released
-use Rattle.read_cache.specs.Cache.{Copy}
-use Rattle.join_home.specs.Tasks.{Task, TaskState, going, let_go, kept, in_pair, task_in, state_in, with_state, without_task, asked_from, let_go_from}
-use Rattle.join_home.specs.Tasks as tasks
-use Rattle.thread_state.specs.View.{ThreadState, is_over}
-use Rattle.thread_state.specs.declared.phase.Phase.{Phase}
-use Rattle.thread_state.specs.declared.phase.Phase.TheVariants as phase
-use Rattle.server_msgs.specs.declared.message.Message.{Message}
-use Rattle.server_msgs.specs.declared.message.Message.TheVariants as message
-use Rattle.server_model.specs.Servers.{Rest, Server}
-use Rattle.server_model.specs.Work.{Work, receive, sent_from, with_thread, without_thread, thread_in, with_tasks}
-use Rattle.server_model.specs.Sharing.{give_up_left}
-use Rattle.server_model.specs.Joining.{answer_join, deliver_join, release_task}
-use Rattle.server_model.specs.Events.{is_ready, begin_work}
+use Rattle.heap_law.specs.Below.fr_base.declared.instruction.Instr.{Instr}
+use Rattle.heap_law.specs.Below.heap_partition.declared.value.Owned.{Owned}
+use Rattle.heap_law.specs.Below.fr_base.declared.release.Released.TheVariants as released
+use Rattle.heap_law.specs.Below.read_cache.Cache.{Copy}
+use Rattle.heap_law.specs.Below.join_home.Tasks.{Task, TaskState, going, let_go, kept, in_pair, task_in, state_in, with_state, without_task, asked_from, let_go_from}
+use Rattle.heap_law.specs.Below.join_home.Tasks as tasks
+use Rattle.heap_law.specs.Below.thread_state.View.{ThreadState, is_over}
+use Rattle.heap_law.specs.Below.thread_state.declared.phase.Phase.{Phase}
+use Rattle.heap_law.specs.Below.thread_state.declared.phase.Phase.TheVariants as phase
+use Rattle.heap_law.specs.Below.server_msgs.declared.message.Message.{Message}
+use Rattle.heap_law.specs.Below.server_msgs.declared.message.Message.TheVariants as message
+use Rattle.heap_law.specs.Below.server_model.Servers.{Rest, Server}
+use Rattle.heap_law.specs.Below.server_model.Work.{Work, receive, sent_from, with_thread, without_thread, thread_in, with_tasks}
+use Rattle.heap_law.specs.Below.server_model.Sharing.{give_up_left}
+use Rattle.heap_law.specs.Below.server_model.Joining.{answer_join, deliver_join, release_task}
+use Rattle.heap_law.specs.Below.server_model.Events.{is_ready, begin_work}
 use Rattle.heap_law.specs.Names.{tot, one, if_so}
 use Rattle.heap_law.specs.Things.{Thing, stands, noted, sent, message_things, thread_things}
 use Rattle.heap_law.specs.Requests.{waits, branch_places, halves_to, halves_needed, pair_notes, pair_places}

@@ -1,13 +1,13 @@
 -- What an event changes of what is heard of its server, and the sums on asking in its cluster.
 use Rattle.std.proofs.Common.{◌≡◌, ℕ, ◌+◌, ◌^◌, ◌<◌, true, false, List, [], ◌∷◌, Option, Some, None, refl, sym, subst, ◌∙◌, arith}
 use Rattle.std.specs.Prelude.{slice_get, option_map}
-use Rattle.fr_base.specs.declared.instruction.Instr.{Instr}
-use Rattle.thread_state.specs.View.{ThreadState}
-use Rattle.journal.specs.View.{EntryView}
-use Rattle.server_model.specs.Servers.{Server, Cluster, server_at}
-use Rattle.server_model.specs.Work.{Hand, set_thread, thread_in}
-use Rattle.server_model.specs.Start.{next_thread}
-use Rattle.server_model.specs.Events.{can_step, begin_work, step, step_in, Stepped, stepped}
+use Rattle.heap_law.specs.Below.fr_base.declared.instruction.Instr.{Instr}
+use Rattle.heap_law.specs.Below.thread_state.View.{ThreadState}
+use Rattle.heap_law.specs.Below.journal.View.{EntryView}
+use Rattle.heap_law.specs.Below.server_model.Servers.{Server, Cluster, server_at}
+use Rattle.heap_law.specs.Below.server_model.Work.{Hand, set_thread, thread_in}
+use Rattle.heap_law.specs.Below.server_model.Start.{next_thread}
+use Rattle.heap_law.specs.Below.server_model.Events.{can_step, begin_work, step, step_in, Stepped, stepped}
 use Rattle.heap_law.specs.Names.{tot}
 use Rattle.heap_law.specs.Things.{Thing, stands, server_things, servers_things, things_of}
 use Rattle.heap_law.specs.Sight.{sight}
@@ -31,13 +31,13 @@ pub record Turns (dues : Dues) (s s2 : Server) : Type 0 where
   pub fair : Fair dues olds news
 
 -- the sums in its cluster
-pub turned : (dues : Dues) (ss : List Server) (n : ℕ) (s s2 : Server) → server_at ss n ≡ Some s → Turns dues s s2 → Asking dues.code (servers_things ss) → Asking dues.code (servers_things (Rattle.server_model.specs.Clusters.with_server ss n s2))
+pub turned : (dues : Dues) (ss : List Server) (n : ℕ) (s s2 : Server) → server_at ss n ≡ Some s → Turns dues s s2 → Asking dues.code (servers_things ss) → Asking dues.code (servers_things (Rattle.heap_law.specs.Below.server_model.Clusters.with_server ss n s2))
 turned dues ss n s s2 h t k =
     asking_kept dues (servers_things ss) _ t.olds t.news (λ f l. let a = tot-server f ss n s s2 h in omega (arith, a.0, a.1, t.change f l)) t.fair k
 
 -- and what is owed there
 pub owed_turned : (dues : Dues) (ss : List Server) (n : ℕ) (s s2 : Server) → server_at ss n ≡ Some s → Turns dues s s2
-    → (t : ℕ) → tot (owed_of dues.code t) (servers_things (Rattle.server_model.specs.Clusters.with_server ss n s2)) + dues.spent t ≡ tot (owed_of dues.code t) (servers_things ss) + dues.made t
+    → (t : ℕ) → tot (owed_of dues.code t) (servers_things (Rattle.heap_law.specs.Below.server_model.Clusters.with_server ss n s2)) + dues.spent t ≡ tot (owed_of dues.code t) (servers_things ss) + dues.made t
 owed_turned dues ss n s s2 h t = owed_kept dues (servers_things ss) _ t.olds t.news (λ f l. let a = tot-server f ss n s s2 h in omega (arith, a.0, a.1, t.change f l)) t.fair
 
 -- a sound cluster has the sums
@@ -61,7 +61,7 @@ abbrev pub stepping : List Instr → Server → ThreadState → Dues
 stepping code s y = pays code y (made_at (slice_get code y.pc) (next_thread s.rest))
 
 module _ (code : List Instr) (s : Server) (t : ℕ) (y : ThreadState) (here : thread_in s.threads t ≡ Some y) where
-  stepped_turns : (names : Option Rattle.fr_base.specs.declared.step.Fresh.Fresh) (h : Hand) (made : ℕ → ℕ) → After (pays code y made) y s.rest h → Turns (pays code y made) s (stepped s (record { hand = h; names = names })).0
+  stepped_turns : (names : Option Rattle.heap_law.specs.Below.fr_base.declared.step.Fresh.Fresh) (h : Hand) (made : ℕ → ℕ) → After (pays code y made) y s.rest h → Turns (pays code y made) s (stepped s (record { hand = h; names = names })).0
   stepped_turns names h made g =
       let n = s.rest.number in
       let says = g.says in

@@ -1,18 +1,18 @@
 -- Sums of a weight that, of server n, sees threads, messages and counts alone.
 use Rattle.std.proofs.Common.{◌≡◌, ℕ, ◌+◌, Bool, true, false, if◌then◌else◌, List, [], ◌∷◌, ◌++◌, length, Option, Some, None, refl, sym, subst, arith}
-use Rattle.fr_base.specs.declared.name.MutexNo.{MutexNo}
-use Rattle.heap_partition.specs.declared.value.Cell.{Cell}
-use Rattle.heap_partition.specs.declared.value.Owned.{Owned}
-use Rattle.mut_borrow.specs.declared.mutable.MutRef.{MutRef}
-use Rattle.mut_borrow.specs.declared.shared.SharedRef.{SharedRef}
-use Rattle.owner_box.specs.View.{PartitionState}
-use Rattle.read_cache.specs.Cache.{Copy}
-use Rattle.mutex_home.specs.Mutexes.{Mutex}
-use Rattle.join_home.specs.Tasks.{Task, TaskState, kept}
-use Rattle.thread_state.specs.View.{ThreadState}
-use Rattle.thread_state.specs.declared.value.Value.{Value}
-use Rattle.thread_state.specs.declared.value.Value.TheVariants as value
-use Rattle.server_model.specs.Servers.{Server}
+use Rattle.heap_law.specs.Below.fr_base.declared.name.MutexNo.{MutexNo}
+use Rattle.heap_law.specs.Below.heap_partition.declared.value.Cell.{Cell}
+use Rattle.heap_law.specs.Below.heap_partition.declared.value.Owned.{Owned}
+use Rattle.heap_law.specs.Below.mut_borrow.declared.mutable.MutRef.{MutRef}
+use Rattle.heap_law.specs.Below.mut_borrow.declared.shared.SharedRef.{SharedRef}
+use Rattle.heap_law.specs.Below.owner_box.View.{PartitionState}
+use Rattle.heap_law.specs.Below.read_cache.Cache.{Copy}
+use Rattle.heap_law.specs.Below.mutex_home.Mutexes.{Mutex}
+use Rattle.heap_law.specs.Below.join_home.Tasks.{Task, TaskState, kept}
+use Rattle.heap_law.specs.Below.thread_state.View.{ThreadState}
+use Rattle.heap_law.specs.Below.thread_state.declared.value.Value.{Value}
+use Rattle.heap_law.specs.Below.thread_state.declared.value.Value.TheVariants as value
+use Rattle.heap_law.specs.Below.server_model.Servers.{Server}
 use Rattle.heap_law.specs.Names.{tot}
 use Rattle.heap_law.specs.Things.{Thing, Spot, Location, as_gift, as_content, as_result, holds, shares, borrows, locks, lies, vacant, retired, copied, uses, stands, at_home, queued, noted, counts, things_at, is_free, cell_things, free_things, partition_things, copy_things, content_things, queue_things, mutex_things, result_things, task_things, gift_things, walk_things, pin_things, value_things, slot_things, temp_things, thread_things, standing_things, server_things}
 use Rattle.heap_law.proofs.Sums.{tot-append, server_parts, inbox_of, all_sent}

@@ -1,17 +1,17 @@
 -- Values in the hand of an event: put at a spot and taken from there, pushed, popped and let go.
 use Rattle.std.proofs.Common.{◌≡◌, ℕ, zero, suc, ◌+◌, ◌-◌, ◌<◌, Bool, true, false, nat_lt, if◌then◌else◌, List, [], ◌∷◌, ◌++◌, length, take, Option, Some, None, refl, sym, ap, subst, arith}
 use Rattle.std.specs.Prelude.{slice_get, slice_set}
-use Rattle.global_addr.specs.Words.{address_of}
-use Rattle.heap_partition.specs.declared.value.Cell.{Cell}
-use Rattle.heap_partition.specs.declared.value.Owned.{Owned}
-use Rattle.heap_partition.specs.declared.value.Owned.TheVariants as owned
-use Rattle.owner_box.specs.View.{PartitionState}
-use Rattle.owner_box.specs.Partition.{stored, cell_of, with_value}
-use Rattle.thread_state.specs.View.{ThreadState}
-use Rattle.thread_state.specs.declared.value.Value.{Value}
-use Rattle.thread_state.specs.declared.value.Value.TheVariants as value
-use Rattle.server_model.specs.Work.{Hand, with_partition, working, with_slots, with_temps, push_slot, push_temp, last_of, front_of, look, leads_here}
-use Rattle.server_model.specs.Places.{Spot, in_slot, on_top, in_cell, in_copy, nowhere, value_at, value_in, written, note_slot, note_write, put_cell, put_at}
+use Rattle.heap_law.specs.Below.global_addr.Words.{address_of}
+use Rattle.heap_law.specs.Below.heap_partition.declared.value.Cell.{Cell}
+use Rattle.heap_law.specs.Below.heap_partition.declared.value.Owned.{Owned}
+use Rattle.heap_law.specs.Below.heap_partition.declared.value.Owned.TheVariants as owned
+use Rattle.heap_law.specs.Below.owner_box.View.{PartitionState}
+use Rattle.heap_law.specs.Below.owner_box.Partition.{stored, cell_of, with_value}
+use Rattle.heap_law.specs.Below.thread_state.View.{ThreadState}
+use Rattle.heap_law.specs.Below.thread_state.declared.value.Value.{Value}
+use Rattle.heap_law.specs.Below.thread_state.declared.value.Value.TheVariants as value
+use Rattle.heap_law.specs.Below.server_model.Work.{Hand, with_partition, working, with_slots, with_temps, push_slot, push_temp, last_of, front_of, look, leads_here}
+use Rattle.heap_law.specs.Below.server_model.Places.{Spot, in_slot, on_top, in_cell, in_copy, nowhere, value_at, value_in, written, note_slot, note_write, put_cell, put_at}
 use Rattle.heap_law.specs.Names.{tot}
 use Rattle.heap_law.specs.Things.{Thing, Location, in_hand, at_temp, holds, borrows, lies, stands, gift_things, walk_things, value_things, slot_things, temp_things, things_at, thread_things, cell_things, free_things, partition_things}
 use Rattle.heap_law.specs.Things as things

@@ -1,29 +1,29 @@
 -- Laws of events: from a cluster that has the sums, an event of a kind leaves them.
 use Rattle.std.specs.Prelude.{◌≡◌, ◌≤◌, ◌<◌, ◌+◌, ◌^◌, ◌==◌, ⊤, ℕ, true, List, length, take, drop, Option, Some, None, IsSome, slice_get}
 use Rattle.std.specs.List.{AllByRecursion}
-use Rattle.fr_base.specs.declared.name.MutexNo.{MutexNo}
-use Rattle.fr_base.specs.declared.name.ObjNo.{ObjNo}
-use Rattle.fr_base.specs.declared.instruction.Instr.{Instr}
-use Rattle.fr_base.specs.declared.instruction.Instr.TheVariants.{ParEnd}
-use Rattle.fr_base.specs.declared.instruction.Instr.TheVariants as instr
-use Rattle.fr_base.specs.declared.instruction.Operand.{Operand}
-use Rattle.fr_base.specs.declared.release.Released.TheVariants.{Mutex, Task}
-use Rattle.fr_base.specs.declared.settings.Options.{Options}
-use Rattle.global_addr.specs.Words.{server_of}
-use Rattle.heap_partition.specs.declared.value.Cell.{Cell}
-use Rattle.heap_partition.specs.declared.value.Owned.{Owned}
-use Rattle.journal.specs.View.{EntryView}
-use Rattle.thread_state.specs.View.{ThreadState}
-use Rattle.server_msgs.specs.declared.message.Message.TheVariants.{Fetch, Fetched, Move, Moved, Drop, Lock, Granted, Unlock, Dup, Dupped, Release, Start, Join, Joined, Finished, Migrate}
-use Rattle.server_model.specs.declared.event.Event.{Event}
-use Rattle.server_model.specs.declared.event.What.{What}
-use Rattle.server_model.specs.declared.event.What.TheVariants.{Deliver, Evict}
-use Rattle.server_model.specs.declared.event.What.TheVariants as what
-use Rattle.server_model.specs.Servers.{Sent, Server, Cluster, server_at, start_of}
-use Rattle.server_model.specs.Work.{thread_in}
-use Rattle.server_model.specs.Start.{next_thread}
-use Rattle.server_model.specs.Events.{enabled}
-use Rattle.server_model.specs.Clusters.{with_server, with_outbox, hand_over_newer, done_at, act_at, apply}
+use Rattle.heap_law.specs.Below.fr_base.declared.name.MutexNo.{MutexNo}
+use Rattle.heap_law.specs.Below.fr_base.declared.name.ObjNo.{ObjNo}
+use Rattle.heap_law.specs.Below.fr_base.declared.instruction.Instr.{Instr}
+use Rattle.heap_law.specs.Below.fr_base.declared.instruction.Instr.TheVariants.{ParEnd}
+use Rattle.heap_law.specs.Below.fr_base.declared.instruction.Instr.TheVariants as instr
+use Rattle.heap_law.specs.Below.fr_base.declared.instruction.Operand.{Operand}
+use Rattle.heap_law.specs.Below.fr_base.declared.release.Released.TheVariants.{Mutex, Task}
+use Rattle.heap_law.specs.Below.fr_base.declared.settings.Options.{Options}
+use Rattle.heap_law.specs.Below.global_addr.Words.{server_of}
+use Rattle.heap_law.specs.Below.heap_partition.declared.value.Cell.{Cell}
+use Rattle.heap_law.specs.Below.heap_partition.declared.value.Owned.{Owned}
+use Rattle.heap_law.specs.Below.journal.View.{EntryView}
+use Rattle.heap_law.specs.Below.thread_state.View.{ThreadState}
+use Rattle.heap_law.specs.Below.server_msgs.declared.message.Message.TheVariants.{Fetch, Fetched, Move, Moved, Drop, Lock, Granted, Unlock, Dup, Dupped, Release, Start, Join, Joined, Finished, Migrate}
+use Rattle.heap_law.specs.Below.server_model.declared.event.Event.{Event}
+use Rattle.heap_law.specs.Below.server_model.declared.event.What.{What}
+use Rattle.heap_law.specs.Below.server_model.declared.event.What.TheVariants.{Deliver, Evict}
+use Rattle.heap_law.specs.Below.server_model.declared.event.What.TheVariants as what
+use Rattle.heap_law.specs.Below.server_model.Servers.{Sent, Server, Cluster, server_at, start_of}
+use Rattle.heap_law.specs.Below.server_model.Work.{thread_in}
+use Rattle.heap_law.specs.Below.server_model.Start.{next_thread}
+use Rattle.heap_law.specs.Below.server_model.Events.{enabled}
+use Rattle.heap_law.specs.Below.server_model.Clusters.{with_server, with_outbox, hand_over_newer, done_at, act_at, apply}
 use Rattle.heap_law.specs.Names.{tot, some, one}
 use Rattle.heap_law.specs.Things.{Thing, servers_things, things_of}
 use Rattle.heap_law.specs.Sight.{sight, issued}

@@ -1,3 +1,4 @@
+pub mod Below
 pub mod Sums
 pub mod Kinds
 pub mod Laws

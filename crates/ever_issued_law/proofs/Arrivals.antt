@@ -1,45 +1,45 @@
 -- Where an object comes its word is new, so what was issued is issued.
 use Rattle.std.proofs.Common.{◌≡◌, ◌≤◌, ◌<◌, ℕ, ◌^◌, ◌==◌, ◌&&◌, true, false, nat_lt, None, option_map, refl, sym, ap, ap₂, subst, ◌∙◌, arith}
 use Rattle.std.proofs.lemmas.Bool.{eq-eqb}
-use Rattle.fr_base.specs.declared.name.ObjNo.{ObjNo}
-use Rattle.global_addr.specs.Words.{colour_of, server_of, address_of}
-use Rattle.heap_partition.specs.declared.value.Cell.{Cell}
-use Rattle.owner_box.proofs.Issued.{packed}
-use Rattle.owner_box.specs.View.{PartitionState}
-use Rattle.owner_box.specs.Partition.{next_place, new_word}
-use Rattle.server_msgs.specs.declared.message.Message.TheVariants as message
-use Rattle.journal.specs.View.{EntryView}
-use Rattle.server_model.specs.declared.event.Event.{Event}
-use Rattle.server_model.specs.Servers.{Server, Cluster}
-use Rattle.server_model.specs.Work.{Site, then_some, at_thread}
-use Rattle.server_model.specs.Objects.{deliver_moved}
-use Rattle.server_model.specs.Events.{left_by, received, deliver_message, does}
-use Rattle.server_model.specs.Clusters.{apply}
-use Rattle.heap_law.specs.Names.{Among, tot, one, same_object}
-use Rattle.heap_law.specs.Things.{Thing, lies, things_of}
-use Rattle.heap_law.specs.Sight.{issued, sight}
-use Rattle.heap_law.specs.Weights.{states}
-use Rattle.heap_law.specs.Balances.{AtMostOne}
-use Rattle.heap_law.specs.Words.{LeadsTo}
-use Rattle.heap_law.specs.Coherent.{Holds, taken_stands}
-use Rattle.heap_law.proofs.Names.{and_left, and_right}
-use Rattle.heap_law.proofs.Words.{named}
-use Rattle.type_law.specs.ClusterTypes.{IsCoherent}
-use Rattle.path_law.specs.HeapStore.{HasPaths}
-use Rattle.path_law.proofs.InState.{only_one}
-use Rattle.word_law.specs.Reworded.{HasPlaces}
-use Rattle.word_law.specs.Unmoved.{Delivers}
-use Rattle.event_law.specs.Laws.{Gives, FewEvents}
-use Rattle.event_law.proofs.Results.{over_gives, both_give, weaker}
-use Rattle.event_law.proofs.Sending.{applied_part}
-use Rattle.read_law.proofs.Flights.{found, truly}
-use Rattle.still_law.proofs.Addresses.{InPlace, in_place}
-use Rattle.still_law.proofs.Leaving.{others, placed_here}
-use Rattle.result_law.proofs.Pointing.{its_partition}
-use Rattle.write_law.proofs.Memory.{Sane}
-use Rattle.write_law.proofs.Routes.{sane_at, roomy_at}
-use Rattle.rewrite_law.proofs.Later.{later_itself, next_unissued, place_vacant}
-use Rattle.prepare_law.specs.Requests.{WordsRise}
+use Rattle.all_issued_law.specs.Below.fr_base.declared.name.ObjNo.{ObjNo}
+use Rattle.all_issued_law.specs.Below.global_addr.Words.{colour_of, server_of, address_of}
+use Rattle.all_issued_law.specs.Below.heap_partition.declared.value.Cell.{Cell}
+use Rattle.all_issued_law.proofs.Below.owner_box.Issued.{packed}
+use Rattle.all_issued_law.specs.Below.owner_box.View.{PartitionState}
+use Rattle.all_issued_law.specs.Below.owner_box.Partition.{next_place, new_word}
+use Rattle.all_issued_law.specs.Below.server_msgs.declared.message.Message.TheVariants as message
+use Rattle.all_issued_law.specs.Below.journal.View.{EntryView}
+use Rattle.all_issued_law.specs.Below.server_model.declared.event.Event.{Event}
+use Rattle.all_issued_law.specs.Below.server_model.Servers.{Server, Cluster}
+use Rattle.all_issued_law.specs.Below.server_model.Work.{Site, then_some, at_thread}
+use Rattle.all_issued_law.specs.Below.server_model.Objects.{deliver_moved}
+use Rattle.all_issued_law.specs.Below.server_model.Events.{left_by, received, deliver_message, does}
+use Rattle.all_issued_law.specs.Below.server_model.Clusters.{apply}
+use Rattle.all_issued_law.specs.Below.heap_law.Names.{Among, tot, one, same_object}
+use Rattle.all_issued_law.specs.Below.heap_law.Things.{Thing, lies, things_of}
+use Rattle.all_issued_law.specs.Below.heap_law.Sight.{issued, sight}
+use Rattle.all_issued_law.specs.Below.heap_law.Weights.{states}
+use Rattle.all_issued_law.specs.Below.heap_law.Balances.{AtMostOne}
+use Rattle.all_issued_law.specs.Below.heap_law.Words.{LeadsTo}
+use Rattle.all_issued_law.specs.Below.heap_law.Coherent.{Holds, taken_stands}
+use Rattle.all_issued_law.proofs.Below.heap_law.Names.{and_left, and_right}
+use Rattle.all_issued_law.proofs.Below.heap_law.Words.{named}
+use Rattle.all_issued_law.specs.Below.type_law.ClusterTypes.{IsCoherent}
+use Rattle.all_issued_law.specs.Below.path_law.HeapStore.{HasPaths}
+use Rattle.all_issued_law.proofs.Below.path_law.InState.{only_one}
+use Rattle.all_issued_law.specs.Below.word_law.Reworded.{HasPlaces}
+use Rattle.all_issued_law.specs.Below.word_law.Unmoved.{Delivers}
+use Rattle.all_issued_law.specs.Below.event_law.Laws.{Gives, FewEvents}
+use Rattle.all_issued_law.proofs.Below.event_law.Results.{over_gives, both_give, weaker}
+use Rattle.all_issued_law.proofs.Below.event_law.Sending.{applied_part}
+use Rattle.all_issued_law.proofs.Below.read_law.Flights.{found, truly}
+use Rattle.all_issued_law.proofs.Below.still_law.Addresses.{InPlace, in_place}
+use Rattle.all_issued_law.proofs.Below.still_law.Leaving.{others, placed_here}
+use Rattle.all_issued_law.proofs.Below.result_law.Pointing.{its_partition}
+use Rattle.land_law.proofs.Below.write_law.Memory.{Sane}
+use Rattle.land_law.proofs.Below.write_law.Routes.{sane_at, roomy_at}
+use Rattle.land_law.proofs.Below.rewrite_law.Later.{later_itself, next_unissued, place_vacant}
+use Rattle.all_issued_law.specs.Below.prepare_law.Requests.{WordsRise}
 use Rattle.all_issued_law.proofs.Below.regain_law.Each.{words_rise}
 use Rattle.taken_law.proofs.AllStand.{each_stands}
 use Rattle.apart_law.proofs.UnderWay.{FlightsIssued, landing_flights}
@@ -47,8 +47,8 @@ use Rattle.all_issued_law.proofs.Places.{laid, next_address}
 use Rattle.all_issued_law.proofs.Rising.{states_differ}
 use Rattle.all_issued_law.proofs.Coming.{Brought, ComesTo, comes_to, issued_where_it_comes}
 use Rattle.all_issued_law.proofs.Landing.{Landed, lands_at}
-use Rattle.old_words_law.specs.Old.{unissued, first_words, lent_words}
-use Rattle.old_words_law.proofs.Firsts.{arrivals_leave_firsts}
+use Rattle.all_issued_law.specs.Below.old_words_law.Old.{unissued, first_words, lent_words}
+use Rattle.all_issued_law.proofs.Below.old_words_law.Firsts.{arrivals_leave_firsts}
 use Rattle.ever_issued_law.specs.Arrivals.{ArrivalsKeepWhatWasIssued}
 use Rattle.ever_issued_law.proofs.There.{word_of, shown}
 use Rattle.ever_issued_law.proofs.Fresh.{Home, at_home}

@@ -1,42 +1,42 @@
 -- After each event each word that stands anywhere was issued, kind by kind.
 use Rattle.std.proofs.Common.{◌≡◌, ◌⊎◌, inl, inr, ℕ, true, nat_lt, Option, Some, None, option_map, refl, sym, ap, subst, ◌∙◌}
 use Rattle.std.specs.Prelude.{slice_get, length}
-use Rattle.fr_base.specs.declared.instruction.Operand.{Operand}
-use Rattle.fr_base.specs.declared.instruction.Instr.{Instr}
-use Rattle.fr_base.specs.declared.instruction.Instr.TheVariants as instr
-use Rattle.global_addr.specs.Words.{colour_of}
-use Rattle.journal.specs.View.{EntryView}
-use Rattle.thread_state.specs.View.{ThreadState}
-use Rattle.server_msgs.specs.declared.message.Message.{Message}
-use Rattle.server_msgs.specs.declared.message.Message.TheVariants as message
-use Rattle.server_model.specs.declared.event.Event.{Event}
-use Rattle.server_model.specs.declared.event.What.{What}
-use Rattle.server_model.specs.declared.event.What.TheVariants.{Step, Deliver, Evict, Migrate}
-use Rattle.server_model.specs.Servers.{Server, Cluster, server_at}
-use Rattle.server_model.specs.Work.{thread_in, then_some}
-use Rattle.server_model.specs.Events.{left_by, received, deliver_message, begin_work, step, step_in, stepped, does}
-use Rattle.server_model.specs.Clusters.{hand_over_newer, done_at, apply}
-use Rattle.heap_law.specs.Names.{Among, tot, other}
-use Rattle.heap_law.specs.Things.{Thing, flies, things_of}
-use Rattle.heap_law.specs.Sight.{issued, sight}
-use Rattle.heap_law.specs.Coherent.{Holds, are_issued}
-use Rattle.heap_law.proofs.Words.{none_all}
-use Rattle.event_law.specs.Kinds.{evicts, migrates, kind_at}
-use Rattle.event_law.specs.Laws.{Gives, FewEvents}
-use Rattle.event_law.proofs.Results.{both_give, weaker}
-use Rattle.type_law.specs.ClusterTypes.{IsCoherent}
-use Rattle.path_law.specs.HeapStore.{HasPaths}
-use Rattle.word_law.specs.Unmoved.{Delivers}
-use Rattle.ever_issued_law.specs.Below.issue_law.Issuing.{LandsNone}
-use Rattle.ever_issued_law.proofs.Below.issue_law.Steady.{issued_steady}
+use Rattle.all_issued_law.specs.Below.fr_base.declared.instruction.Operand.{Operand}
+use Rattle.all_issued_law.specs.Below.fr_base.declared.instruction.Instr.{Instr}
+use Rattle.all_issued_law.specs.Below.fr_base.declared.instruction.Instr.TheVariants as instr
+use Rattle.all_issued_law.specs.Below.global_addr.Words.{colour_of}
+use Rattle.all_issued_law.specs.Below.journal.View.{EntryView}
+use Rattle.all_issued_law.specs.Below.thread_state.View.{ThreadState}
+use Rattle.all_issued_law.specs.Below.server_msgs.declared.message.Message.{Message}
+use Rattle.all_issued_law.specs.Below.server_msgs.declared.message.Message.TheVariants as message
+use Rattle.all_issued_law.specs.Below.server_model.declared.event.Event.{Event}
+use Rattle.all_issued_law.specs.Below.server_model.declared.event.What.{What}
+use Rattle.all_issued_law.specs.Below.server_model.declared.event.What.TheVariants.{Step, Deliver, Evict, Migrate}
+use Rattle.all_issued_law.specs.Below.server_model.Servers.{Server, Cluster, server_at}
+use Rattle.all_issued_law.specs.Below.server_model.Work.{thread_in, then_some}
+use Rattle.all_issued_law.specs.Below.server_model.Events.{left_by, received, deliver_message, begin_work, step, step_in, stepped, does}
+use Rattle.all_issued_law.specs.Below.server_model.Clusters.{hand_over_newer, done_at, apply}
+use Rattle.all_issued_law.specs.Below.heap_law.Names.{Among, tot, other}
+use Rattle.all_issued_law.specs.Below.heap_law.Things.{Thing, flies, things_of}
+use Rattle.all_issued_law.specs.Below.heap_law.Sight.{issued, sight}
+use Rattle.all_issued_law.specs.Below.heap_law.Coherent.{Holds, are_issued}
+use Rattle.all_issued_law.proofs.Below.heap_law.Words.{none_all}
+use Rattle.all_issued_law.specs.Below.event_law.Kinds.{evicts, migrates, kind_at}
+use Rattle.all_issued_law.specs.Below.event_law.Laws.{Gives, FewEvents}
+use Rattle.all_issued_law.proofs.Below.event_law.Results.{both_give, weaker}
+use Rattle.all_issued_law.specs.Below.type_law.ClusterTypes.{IsCoherent}
+use Rattle.all_issued_law.specs.Below.path_law.HeapStore.{HasPaths}
+use Rattle.all_issued_law.specs.Below.word_law.Unmoved.{Delivers}
+use Rattle.all_issued_law.specs.Below.issue_law.Issuing.{LandsNone}
+use Rattle.all_issued_law.proofs.Below.issue_law.Steady.{issued_steady}
 use Rattle.ever_issued_law.proofs.Kinds.{deliveries_stand_issued}
-use Rattle.ever_issued_law.proofs.Below.regain_law.Arrivals.{none_done}
-use Rattle.ever_issued_law.proofs.Below.apart_law.UnderWay.{FlightsIssued, step_flights, landing_flights}
-use Rattle.old_words_law.specs.Old.{unissued, first_words, lent_words}
-use Rattle.ever_issued_law.specs.Below.all_issued_law.Issued.{MakesNoObject}
-use Rattle.old_words_law.proofs.Firsts.{steps_leave_firsts, arrivals_leave_firsts}
-use Rattle.ever_issued_law.proofs.Below.all_issued_law.Boxes.{boxes_keep_issued}
-use Rattle.ever_issued_law.proofs.Below.all_issued_law.Still.{steps_keep_issued}
+use Rattle.all_issued_law.proofs.Below.regain_law.Arrivals.{none_done}
+use Rattle.apart_law.proofs.UnderWay.{FlightsIssued, step_flights, landing_flights}
+use Rattle.all_issued_law.specs.Below.old_words_law.Old.{unissued, first_words, lent_words}
+use Rattle.all_issued_law.specs.Issued.{MakesNoObject}
+use Rattle.all_issued_law.proofs.Below.old_words_law.Firsts.{steps_leave_firsts, arrivals_leave_firsts}
+use Rattle.all_issued_law.proofs.Boxes.{boxes_keep_issued}
+use Rattle.all_issued_law.proofs.Still.{steps_keep_issued}
 use Rattle.ever_issued_law.specs.Standing.{flown_words, Settled, KeepsIssued}
 use Rattle.ever_issued_law.proofs.Settled.{events_issue_words}
 use Rattle.ever_issued_law.proofs.Arrivals.{arrivals_keep_issued}

@@ -2,46 +2,46 @@
 use Rattle.std.proofs.Common.{◌≡◌, ◌≤◌, ◌⊎◌, inl, inr, ⊎_elim, ℕ, zero, suc, ◌==◌, ◌&&◌, ◌||◌, Bool, true, false, List, [], ◌∷◌, Option, Some, None, refl, sym, ap, subst, ◌∙◌, arith}
 use Rattle.std.specs.Prelude.{slice_get}
 use Rattle.std.proofs.lemmas.Bool.{eq-eqb}
-use Rattle.fr_base.specs.declared.name.ObjNo.{ObjNo}
-use Rattle.fr_base.specs.declared.place.Lval.{Lval}
-use Rattle.fr_store.specs.Keys.{Key, slot_k, temp_k}
-use Rattle.fr_store.specs.Store.{Store, at_object, ref_v}
-use Rattle.heap_partition.specs.declared.value.Cell.{Cell}
-use Rattle.heap_partition.specs.declared.value.Owned.{Owned}
-use Rattle.heap_partition.specs.declared.value.Owned.TheVariants as owned
-use Rattle.mut_borrow.specs.declared.mutable.MutRef.{MutRef}
-use Rattle.thread_state.specs.View.{ThreadState}
-use Rattle.thread_state.specs.declared.phase.Phase.{Phase}
-use Rattle.thread_state.specs.declared.phase.Phase.TheVariants as phase
-use Rattle.thread_state.specs.declared.value.Value.{Value}
-use Rattle.thread_state.specs.declared.value.Value.TheVariants as value
-use Rattle.server_model.specs.Servers.{Cluster}
-use Rattle.heap_law.specs.Names.{Among, tot, one, some, same_object, boxes}
-use Rattle.heap_law.specs.Things.{Location, Thing, at_slot, at_temp, in_cell, holds, borrows, lies, flies, stands, things_of}
-use Rattle.heap_law.specs.Follow.{Standing, Ground, threads_in, value_in, value_behind, place_at}
-use Rattle.heap_law.specs.Stale.{Reference, references, is_among, is_held_at, same_location, lent_places, changed_above, stale_above, taken_above}
-use Rattle.heap_law.specs.Sight.{Pointer, pointer_in, location_of, pointers_of, pointers_in, taken_pointers, is_word, word, sight, issued}
-use Rattle.heap_law.specs.Placing.{is_first, other_first}
-use Rattle.heap_law.specs.Requests.{lies_here, lent_place, taken_there, taken_phase}
-use Rattle.heap_law.specs.Walking.{instr_of}
-use Rattle.heap_law.specs.Weights.{cells, owners, lies_at}
-use Rattle.heap_law.specs.Words.{all_pointers, IsStale, HasWords, WordsLaw}
-use Rattle.heap_law.specs.Coherent.{Holds, first_at_holder, taken_stands}
-use Rattle.heap_law.proofs.Names.{and_left, and_right, same_number}
-use Rattle.heap_law.proofs.Words.{none_at, named, itself, words_law}
-use Rattle.path_law.specs.HeapStore.{heap_store, GoesOn, HasPaths}
-use Rattle.path_law.proofs.Alike.{there_of, cell_there, slot_mut, temp_mut}
-use Rattle.path_law.proofs.FreshPaths.{same_is}
-use Rattle.path_law.proofs.Origins.{among_first}
-use Rattle.path_law.proofs.Pointers.{Stood, borrowed_at}
-use Rattle.word_law.specs.Reworded.{HasPlaces}
-use Rattle.word_law.proofs.Grounds.{of_borrows}
-use Rattle.word_law.proofs.Standing.{CellOf, lying, flying, cell_among, pointer_at, tells, pointers_among}
-use Rattle.event_law.proofs.Askers.{other_none}
-use Rattle.read_law.proofs.Flights.{found, truly}
-use Rattle.wait_law.proofs.Found.{among_weighs}
+use Rattle.all_issued_law.specs.Below.fr_base.declared.name.ObjNo.{ObjNo}
+use Rattle.all_issued_law.specs.Below.fr_base.declared.place.Lval.{Lval}
+use Rattle.all_issued_law.specs.Below.fr_store.Keys.{Key, slot_k, temp_k}
+use Rattle.all_issued_law.specs.Below.fr_store.Store.{Store, at_object, ref_v}
+use Rattle.all_issued_law.specs.Below.heap_partition.declared.value.Cell.{Cell}
+use Rattle.all_issued_law.specs.Below.heap_partition.declared.value.Owned.{Owned}
+use Rattle.all_issued_law.specs.Below.heap_partition.declared.value.Owned.TheVariants as owned
+use Rattle.all_issued_law.specs.Below.mut_borrow.declared.mutable.MutRef.{MutRef}
+use Rattle.all_issued_law.specs.Below.thread_state.View.{ThreadState}
+use Rattle.all_issued_law.specs.Below.thread_state.declared.phase.Phase.{Phase}
+use Rattle.all_issued_law.specs.Below.thread_state.declared.phase.Phase.TheVariants as phase
+use Rattle.all_issued_law.specs.Below.thread_state.declared.value.Value.{Value}
+use Rattle.all_issued_law.specs.Below.thread_state.declared.value.Value.TheVariants as value
+use Rattle.all_issued_law.specs.Below.server_model.Servers.{Cluster}
+use Rattle.all_issued_law.specs.Below.heap_law.Names.{Among, tot, one, some, same_object, boxes}
+use Rattle.all_issued_law.specs.Below.heap_law.Things.{Location, Thing, at_slot, at_temp, in_cell, holds, borrows, lies, flies, stands, things_of}
+use Rattle.all_issued_law.specs.Below.heap_law.Follow.{Standing, Ground, threads_in, value_in, value_behind, place_at}
+use Rattle.all_issued_law.specs.Below.heap_law.Stale.{Reference, references, is_among, is_held_at, same_location, lent_places, changed_above, stale_above, taken_above}
+use Rattle.all_issued_law.specs.Below.heap_law.Sight.{Pointer, pointer_in, location_of, pointers_of, pointers_in, taken_pointers, is_word, word, sight, issued}
+use Rattle.all_issued_law.specs.Below.heap_law.Placing.{is_first, other_first}
+use Rattle.all_issued_law.specs.Below.heap_law.Requests.{lies_here, lent_place, taken_there, taken_phase}
+use Rattle.all_issued_law.specs.Below.heap_law.Walking.{instr_of}
+use Rattle.all_issued_law.specs.Below.heap_law.Weights.{cells, owners, lies_at}
+use Rattle.all_issued_law.specs.Below.heap_law.Words.{all_pointers, IsStale, HasWords, WordsLaw}
+use Rattle.all_issued_law.specs.Below.heap_law.Coherent.{Holds, first_at_holder, taken_stands}
+use Rattle.all_issued_law.proofs.Below.heap_law.Names.{and_left, and_right, same_number}
+use Rattle.all_issued_law.proofs.Below.heap_law.Words.{none_at, named, itself, words_law}
+use Rattle.all_issued_law.specs.Below.path_law.HeapStore.{heap_store, GoesOn, HasPaths}
+use Rattle.all_issued_law.proofs.Below.path_law.Alike.{there_of, cell_there, slot_mut, temp_mut}
+use Rattle.all_issued_law.proofs.Below.path_law.FreshPaths.{same_is}
+use Rattle.all_issued_law.proofs.Below.path_law.Origins.{among_first}
+use Rattle.all_issued_law.proofs.Below.path_law.Pointers.{Stood, borrowed_at}
+use Rattle.all_issued_law.specs.Below.word_law.Reworded.{HasPlaces}
+use Rattle.all_issued_law.proofs.Below.word_law.Grounds.{of_borrows}
+use Rattle.all_issued_law.proofs.Below.word_law.Standing.{CellOf, lying, flying, cell_among, pointer_at, tells, pointers_among}
+use Rattle.all_issued_law.proofs.Below.event_law.Askers.{other_none}
+use Rattle.all_issued_law.proofs.Below.read_law.Flights.{found, truly}
+use Rattle.all_issued_law.proofs.Below.wait_law.Found.{among_weighs}
 use Rattle.apart_law.proofs.UnderWay.{FlightsIssued}
-use Rattle.old_words_law.specs.Old.{unissued, first_words, pointer_word, lent_words}
+use Rattle.all_issued_law.specs.Below.old_words_law.Old.{unissued, first_words, pointer_word, lent_words}
 use Rattle.ever_issued_law.proofs.Put.{word_in, taken_as}
 use Rattle.ever_issued_law.proofs.There.{word_of}
 

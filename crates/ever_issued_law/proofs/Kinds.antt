@@ -1,44 +1,44 @@
 -- Events that leave words, and issue none, keep it that each word was issued: by the laws of each kind.
 use Rattle.std.proofs.Common.{◌≡◌, ℕ, ◌-◌, true, length, Option, Some, None, option_map, refl, ap, ◌∙◌}
 use Rattle.std.specs.Prelude.{slice_get}
-use Rattle.fr_base.specs.declared.instruction.Instr.{Instr}
-use Rattle.fr_base.specs.declared.instruction.Instr.TheVariants as instr
-use Rattle.fr_base.specs.declared.instruction.Operand.{Operand}
-use Rattle.fr_base.specs.declared.place.Lval.{Lval}
-use Rattle.journal.specs.View.{EntryView}
-use Rattle.thread_state.specs.View.{ThreadState}
-use Rattle.thread_state.specs.declared.value.Value.{Value}
-use Rattle.thread_state.specs.declared.value.Value.TheVariants as value
-use Rattle.server_msgs.specs.declared.message.Message.{Message}
-use Rattle.server_msgs.specs.declared.message.Message.TheVariants as message
-use Rattle.server_model.specs.declared.event.What.{What}
-use Rattle.server_model.specs.declared.event.What.TheVariants.{Step, Deliver}
-use Rattle.server_model.specs.Servers.{Server, Cluster, server_at}
-use Rattle.server_model.specs.Work.{then_some, thread_in, last_of}
-use Rattle.server_model.specs.Places.{Spot, in_slot, on_top, nowhere}
-use Rattle.server_model.specs.Prepare.{assigned, ending, read_or_taken, read_stars, read_pointer, access_of, prepare}
-use Rattle.server_model.specs.Clusters.{apply}
-use Rattle.heap_law.specs.Sight.{sight}
-use Rattle.heap_law.specs.Coherent.{Holds, are_issued}
-use Rattle.type_law.specs.ClusterTypes.{IsCoherent}
-use Rattle.event_law.specs.Kinds.{Kind, fetch, fetched, asks_lock, granted, unlocked, asks_dup, dupped, released, starts, asks_join, joined, finished, arrives, message_kind, kind_at}
-use Rattle.event_law.specs.Laws.{Gives, FewEvents}
-use Rattle.event_law.proofs.Results.{both_give}
-use Rattle.word_law.specs.Unmoved.{Delivers, LeavesWords, WordsStay}
-use Rattle.stay_law.specs.Laws.{LeaveWords, shared}
-use Rattle.stay_law.proofs.StayKinds.{kind_stays, borrows_leave}
-use Rattle.prepare_law.proofs.Untaken.{not_taken}
-use Rattle.carry_law.specs.Steps.{a_let, a_join, an_end, drops as drops_owned, drops_none, puts_back as puts_owned, owns, gone}
-use Rattle.carry_law.proofs.Assigns.{assigns_over}
-use Rattle.carry_law.proofs.Events.{steps_carry, discards_carry}
-use Rattle.carry_law.proofs.Gives.{owned_goes}
-use Rattle.carry_law.proofs.Leaving.{moves_leave}
-use Rattle.refs_law.specs.Gone.{to_slot, to_slot_mutably, shared_to, moves as moves_any, drops as drops_light, discards as discards_light, assigns as assigns_light}
-use Rattle.refs_law.proofs.RefEvents.{references_go}
-use Rattle.free_law.proofs.Drops.{drops_leave}
-use Rattle.issue_law.specs.Issuing.{MakesNone, begun, IsReady, LandsNone}
-use Rattle.issue_law.proofs.Plain.{steps_keep_issued}
-use Rattle.issue_law.proofs.Delivered.{deliveries_keep_issued}
+use Rattle.all_issued_law.specs.Below.fr_base.declared.instruction.Instr.{Instr}
+use Rattle.all_issued_law.specs.Below.fr_base.declared.instruction.Instr.TheVariants as instr
+use Rattle.all_issued_law.specs.Below.fr_base.declared.instruction.Operand.{Operand}
+use Rattle.all_issued_law.specs.Below.fr_base.declared.place.Lval.{Lval}
+use Rattle.all_issued_law.specs.Below.journal.View.{EntryView}
+use Rattle.all_issued_law.specs.Below.thread_state.View.{ThreadState}
+use Rattle.all_issued_law.specs.Below.thread_state.declared.value.Value.{Value}
+use Rattle.all_issued_law.specs.Below.thread_state.declared.value.Value.TheVariants as value
+use Rattle.all_issued_law.specs.Below.server_msgs.declared.message.Message.{Message}
+use Rattle.all_issued_law.specs.Below.server_msgs.declared.message.Message.TheVariants as message
+use Rattle.all_issued_law.specs.Below.server_model.declared.event.What.{What}
+use Rattle.all_issued_law.specs.Below.server_model.declared.event.What.TheVariants.{Step, Deliver}
+use Rattle.all_issued_law.specs.Below.server_model.Servers.{Server, Cluster, server_at}
+use Rattle.all_issued_law.specs.Below.server_model.Work.{then_some, thread_in, last_of}
+use Rattle.all_issued_law.specs.Below.server_model.Places.{Spot, in_slot, on_top, nowhere}
+use Rattle.all_issued_law.specs.Below.server_model.Prepare.{assigned, ending, read_or_taken, read_stars, read_pointer, access_of, prepare}
+use Rattle.all_issued_law.specs.Below.server_model.Clusters.{apply}
+use Rattle.all_issued_law.specs.Below.heap_law.Sight.{sight}
+use Rattle.all_issued_law.specs.Below.heap_law.Coherent.{Holds, are_issued}
+use Rattle.all_issued_law.specs.Below.type_law.ClusterTypes.{IsCoherent}
+use Rattle.all_issued_law.specs.Below.event_law.Kinds.{Kind, fetch, fetched, asks_lock, granted, unlocked, asks_dup, dupped, released, starts, asks_join, joined, finished, arrives, message_kind, kind_at}
+use Rattle.all_issued_law.specs.Below.event_law.Laws.{Gives, FewEvents}
+use Rattle.all_issued_law.proofs.Below.event_law.Results.{both_give}
+use Rattle.all_issued_law.specs.Below.word_law.Unmoved.{Delivers, LeavesWords, WordsStay}
+use Rattle.all_issued_law.specs.Below.stay_law.Laws.{LeaveWords, shared}
+use Rattle.all_issued_law.proofs.Below.stay_law.StayKinds.{kind_stays, borrows_leave}
+use Rattle.all_issued_law.proofs.Below.prepare_law.Untaken.{not_taken}
+use Rattle.all_issued_law.specs.Below.carry_law.Steps.{a_let, a_join, an_end, drops as drops_owned, drops_none, puts_back as puts_owned, owns, gone}
+use Rattle.all_issued_law.proofs.Below.carry_law.Assigns.{assigns_over}
+use Rattle.all_issued_law.proofs.Below.carry_law.Events.{steps_carry, discards_carry}
+use Rattle.all_issued_law.proofs.Below.carry_law.Gives.{owned_goes}
+use Rattle.all_issued_law.proofs.Below.carry_law.Leaving.{moves_leave}
+use Rattle.all_issued_law.specs.Below.refs_law.Gone.{to_slot, to_slot_mutably, shared_to, moves as moves_any, drops as drops_light, discards as discards_light, assigns as assigns_light}
+use Rattle.all_issued_law.proofs.Below.refs_law.RefEvents.{references_go}
+use Rattle.all_issued_law.proofs.Below.free_law.Drops.{drops_leave}
+use Rattle.all_issued_law.specs.Below.issue_law.Issuing.{MakesNone, begun, IsReady, LandsNone}
+use Rattle.all_issued_law.proofs.Below.issue_law.Plain.{steps_keep_issued}
+use Rattle.all_issued_law.proofs.Below.issue_law.Delivered.{deliveries_keep_issued}
 use Rattle.ever_issued_law.specs.Kinds.{EndsNone, FollowsNone, lets, joins, ends, puts_back, discards, drops, assigns, moves, borrows, StepsStandIssued, DeliveriesStandIssued}
 
 -- ITS PLACE IS READY

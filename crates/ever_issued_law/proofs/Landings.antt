@@ -2,67 +2,67 @@
 use Rattle.std.proofs.Common.{◌≡◌, ◌⊎◌, inl, inr, ℕ, ◌==◌, ◌&&◌, ◌+◌, ◌≤◌, Bool, true, false, Option, Some, None, refl, sym, ap, subst, ◌∙◌, arith}
 use Rattle.std.specs.Prelude.{slice_get}
 use Rattle.std.proofs.lemmas.Bool.{eqb-true}
-use Rattle.fr_typing.proofs.PlaceLemmas.{eq_cases}
-use Rattle.fr_base.specs.Names.{same_object}
-use Rattle.fr_base.specs.declared.name.ObjNo.{ObjNo}
-use Rattle.fr_base.specs.declared.label.Plain.{Plain}
-use Rattle.fr_base.specs.declared.instruction.Instr.TheVariants as instr
-use Rattle.fr_sound.specs.Seen.{seen_cell}
-use Rattle.heap_partition.specs.declared.value.Cell.{Cell}
-use Rattle.thread_state.specs.View.{ThreadState, is_over}
-use Rattle.thread_state.specs.declared.phase.Phase.{Phase}
-use Rattle.thread_state.specs.declared.phase.Phase.TheVariants as phase
-use Rattle.thread_state.specs.declared.value.Value.TheVariants as value
-use Rattle.journal.specs.View.{EntryView}
-use Rattle.server_msgs.specs.declared.message.Message.{Message}
-use Rattle.server_msgs.specs.declared.message.Message.TheVariants as message
-use Rattle.server_model.specs.declared.event.Event.{Event}
-use Rattle.server_model.specs.Servers.{Server, Cluster}
-use Rattle.server_model.specs.Clusters.{apply}
-use Rattle.heap_law.specs.Names.{Among, tot, other}
-use Rattle.heap_law.specs.Things.{Location, at_slot, in_cell, Thing, sent, message_things, things_of}
-use Rattle.heap_law.specs.Follow.{Standing, Ground, thread_at, cell_of, slot_of, value_of, value_in, value_behind, locate}
-use Rattle.heap_law.specs.OneHeap.{object_value, two_in}
-use Rattle.heap_law.specs.Paths.{path_of}
-use Rattle.heap_law.specs.Sight.{sight}
-use Rattle.heap_law.specs.Walking.{instr_of, path, asks_for, asked_for}
-use Rattle.heap_law.specs.Requests.{is_cell, in_phase, carries}
-use Rattle.heap_law.proofs.Names.{and_left, and_right}
-use Rattle.heap_law.proofs.Words.{named, itself}
-use Rattle.event_law.specs.Laws.{FewEvents}
-use Rattle.event_law.proofs.Askers.{other_none}
-use Rattle.event_law.proofs.Bags.{thread_number}
-use Rattle.event_law.proofs.MutexResults.{has}
-use Rattle.event_law.proofs.Results.{both_give}
-use Rattle.event_law.proofs.ThreadThere.{thread_there}
-use Rattle.type_law.specs.ClusterTypes.{IsCoherent}
-use Rattle.path_law.specs.HeapStore.{GoesOn, HasPaths}
-use Rattle.path_law.specs.Pointing.{lends}
-use Rattle.path_law.proofs.Alike.{IsShown, a_slot, an_object, leads_in_heap, coherent_has_paths}
-use Rattle.path_law.proofs.Contained.{among_thread}
-use Rattle.path_law.proofs.Shown.{object_shown}
-use Rattle.path_law.proofs.Sole.{some_is}
-use Rattle.word_law.specs.Reworded.{HasPlaces}
-use Rattle.word_law.specs.Unmoved.{Delivers}
-use Rattle.read_law.proofs.FreshReads.{chain_apart}
-use Rattle.still_law.proofs.Told.{told, same_told, found}
-use Rattle.result_law.proofs.Alone.{strays, all_less, needed_less, is_asked}
-use Rattle.result_law.proofs.Awaits.{awaited_mine}
-use Rattle.result_law.proofs.Made.{OwnedBy}
-use Rattle.wait_law.specs.Places.{writes}
-use Rattle.wait_law.proofs.Written.{Written}
-use Rattle.walk_law.proofs.Cells.{Seeing, cell_weight}
-use Rattle.walk_law.proofs.Sentences.{SameOn}
-use Rattle.walk_law.proofs.Still.{places_of}
-use Rattle.walk_law.proofs.Tests.{same_value, values}
+use Rattle.all_issued_law.proofs.Below.fr_typing.PlaceLemmas.{eq_cases}
+use Rattle.all_issued_law.specs.Below.fr_base.Names.{same_object}
+use Rattle.all_issued_law.specs.Below.fr_base.declared.name.ObjNo.{ObjNo}
+use Rattle.all_issued_law.specs.Below.fr_base.declared.label.Plain.{Plain}
+use Rattle.all_issued_law.specs.Below.fr_base.declared.instruction.Instr.TheVariants as instr
+use Rattle.all_issued_law.specs.Below.fr_sound.Seen.{seen_cell}
+use Rattle.all_issued_law.specs.Below.heap_partition.declared.value.Cell.{Cell}
+use Rattle.all_issued_law.specs.Below.thread_state.View.{ThreadState, is_over}
+use Rattle.all_issued_law.specs.Below.thread_state.declared.phase.Phase.{Phase}
+use Rattle.all_issued_law.specs.Below.thread_state.declared.phase.Phase.TheVariants as phase
+use Rattle.all_issued_law.specs.Below.thread_state.declared.value.Value.TheVariants as value
+use Rattle.all_issued_law.specs.Below.journal.View.{EntryView}
+use Rattle.all_issued_law.specs.Below.server_msgs.declared.message.Message.{Message}
+use Rattle.all_issued_law.specs.Below.server_msgs.declared.message.Message.TheVariants as message
+use Rattle.all_issued_law.specs.Below.server_model.declared.event.Event.{Event}
+use Rattle.all_issued_law.specs.Below.server_model.Servers.{Server, Cluster}
+use Rattle.all_issued_law.specs.Below.server_model.Clusters.{apply}
+use Rattle.all_issued_law.specs.Below.heap_law.Names.{Among, tot, other}
+use Rattle.all_issued_law.specs.Below.heap_law.Things.{Location, at_slot, in_cell, Thing, sent, message_things, things_of}
+use Rattle.all_issued_law.specs.Below.heap_law.Follow.{Standing, Ground, thread_at, cell_of, slot_of, value_of, value_in, value_behind, locate}
+use Rattle.all_issued_law.specs.Below.heap_law.OneHeap.{object_value, two_in}
+use Rattle.all_issued_law.specs.Below.heap_law.Paths.{path_of}
+use Rattle.all_issued_law.specs.Below.heap_law.Sight.{sight}
+use Rattle.all_issued_law.specs.Below.heap_law.Walking.{instr_of, path, asks_for, asked_for}
+use Rattle.all_issued_law.specs.Below.heap_law.Requests.{is_cell, in_phase, carries}
+use Rattle.all_issued_law.proofs.Below.heap_law.Names.{and_left, and_right}
+use Rattle.all_issued_law.proofs.Below.heap_law.Words.{named, itself}
+use Rattle.all_issued_law.specs.Below.event_law.Laws.{FewEvents}
+use Rattle.all_issued_law.proofs.Below.event_law.Askers.{other_none}
+use Rattle.all_issued_law.proofs.Below.event_law.Bags.{thread_number}
+use Rattle.all_issued_law.proofs.Below.event_law.MutexResults.{has}
+use Rattle.all_issued_law.proofs.Below.event_law.Results.{both_give}
+use Rattle.all_issued_law.proofs.Below.event_law.ThreadThere.{thread_there}
+use Rattle.all_issued_law.specs.Below.type_law.ClusterTypes.{IsCoherent}
+use Rattle.all_issued_law.specs.Below.path_law.HeapStore.{GoesOn, HasPaths}
+use Rattle.all_issued_law.specs.Below.path_law.Pointing.{lends}
+use Rattle.all_issued_law.proofs.Below.path_law.Alike.{IsShown, a_slot, an_object, leads_in_heap, coherent_has_paths}
+use Rattle.all_issued_law.proofs.Below.path_law.Contained.{among_thread}
+use Rattle.all_issued_law.proofs.Below.path_law.Shown.{object_shown}
+use Rattle.all_issued_law.proofs.Below.path_law.Sole.{some_is}
+use Rattle.all_issued_law.specs.Below.word_law.Reworded.{HasPlaces}
+use Rattle.all_issued_law.specs.Below.word_law.Unmoved.{Delivers}
+use Rattle.all_issued_law.proofs.Below.read_law.FreshReads.{chain_apart}
+use Rattle.all_issued_law.proofs.Below.still_law.Told.{told, same_told, found}
+use Rattle.all_issued_law.proofs.Below.result_law.Alone.{strays, all_less, needed_less, is_asked}
+use Rattle.all_issued_law.proofs.Below.result_law.Awaits.{awaited_mine}
+use Rattle.all_issued_law.proofs.Below.result_law.Made.{OwnedBy}
+use Rattle.all_issued_law.specs.Below.wait_law.Places.{writes}
+use Rattle.all_issued_law.proofs.Below.wait_law.Written.{Written}
+use Rattle.taken_law.proofs.Below.walk_law.Cells.{Seeing, cell_weight}
+use Rattle.taken_law.proofs.Below.walk_law.Sentences.{SameOn}
+use Rattle.taken_law.proofs.Below.walk_law.Still.{places_of}
+use Rattle.taken_law.proofs.Below.walk_law.Tests.{same_value, values}
 use Rattle.land_law.proofs.Others.{Stood, stood, same_there}
 use Rattle.land_law.proofs.Seen.{Leaves, leaves}
 use Rattle.taken_law.proofs.Landed.{new, Lands, gain, loss, Ends, gets_there, takes_there, Landed}
 use Rattle.taken_law.proofs.After.{Stays, own_stays, cell_kept}
 use Rattle.taken_law.proofs.Moved.{Known, known}
-use Rattle.old_words_law.specs.Old.{unissued, pointer_word, lent_words}
+use Rattle.all_issued_law.specs.Below.old_words_law.Old.{unissued, pointer_word, lent_words}
 use Rattle.ever_issued_law.specs.Lent.{LandingsLeaveLent}
-use Rattle.old_words_law.proofs.Stood.{stood_behind}
+use Rattle.all_issued_law.proofs.Below.old_words_law.Stood.{stood_behind}
 use Rattle.ever_issued_law.proofs.Taken.{lent_by, each_none, idle, borrows_only, kept}
 
 standing_of : (f : Phase → Bool) (o : Option Standing) → in_phase f o ≡ true → (x : Standing) × (o ≡ Some x) × (f x.thread.phase ≡ true)

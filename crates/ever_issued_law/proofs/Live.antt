@@ -3,34 +3,34 @@ use Rattle.std.proofs.Common.{◌≡◌, ◌⊎◌, inl, inr, ⊎_elim, ℕ, ◌
 use Rattle.std.specs.Prelude.{slice_get}
 use Rattle.std.proofs.lemmas.Bool.{eq-eqb}
 use Rattle.std.proofs.lemmas.Bool.Decides.{nat_tests}
-use Rattle.fr_base.specs.declared.name.ObjNo.{ObjNo}
-use Rattle.global_addr.specs.Words.{colour_of, server_of, address_of}
-use Rattle.heap_partition.specs.declared.value.Cell.{Cell}
-use Rattle.heap_partition.specs.declared.value.Owned.{Owned}
-use Rattle.heap_partition.specs.declared.value.Owned.TheVariants as owned
-use Rattle.mut_borrow.specs.declared.mutable.MutRef.{MutRef}
-use Rattle.mut_borrow.specs.declared.shared.SharedRef.{SharedRef}
-use Rattle.thread_state.specs.declared.value.Value.TheVariants as value
-use Rattle.server_msgs.specs.declared.message.Message.{Message}
-use Rattle.server_msgs.specs.declared.message.Message.TheVariants.{Drop}
-use Rattle.server_model.specs.Servers.{Cluster}
-use Rattle.fr_store.specs.Keys.{Key, slot_k, temp_k}
-use Rattle.fr_store.specs.Store.{Store, at_object, ref_v}
-use Rattle.heap_law.specs.Names.{Among, tot, one, other, same_object, boxes}
-use Rattle.heap_law.specs.Things.{Location, at_slot, at_temp, in_cell, Thing, holds, shares, borrows, lies, flies, sent, things_of}
-use Rattle.heap_law.specs.Follow.{Standing}
-use Rattle.heap_law.specs.Sight.{Pointer, pointer_in, location_of, dropped_pointer, pointers_of, pointers_in, colour_up_to, word_of_object, sight}
-use Rattle.heap_law.specs.Weights.{cells, drops, owners}
-use Rattle.heap_law.specs.Words.{HasWords}
-use Rattle.heap_law.proofs.Words.{none_at, named, itself, words_law}
-use Rattle.path_law.specs.HeapStore.{heap_store, GoesOn}
-use Rattle.path_law.proofs.Alike.{there_of, cell_there, slot_shared, slot_mut, temp_shared, temp_mut}
-use Rattle.path_law.proofs.Pointers.{Stood, borrowed_at, shared_at}
-use Rattle.word_law.proofs.Standing.{CellOf, lying, flying, cell_among, of_thing, pointers_among}
-use Rattle.read_law.proofs.Flights.{found, truly}
-use Rattle.read_law.proofs.Homes.{of_all}
-use Rattle.walk_law.proofs.Below.wait_law.Found.{among_weighs}
-use Rattle.old_words_law.specs.Old.{unissued}
+use Rattle.all_issued_law.specs.Below.fr_base.declared.name.ObjNo.{ObjNo}
+use Rattle.all_issued_law.specs.Below.global_addr.Words.{colour_of, server_of, address_of}
+use Rattle.all_issued_law.specs.Below.heap_partition.declared.value.Cell.{Cell}
+use Rattle.all_issued_law.specs.Below.heap_partition.declared.value.Owned.{Owned}
+use Rattle.all_issued_law.specs.Below.heap_partition.declared.value.Owned.TheVariants as owned
+use Rattle.all_issued_law.specs.Below.mut_borrow.declared.mutable.MutRef.{MutRef}
+use Rattle.all_issued_law.specs.Below.mut_borrow.declared.shared.SharedRef.{SharedRef}
+use Rattle.all_issued_law.specs.Below.thread_state.declared.value.Value.TheVariants as value
+use Rattle.all_issued_law.specs.Below.server_msgs.declared.message.Message.{Message}
+use Rattle.all_issued_law.specs.Below.server_msgs.declared.message.Message.TheVariants.{Drop}
+use Rattle.all_issued_law.specs.Below.server_model.Servers.{Cluster}
+use Rattle.all_issued_law.specs.Below.fr_store.Keys.{Key, slot_k, temp_k}
+use Rattle.all_issued_law.specs.Below.fr_store.Store.{Store, at_object, ref_v}
+use Rattle.all_issued_law.specs.Below.heap_law.Names.{Among, tot, one, other, same_object, boxes}
+use Rattle.all_issued_law.specs.Below.heap_law.Things.{Location, at_slot, at_temp, in_cell, Thing, holds, shares, borrows, lies, flies, sent, things_of}
+use Rattle.all_issued_law.specs.Below.heap_law.Follow.{Standing}
+use Rattle.all_issued_law.specs.Below.heap_law.Sight.{Pointer, pointer_in, location_of, dropped_pointer, pointers_of, pointers_in, colour_up_to, word_of_object, sight}
+use Rattle.all_issued_law.specs.Below.heap_law.Weights.{cells, drops, owners}
+use Rattle.all_issued_law.specs.Below.heap_law.Words.{HasWords}
+use Rattle.all_issued_law.proofs.Below.heap_law.Words.{none_at, named, itself, words_law}
+use Rattle.all_issued_law.specs.Below.path_law.HeapStore.{heap_store, GoesOn}
+use Rattle.all_issued_law.proofs.Below.path_law.Alike.{there_of, cell_there, slot_shared, slot_mut, temp_shared, temp_mut}
+use Rattle.all_issued_law.proofs.Below.path_law.Pointers.{Stood, borrowed_at, shared_at}
+use Rattle.all_issued_law.proofs.Below.word_law.Standing.{CellOf, lying, flying, cell_among, of_thing, pointers_among}
+use Rattle.all_issued_law.proofs.Below.read_law.Flights.{found, truly}
+use Rattle.all_issued_law.proofs.Below.read_law.Homes.{of_all}
+use Rattle.all_issued_law.proofs.Below.wait_law.Found.{among_weighs}
+use Rattle.all_issued_law.specs.Below.old_words_law.Old.{unissued}
 use Rattle.all_issued_law.proofs.Rising.{issued_among}
 use Rattle.ever_issued_law.specs.Standing.{flown_words, FormerWords, Settled}
 

@@ -3,29 +3,29 @@ use Rattle.std.proofs.Common.{◌≡◌, ◌≤◌, ◌<◌, ℕ, zero, suc, ◌
 use Rattle.std.specs.Prelude.{slice_get, slice_set, slice_index_or}
 use Rattle.std.proofs.lemmas.Bool.{eq-eqb}
 use Rattle.std.proofs.lemmas.Bool.Decides.{nat_tests}
-use Rattle.fr_base.specs.declared.instruction.Instr.{Instr}
-use Rattle.fr_base.specs.declared.place.Lval.{Lval}
-use Rattle.global_addr.specs.Words.{server_of, colour_of, address_of}
-use Rattle.heap_partition.specs.declared.value.Cell.{Cell}
-use Rattle.heap_partition.specs.declared.value.Owned.{Owned}
-use Rattle.heap_partition.specs.declared.value.Owned.TheVariants as owned
-use Rattle.owner_box.specs.View.{PartitionState}
-use Rattle.owner_box.specs.Partition.{cell_of, with_value, stored, new_word}
-use Rattle.thread_state.specs.declared.phase.Phase.{Phase}
-use Rattle.thread_state.specs.declared.phase.Phase.TheVariants as phase
-use Rattle.thread_state.specs.declared.value.Value.{Value}
-use Rattle.thread_state.specs.declared.value.Value.TheVariants as value
-use Rattle.journal.specs.declared.act.Act.TheVariants as act
-use Rattle.server_model.specs.Work.{Hand, leads_here, with_partition, working, front_of, with_phase}
-use Rattle.server_model.specs.NewWords.{NewWord, can_grow, issue_placed}
-use Rattle.server_model.specs.Places.{Spot, in_slot, on_top, in_cell, in_copy, nowhere, value_at, note_write, put_at, with_word, set_pointer}
-use Rattle.server_model.specs.Prepare.{Access, ReadTo, ReadPointer, WriteTo, LendTo, EndRef, passing, write_stars}
-use Rattle.server_model.specs.Objects.{waits_for_cell, chased, waits_under, arrived_at, arrived_slot, passed_spot, arrived_write, arrived_lend, arrived_end, arrived, instr_access, deliver_moved}
-use Rattle.heap_law.specs.Names.{tot, one}
-use Rattle.heap_law.proofs.Names.{and_left, and_right}
-use Rattle.heap_law.proofs.Sums.{tot-append}
-use Rattle.event_law.specs.Laws.{Gives}
-use Rattle.event_law.proofs.Results.{then_gives, over_gives, bind_gives, test_gives}
+use Rattle.all_issued_law.specs.Below.fr_base.declared.instruction.Instr.{Instr}
+use Rattle.all_issued_law.specs.Below.fr_base.declared.place.Lval.{Lval}
+use Rattle.all_issued_law.specs.Below.global_addr.Words.{server_of, colour_of, address_of}
+use Rattle.all_issued_law.specs.Below.heap_partition.declared.value.Cell.{Cell}
+use Rattle.all_issued_law.specs.Below.heap_partition.declared.value.Owned.{Owned}
+use Rattle.all_issued_law.specs.Below.heap_partition.declared.value.Owned.TheVariants as owned
+use Rattle.all_issued_law.specs.Below.owner_box.View.{PartitionState}
+use Rattle.all_issued_law.specs.Below.owner_box.Partition.{cell_of, with_value, stored, new_word}
+use Rattle.all_issued_law.specs.Below.thread_state.declared.phase.Phase.{Phase}
+use Rattle.all_issued_law.specs.Below.thread_state.declared.phase.Phase.TheVariants as phase
+use Rattle.all_issued_law.specs.Below.thread_state.declared.value.Value.{Value}
+use Rattle.all_issued_law.specs.Below.thread_state.declared.value.Value.TheVariants as value
+use Rattle.all_issued_law.specs.Below.journal.declared.act.Act.TheVariants as act
+use Rattle.all_issued_law.specs.Below.server_model.Work.{Hand, leads_here, with_partition, working, front_of, with_phase}
+use Rattle.all_issued_law.specs.Below.server_model.NewWords.{NewWord, can_grow, issue_placed}
+use Rattle.all_issued_law.specs.Below.server_model.Places.{Spot, in_slot, on_top, in_cell, in_copy, nowhere, value_at, note_write, put_at, with_word, set_pointer}
+use Rattle.all_issued_law.specs.Below.server_model.Prepare.{Access, ReadTo, ReadPointer, WriteTo, LendTo, EndRef, passing, write_stars}
+use Rattle.all_issued_law.specs.Below.server_model.Objects.{waits_for_cell, chased, waits_under, arrived_at, arrived_slot, passed_spot, arrived_write, arrived_lend, arrived_end, arrived, instr_access, deliver_moved}
+use Rattle.all_issued_law.specs.Below.heap_law.Names.{tot, one}
+use Rattle.all_issued_law.proofs.Below.heap_law.Names.{and_left, and_right}
+use Rattle.all_issued_law.proofs.Below.heap_law.Sums.{tot-append}
+use Rattle.all_issued_law.specs.Below.event_law.Laws.{Gives}
+use Rattle.all_issued_law.proofs.Below.event_law.Results.{then_gives, over_gives, bind_gives, test_gives}
 
 -- a pointer that can be changed has that word
 abbrev pub word_in : ℕ → Value → ℕ

@@ -1,30 +1,30 @@
 -- Words that had been issued before an event that keeps them are issued after it, where their colours are below the limit; so each word that stands anywhere is.
 use Rattle.std.proofs.Common.{◌≡◌, ℕ, nat_lt, Option, Some, refl, ap, subst, arith}
-use Rattle.global_addr.specs.Words.{colour_of}
-use Rattle.heap_partition.specs.declared.value.Owned.{Owned}
-use Rattle.heap_partition.specs.declared.value.Owned.TheVariants as owned
-use Rattle.journal.specs.View.{EntryView}
-use Rattle.thread_state.specs.declared.value.Value.{Value}
-use Rattle.thread_state.specs.declared.value.Value.TheVariants as value
-use Rattle.server_msgs.specs.declared.message.Message.{Message}
-use Rattle.server_msgs.specs.declared.message.Message.TheVariants as message
-use Rattle.server_model.specs.Servers.{Cluster}
-use Rattle.server_model.specs.Clusters.{apply}
-use Rattle.heap_law.specs.Names.{tot, other}
-use Rattle.heap_law.specs.Things.{Thing, borrows, flies, copied, sent, things_of}
-use Rattle.heap_law.specs.Follow.{value_in}
-use Rattle.heap_law.specs.Stale.{lent_places}
-use Rattle.heap_law.specs.Sight.{issued, sight}
-use Rattle.heap_law.specs.Placing.{owned_word, message_word, words}
-use Rattle.heap_law.specs.Coherent.{Holds, are_issued, below_limit}
-use Rattle.heap_law.proofs.Names.{left_none}
-use Rattle.heap_law.proofs.Words.{none_at, none_all}
-use Rattle.event_law.proofs.Askers.{other_none}
-use Rattle.event_law.proofs.Results.{both_give}
-use Rattle.value_law.proofs.Sentences.{limits_kept}
-use Rattle.walk_law.proofs.Followed.{same_settings}
-use Rattle.old_words_law.proofs.Stood.{stood}
-use Rattle.old_words_law.specs.Old.{unissued, first_words, pointer_word, lent_words}
+use Rattle.all_issued_law.specs.Below.global_addr.Words.{colour_of}
+use Rattle.all_issued_law.specs.Below.heap_partition.declared.value.Owned.{Owned}
+use Rattle.all_issued_law.specs.Below.heap_partition.declared.value.Owned.TheVariants as owned
+use Rattle.all_issued_law.specs.Below.journal.View.{EntryView}
+use Rattle.all_issued_law.specs.Below.thread_state.declared.value.Value.{Value}
+use Rattle.all_issued_law.specs.Below.thread_state.declared.value.Value.TheVariants as value
+use Rattle.all_issued_law.specs.Below.server_msgs.declared.message.Message.{Message}
+use Rattle.all_issued_law.specs.Below.server_msgs.declared.message.Message.TheVariants as message
+use Rattle.all_issued_law.specs.Below.server_model.Servers.{Cluster}
+use Rattle.all_issued_law.specs.Below.server_model.Clusters.{apply}
+use Rattle.all_issued_law.specs.Below.heap_law.Names.{tot, other}
+use Rattle.all_issued_law.specs.Below.heap_law.Things.{Thing, borrows, flies, copied, sent, things_of}
+use Rattle.all_issued_law.specs.Below.heap_law.Follow.{value_in}
+use Rattle.all_issued_law.specs.Below.heap_law.Stale.{lent_places}
+use Rattle.all_issued_law.specs.Below.heap_law.Sight.{issued, sight}
+use Rattle.all_issued_law.specs.Below.heap_law.Placing.{owned_word, message_word, words}
+use Rattle.all_issued_law.specs.Below.heap_law.Coherent.{Holds, are_issued, below_limit}
+use Rattle.all_issued_law.proofs.Below.heap_law.Names.{left_none}
+use Rattle.all_issued_law.proofs.Below.heap_law.Words.{none_at, none_all}
+use Rattle.all_issued_law.proofs.Below.event_law.Askers.{other_none}
+use Rattle.all_issued_law.proofs.Below.event_law.Results.{both_give}
+use Rattle.all_issued_law.proofs.Below.value_law.Sentences.{limits_kept}
+use Rattle.taken_law.proofs.Below.walk_law.Followed.{same_settings}
+use Rattle.all_issued_law.proofs.Below.old_words_law.Stood.{stood}
+use Rattle.all_issued_law.specs.Below.old_words_law.Old.{unissued, first_words, pointer_word, lent_words}
 use Rattle.all_issued_law.specs.Issued.{sent_words, copied_words}
 use Rattle.all_issued_law.proofs.Copies.{copies_have_old_words}
 use Rattle.ever_issued_law.specs.Standing.{flown_words, FormerWords, Settled, KeepsIssued, EventsIssueWords}

@@ -1,27 +1,27 @@
 -- The word of a pointer was issued: that of its object where it isn't stale, else the first word of a reference that was made from it, or one from which an object was taken.
 use Rattle.std.proofs.Common.{◌≡◌, inl, inr, ⊎_elim, ℕ, ◌==◌, ◌||◌, Bool, true, false, List, [], ◌∷◌, Option, Some, None, refl, sym, ap, subst, ◌∙◌}
-use Rattle.heap_partition.specs.declared.value.Owned.TheVariants as owned
-use Rattle.mut_borrow.specs.declared.mutable.MutRef.{MutRef}
-use Rattle.thread_state.specs.declared.value.Value.{Value}
-use Rattle.thread_state.specs.declared.value.Value.TheVariants as value
-use Rattle.server_model.specs.Servers.{Cluster}
-use Rattle.heap_law.specs.Names.{Among, tot, same_object}
-use Rattle.heap_law.specs.Things.{Location, borrows, things_of}
-use Rattle.heap_law.specs.Follow.{Ground, value_in, value_behind}
-use Rattle.heap_law.specs.Sight.{Pointer, pointers_in, sight}
-use Rattle.heap_law.specs.Stale.{Reference, references, lent_places, same_location, is_among, is_held_at, Stale, changed_above, stale_above, taken_above}
-use Rattle.heap_law.specs.Placing.{is_first, other_first}
-use Rattle.heap_law.specs.Words.{IsStale}
-use Rattle.heap_law.specs.Coherent.{Holds, first_at_holder}
-use Rattle.heap_law.proofs.Names.{and_left, same_number}
-use Rattle.heap_law.proofs.Words.{none_at}
-use Rattle.event_law.proofs.Askers.{other_none}
-use Rattle.path_law.proofs.FreshPaths.{same_is}
-use Rattle.word_law.specs.Reworded.{HasPlaces}
-use Rattle.word_law.proofs.Grounds.{of_borrows}
-use Rattle.word_law.proofs.Standing.{pointer_at, tells}
-use Rattle.read_law.proofs.Homes.{of_all}
-use Rattle.old_words_law.specs.Old.{unissued, first_words, pointer_word, lent_words}
+use Rattle.all_issued_law.specs.Below.heap_partition.declared.value.Owned.TheVariants as owned
+use Rattle.all_issued_law.specs.Below.mut_borrow.declared.mutable.MutRef.{MutRef}
+use Rattle.all_issued_law.specs.Below.thread_state.declared.value.Value.{Value}
+use Rattle.all_issued_law.specs.Below.thread_state.declared.value.Value.TheVariants as value
+use Rattle.all_issued_law.specs.Below.server_model.Servers.{Cluster}
+use Rattle.all_issued_law.specs.Below.heap_law.Names.{Among, tot, same_object}
+use Rattle.all_issued_law.specs.Below.heap_law.Things.{Location, borrows, things_of}
+use Rattle.all_issued_law.specs.Below.heap_law.Follow.{Ground, value_in, value_behind}
+use Rattle.all_issued_law.specs.Below.heap_law.Sight.{Pointer, pointers_in, sight}
+use Rattle.all_issued_law.specs.Below.heap_law.Stale.{Reference, references, lent_places, same_location, is_among, is_held_at, Stale, changed_above, stale_above, taken_above}
+use Rattle.all_issued_law.specs.Below.heap_law.Placing.{is_first, other_first}
+use Rattle.all_issued_law.specs.Below.heap_law.Words.{IsStale}
+use Rattle.all_issued_law.specs.Below.heap_law.Coherent.{Holds, first_at_holder}
+use Rattle.all_issued_law.proofs.Below.heap_law.Names.{and_left, same_number}
+use Rattle.all_issued_law.proofs.Below.heap_law.Words.{none_at}
+use Rattle.all_issued_law.proofs.Below.event_law.Askers.{other_none}
+use Rattle.all_issued_law.proofs.Below.path_law.FreshPaths.{same_is}
+use Rattle.all_issued_law.specs.Below.word_law.Reworded.{HasPlaces}
+use Rattle.all_issued_law.proofs.Below.word_law.Grounds.{of_borrows}
+use Rattle.all_issued_law.proofs.Below.word_law.Standing.{pointer_at, tells}
+use Rattle.all_issued_law.proofs.Below.read_law.Homes.{of_all}
+use Rattle.all_issued_law.specs.Below.old_words_law.Old.{unissued, first_words, pointer_word, lent_words}
 use Rattle.ever_issued_law.specs.Standing.{FormerWords, Settled}
 use Rattle.ever_issued_law.proofs.Live.{object_issued}
 

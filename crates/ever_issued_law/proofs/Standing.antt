@@ -1,34 +1,34 @@
 -- Each word that stands anywhere was issued, thing by thing.
 use Rattle.std.proofs.Common.{◌≡◌, inl, inr, ℕ, zero, suc, ◌+◌, ◌≤◌, ◌==◌, ◌&&◌, Bool, true, false, not, Option, Some, None, refl, sym, ap, subst, ◌∙◌, arith}
 use Rattle.std.proofs.lemmas.Bool.{eq-eqb}
-use Rattle.fr_base.specs.declared.name.ObjNo.{ObjNo}
-use Rattle.fr_base.specs.declared.place.Lval.{Lval}
-use Rattle.global_addr.specs.Words.{server_of, address_of}
-use Rattle.heap_partition.specs.declared.value.Cell.{Cell}
-use Rattle.heap_partition.specs.declared.value.Owned.{Owned}
-use Rattle.heap_partition.specs.declared.value.Owned.TheVariants as owned
-use Rattle.thread_state.specs.declared.phase.Phase.{Phase}
-use Rattle.thread_state.specs.declared.phase.Phase.TheVariants as phase
-use Rattle.server_msgs.specs.declared.message.Message.{Message}
-use Rattle.server_msgs.specs.declared.message.Message.TheVariants as message
-use Rattle.server_model.specs.Servers.{Cluster}
-use Rattle.heap_law.specs.Names.{Among, tot, one, if_so, some, same_object}
-use Rattle.heap_law.specs.Things.{Location, at_slot, at_temp, in_cell, Thing, holds, shares, borrows, lies, flies, copied, uses, sent, stands, things_of}
-use Rattle.heap_law.specs.Follow.{Standing, Ground, place_at}
-use Rattle.heap_law.specs.Sight.{Pointer, pointer_in, location_of, pointers_of, is_word, word, sight}
-use Rattle.heap_law.specs.Placing.{owned_word, message_word, phase_word, words}
-use Rattle.heap_law.specs.Weights.{lies_at, lies_under, uses_of, users_of}
-use Rattle.heap_law.specs.Paths.{Awaited}
-use Rattle.heap_law.specs.Walking.{instr_of, asks_for, asked_for}
-use Rattle.heap_law.specs.Requests.{not_under, not_there, lent_place, lies_here, taken_there, taken_phase}
-use Rattle.heap_law.proofs.Bags.{an_object, loose, content_held, cluster_whole}
-use Rattle.heap_law.proofs.Names.{and_left, and_right, same_number}
-use Rattle.heap_law.proofs.Words.{none_at, none_all, named, itself, words_law}
-use Rattle.event_law.proofs.Askers.{other_none}
-use Rattle.word_law.proofs.Standing.{lying, pointers_among}
-use Rattle.read_law.proofs.Flights.{found, truly}
-use Rattle.walk_law.proofs.Below.wait_law.Found.{among_weighs, standing_listed}
-use Rattle.old_words_law.specs.Old.{unissued, first_words}
+use Rattle.all_issued_law.specs.Below.fr_base.declared.name.ObjNo.{ObjNo}
+use Rattle.all_issued_law.specs.Below.fr_base.declared.place.Lval.{Lval}
+use Rattle.all_issued_law.specs.Below.global_addr.Words.{server_of, address_of}
+use Rattle.all_issued_law.specs.Below.heap_partition.declared.value.Cell.{Cell}
+use Rattle.all_issued_law.specs.Below.heap_partition.declared.value.Owned.{Owned}
+use Rattle.all_issued_law.specs.Below.heap_partition.declared.value.Owned.TheVariants as owned
+use Rattle.all_issued_law.specs.Below.thread_state.declared.phase.Phase.{Phase}
+use Rattle.all_issued_law.specs.Below.thread_state.declared.phase.Phase.TheVariants as phase
+use Rattle.all_issued_law.specs.Below.server_msgs.declared.message.Message.{Message}
+use Rattle.all_issued_law.specs.Below.server_msgs.declared.message.Message.TheVariants as message
+use Rattle.all_issued_law.specs.Below.server_model.Servers.{Cluster}
+use Rattle.all_issued_law.specs.Below.heap_law.Names.{Among, tot, one, if_so, some, same_object}
+use Rattle.all_issued_law.specs.Below.heap_law.Things.{Location, at_slot, at_temp, in_cell, Thing, holds, shares, borrows, lies, flies, copied, uses, sent, stands, things_of}
+use Rattle.all_issued_law.specs.Below.heap_law.Follow.{Standing, Ground, place_at}
+use Rattle.all_issued_law.specs.Below.heap_law.Sight.{Pointer, pointer_in, location_of, pointers_of, is_word, word, sight}
+use Rattle.all_issued_law.specs.Below.heap_law.Placing.{owned_word, message_word, phase_word, words}
+use Rattle.all_issued_law.specs.Below.heap_law.Weights.{lies_at, lies_under, uses_of, users_of}
+use Rattle.all_issued_law.specs.Below.heap_law.Paths.{Awaited}
+use Rattle.all_issued_law.specs.Below.heap_law.Walking.{instr_of, asks_for, asked_for}
+use Rattle.all_issued_law.specs.Below.heap_law.Requests.{not_under, not_there, lent_place, lies_here, taken_there, taken_phase}
+use Rattle.all_issued_law.proofs.Below.heap_law.Bags.{an_object, loose, content_held, cluster_whole}
+use Rattle.all_issued_law.proofs.Below.heap_law.Names.{and_left, and_right, same_number}
+use Rattle.all_issued_law.proofs.Below.heap_law.Words.{none_at, none_all, named, itself, words_law}
+use Rattle.all_issued_law.proofs.Below.event_law.Askers.{other_none}
+use Rattle.all_issued_law.proofs.Below.word_law.Standing.{lying, pointers_among}
+use Rattle.all_issued_law.proofs.Below.read_law.Flights.{found, truly}
+use Rattle.all_issued_law.proofs.Below.wait_law.Found.{among_weighs, standing_listed}
+use Rattle.all_issued_law.specs.Below.old_words_law.Old.{unissued, first_words}
 use Rattle.all_issued_law.specs.Issued.{copied_words}
 use Rattle.ever_issued_law.specs.Standing.{flown_words, FormerWords, Settled, IssuedFollows}
 use Rattle.ever_issued_law.proofs.Live.{alive}

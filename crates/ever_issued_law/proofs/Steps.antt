@@ -1,43 +1,43 @@
 -- After the step of a thread: who has taken something is another one, and the pointers on its way are what they were.
 use Rattle.std.proofs.Common.{◌≡◌, ℕ, true, false, Some, sym, ap, ◌∙◌, arith}
 use Rattle.std.specs.Prelude.{slice_get}
-use Rattle.fr_typing.proofs.PlaceLemmas.{eq_cases}
-use Rattle.fr_base.specs.declared.instruction.Instr.TheVariants as instr
-use Rattle.fr_base.specs.declared.place.Lval.{Lval}
-use Rattle.journal.specs.View.{EntryView}
-use Rattle.server_model.specs.declared.event.Event.{Event}
-use Rattle.server_model.specs.declared.event.What.TheVariants.{Step}
-use Rattle.server_model.specs.Prepare.{is_taken}
-use Rattle.server_model.specs.Servers.{Cluster}
-use Rattle.server_model.specs.Clusters.{apply}
-use Rattle.heap_law.specs.Names.{Among, tot}
-use Rattle.heap_law.specs.Things.{things_of}
-use Rattle.heap_law.specs.Follow.{Standing, threads_in, thread_at}
-use Rattle.heap_law.specs.Sight.{Sight, sight}
-use Rattle.event_law.specs.Laws.{Gives, FewEvents}
-use Rattle.event_law.proofs.Results.{both_give}
-use Rattle.event_law.proofs.Sending.{applied_part}
-use Rattle.type_law.specs.ClusterTypes.{IsCoherent}
-use Rattle.path_law.specs.HeapStore.{GoesOn, HasPaths}
-use Rattle.path_law.specs.Pointing.{lends}
-use Rattle.path_law.proofs.Sole.{some_is}
-use Rattle.word_law.specs.Reworded.{HasPlaces}
-use Rattle.word_law.specs.Unmoved.{pointing}
-use Rattle.still_law.proofs.Told.{found}
-use Rattle.wait_law.specs.Places.{Follows, writes}
-use Rattle.wait_law.proofs.Written.{Written}
-use Rattle.walk_law.specs.Pointers.{SamePointers}
-use Rattle.walk_law.proofs.Clusters.{SeesOn}
-use Rattle.walk_law.proofs.Followed.{same_settings}
-use Rattle.walk_law.proofs.New.{newly}
-use Rattle.walk_law.proofs.Others.{Known, known, step_lasts, others_step}
-use Rattle.walk_law.proofs.Still.{places_of, stays as stays_still}
+use Rattle.all_issued_law.proofs.Below.fr_typing.PlaceLemmas.{eq_cases}
+use Rattle.all_issued_law.specs.Below.fr_base.declared.instruction.Instr.TheVariants as instr
+use Rattle.all_issued_law.specs.Below.fr_base.declared.place.Lval.{Lval}
+use Rattle.all_issued_law.specs.Below.journal.View.{EntryView}
+use Rattle.all_issued_law.specs.Below.server_model.declared.event.Event.{Event}
+use Rattle.all_issued_law.specs.Below.server_model.declared.event.What.TheVariants.{Step}
+use Rattle.all_issued_law.specs.Below.server_model.Prepare.{is_taken}
+use Rattle.all_issued_law.specs.Below.server_model.Servers.{Cluster}
+use Rattle.all_issued_law.specs.Below.server_model.Clusters.{apply}
+use Rattle.all_issued_law.specs.Below.heap_law.Names.{Among, tot}
+use Rattle.all_issued_law.specs.Below.heap_law.Things.{things_of}
+use Rattle.all_issued_law.specs.Below.heap_law.Follow.{Standing, threads_in, thread_at}
+use Rattle.all_issued_law.specs.Below.heap_law.Sight.{Sight, sight}
+use Rattle.all_issued_law.specs.Below.event_law.Laws.{Gives, FewEvents}
+use Rattle.all_issued_law.proofs.Below.event_law.Results.{both_give}
+use Rattle.all_issued_law.proofs.Below.event_law.Sending.{applied_part}
+use Rattle.all_issued_law.specs.Below.type_law.ClusterTypes.{IsCoherent}
+use Rattle.all_issued_law.specs.Below.path_law.HeapStore.{GoesOn, HasPaths}
+use Rattle.all_issued_law.specs.Below.path_law.Pointing.{lends}
+use Rattle.all_issued_law.proofs.Below.path_law.Sole.{some_is}
+use Rattle.all_issued_law.specs.Below.word_law.Reworded.{HasPlaces}
+use Rattle.all_issued_law.specs.Below.word_law.Unmoved.{pointing}
+use Rattle.all_issued_law.proofs.Below.still_law.Told.{found}
+use Rattle.all_issued_law.specs.Below.wait_law.Places.{Follows, writes}
+use Rattle.all_issued_law.proofs.Below.wait_law.Written.{Written}
+use Rattle.taken_law.specs.Below.walk_law.Pointers.{SamePointers}
+use Rattle.taken_law.proofs.Below.walk_law.Clusters.{SeesOn}
+use Rattle.taken_law.proofs.Below.walk_law.Followed.{same_settings}
+use Rattle.taken_law.proofs.Below.walk_law.New.{newly}
+use Rattle.taken_law.proofs.Below.walk_law.Others.{Known, known, step_lasts, others_step}
+use Rattle.taken_law.proofs.Below.walk_law.Still.{places_of, stays as stays_still}
 use Rattle.taken_law.proofs.Landed.{all_give}
 use Rattle.taken_law.proofs.After.{Stays, stays_there}
 use Rattle.taken_law.proofs.Own.{Untaken, own_untaken}
 use Rattle.taken_law.proofs.Stands.{of_others}
 use Rattle.taken_law.proofs.Stood.{none_new}
-use Rattle.old_words_law.specs.Old.{unissued}
+use Rattle.all_issued_law.specs.Below.old_words_law.Old.{unissued}
 use Rattle.ever_issued_law.specs.Lent.{StepsLeaveLent}
 use Rattle.ever_issued_law.proofs.Taken.{lent_by, each_none, idle, kept}
 
@@ -96,6 +96,6 @@ module _ (k : Cluster) (e : Event) (t : ℕ) (is : e.what ≡ Step t) (coherent 
 
 pub steps_leave_lent : StepsLeaveLent
 steps_leave_lent k e t is coherent few =
-    both_give (λ (d : Cluster × EntryView). Then k e t is coherent few d.0) (λ (d : Cluster × EntryView). Known k e coherent few d × Untaken t (things_of d.0)) (λ (d : Cluster × EntryView). Rattle.old_words_law.specs.Old.lent_words (unissued k) (sight d.0) ≡ 0) (apply k e) (then k e t is coherent few)
+    both_give (λ (d : Cluster × EntryView). Then k e t is coherent few d.0) (λ (d : Cluster × EntryView). Known k e coherent few d × Untaken t (things_of d.0)) (λ (d : Cluster × EntryView). Rattle.all_issued_law.specs.Below.old_words_law.Old.lent_words (unissued k) (sight d.0) ≡ 0) (apply k e) (then k e t is coherent few)
     (both_give (Known k e coherent few) (λ (d : Cluster × EntryView). Untaken t (things_of d.0)) (λ (d : Cluster × EntryView). Known k e coherent few d × Untaken t (things_of d.0)) (apply k e) (known k e coherent few) (own_untaken k e t is coherent.sound few) (λ d a b. (a, b)))
     (λ d a b. each_none (unissued k) d.0 (step_none k e t is coherent few d.0 a ((b.0).1 t is).0 ((b.0).1 t is).1 b.1))

@@ -2,30 +2,30 @@
 use Rattle.std.proofs.Common.{◌≡◌, ℕ, zero, suc, Option, Some, None, List, [], ◌∷◌, refl, sym, ap, ◌∙◌, arith}
 use Rattle.std.specs.Prelude.{slice_get}
 use Rattle.std.proofs.lemmas.Bool.{eq-eqb}
-use Rattle.fr_base.specs.declared.instruction.Instr.{Instr}
-use Rattle.fr_base.specs.declared.instruction.Instr.TheVariants as instr
-use Rattle.fr_base.specs.declared.place.Lval.{Lval}
-use Rattle.heap_partition.specs.declared.value.Owned.TheVariants as owned
-use Rattle.thread_state.specs.View.{is_over}
-use Rattle.thread_state.specs.declared.phase.Phase.{Phase}
-use Rattle.thread_state.specs.declared.phase.Phase.TheVariants as phase
-use Rattle.thread_state.specs.declared.value.Value.{Value}
-use Rattle.thread_state.specs.declared.value.Value.TheVariants as value
-use Rattle.server_model.specs.Servers.{Cluster}
-use Rattle.heap_law.specs.Names.{Among, tot, one}
-use Rattle.heap_law.specs.Things.{Location}
-use Rattle.heap_law.specs.Follow.{Standing, Ground, value_in, value_behind, locate, hop_at}
-use Rattle.heap_law.specs.Sight.{Sight, sight}
-use Rattle.heap_law.specs.Stale.{one_star_less, lent_place, with_place, lent_places}
-use Rattle.heap_law.specs.Walking.{instr_of}
-use Rattle.heap_law.specs.Coherent.{Holds, are_issued}
-use Rattle.heap_law.proofs.Words.{none_all}
-use Rattle.path_law.specs.HeapStore.{GoesOn}
-use Rattle.word_law.specs.Unmoved.{pointing}
-use Rattle.walk_law.proofs.Sentences.{SameHops}
+use Rattle.all_issued_law.specs.Below.fr_base.declared.instruction.Instr.{Instr}
+use Rattle.all_issued_law.specs.Below.fr_base.declared.instruction.Instr.TheVariants as instr
+use Rattle.all_issued_law.specs.Below.fr_base.declared.place.Lval.{Lval}
+use Rattle.all_issued_law.specs.Below.heap_partition.declared.value.Owned.TheVariants as owned
+use Rattle.all_issued_law.specs.Below.thread_state.View.{is_over}
+use Rattle.all_issued_law.specs.Below.thread_state.declared.phase.Phase.{Phase}
+use Rattle.all_issued_law.specs.Below.thread_state.declared.phase.Phase.TheVariants as phase
+use Rattle.all_issued_law.specs.Below.thread_state.declared.value.Value.{Value}
+use Rattle.all_issued_law.specs.Below.thread_state.declared.value.Value.TheVariants as value
+use Rattle.all_issued_law.specs.Below.server_model.Servers.{Cluster}
+use Rattle.all_issued_law.specs.Below.heap_law.Names.{Among, tot, one}
+use Rattle.all_issued_law.specs.Below.heap_law.Things.{Location}
+use Rattle.all_issued_law.specs.Below.heap_law.Follow.{Standing, Ground, value_in, value_behind, locate, hop_at}
+use Rattle.all_issued_law.specs.Below.heap_law.Sight.{Sight, sight}
+use Rattle.all_issued_law.specs.Below.heap_law.Stale.{one_star_less, lent_place, with_place, lent_places}
+use Rattle.all_issued_law.specs.Below.heap_law.Walking.{instr_of}
+use Rattle.all_issued_law.specs.Below.heap_law.Coherent.{Holds, are_issued}
+use Rattle.all_issued_law.proofs.Below.heap_law.Words.{none_all}
+use Rattle.all_issued_law.specs.Below.path_law.HeapStore.{GoesOn}
+use Rattle.all_issued_law.specs.Below.word_law.Unmoved.{pointing}
+use Rattle.taken_law.proofs.Below.walk_law.Sentences.{SameHops}
 use Rattle.taken_law.proofs.Stands.{took, took_it}
-use Rattle.old_words_law.specs.Old.{unissued, pointer_word, lent_words}
-use Rattle.old_words_law.proofs.Stood.{stood_behind}
+use Rattle.all_issued_law.specs.Below.old_words_law.Old.{unissued, pointer_word, lent_words}
+use Rattle.all_issued_law.proofs.Below.old_words_law.Stood.{stood_behind}
 
 -- the word of the pointer from which the thread has taken an object
 abbrev pub lent_by : (ℕ → ℕ) → Sight → Standing → ℕ

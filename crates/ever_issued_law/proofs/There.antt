@@ -1,30 +1,30 @@
 -- A pointer with the word, or a thread that has taken an object under it, stands in the cluster where the object came.
 use Rattle.std.proofs.Common.{◌≡◌, ◌≤◌, ℕ, ◌+◌, ◌==◌, Bool, true, false, if◌then◌else◌, List, [], ◌∷◌, ◌++◌, Option, Some, None, option_map, refl, sym, ap, subst, ◌∙◌, arith}
 use Rattle.std.specs.Prelude.{slice_get}
-use Rattle.heap_partition.specs.declared.value.Cell.{Cell}
-use Rattle.owner_box.specs.Partition.{new_word}
-use Rattle.thread_state.specs.View.{ThreadState}
-use Rattle.thread_state.specs.declared.value.Value.{Value}
-use Rattle.thread_state.specs.declared.value.Value.TheVariants as value
-use Rattle.server_msgs.specs.declared.message.Message.TheVariants as message
-use Rattle.journal.specs.View.{EntryView}
-use Rattle.server_model.specs.declared.event.Event.{Event}
-use Rattle.server_model.specs.declared.event.What.TheVariants.{Deliver}
-use Rattle.server_model.specs.Servers.{Server, Cluster, server_at}
-use Rattle.server_model.specs.Work.{Hand, Site, then_some, thread_in, set_thread, put_back}
-use Rattle.server_model.specs.Objects.{deliver_moved}
-use Rattle.server_model.specs.Events.{enabled, left_by, received, deliver_message, does}
-use Rattle.server_model.specs.Clusters.{with_server, done_at, act_at, apply}
-use Rattle.heap_law.specs.Names.{tot, one}
-use Rattle.heap_law.specs.Things.{Thing, holds, borrows, lies, stands, things_at, gift_things, walk_things, slot_things, temp_things, thread_things, standing_things, cell_things, free_things, partition_things, server_things, things_of}
-use Rattle.heap_law.specs.Coherent.{IsSound}
-use Rattle.heap_law.proofs.Sums.{tot-append, server_parts}
-use Rattle.event_law.specs.Laws.{Gives, FewEvents}
-use Rattle.event_law.proofs.Results.{over_gives, test_gives}
-use Rattle.event_law.proofs.Bags.{thread_number}
-use Rattle.event_law.proofs.Events.{tot-server}
-use Rattle.event_law.proofs.Applied.{handed_on}
-use Rattle.event_law.proofs.Sending.{each_event_sends}
+use Rattle.all_issued_law.specs.Below.heap_partition.declared.value.Cell.{Cell}
+use Rattle.all_issued_law.specs.Below.owner_box.Partition.{new_word}
+use Rattle.all_issued_law.specs.Below.thread_state.View.{ThreadState}
+use Rattle.all_issued_law.specs.Below.thread_state.declared.value.Value.{Value}
+use Rattle.all_issued_law.specs.Below.thread_state.declared.value.Value.TheVariants as value
+use Rattle.all_issued_law.specs.Below.server_msgs.declared.message.Message.TheVariants as message
+use Rattle.all_issued_law.specs.Below.journal.View.{EntryView}
+use Rattle.all_issued_law.specs.Below.server_model.declared.event.Event.{Event}
+use Rattle.all_issued_law.specs.Below.server_model.declared.event.What.TheVariants.{Deliver}
+use Rattle.all_issued_law.specs.Below.server_model.Servers.{Server, Cluster, server_at}
+use Rattle.all_issued_law.specs.Below.server_model.Work.{Hand, Site, then_some, thread_in, set_thread, put_back}
+use Rattle.all_issued_law.specs.Below.server_model.Objects.{deliver_moved}
+use Rattle.all_issued_law.specs.Below.server_model.Events.{enabled, left_by, received, deliver_message, does}
+use Rattle.all_issued_law.specs.Below.server_model.Clusters.{with_server, done_at, act_at, apply}
+use Rattle.all_issued_law.specs.Below.heap_law.Names.{tot, one}
+use Rattle.all_issued_law.specs.Below.heap_law.Things.{Thing, holds, borrows, lies, stands, things_at, gift_things, walk_things, slot_things, temp_things, thread_things, standing_things, cell_things, free_things, partition_things, server_things, things_of}
+use Rattle.all_issued_law.specs.Below.heap_law.Coherent.{IsSound}
+use Rattle.all_issued_law.proofs.Below.heap_law.Sums.{tot-append, server_parts}
+use Rattle.all_issued_law.specs.Below.event_law.Laws.{Gives, FewEvents}
+use Rattle.all_issued_law.proofs.Below.event_law.Results.{over_gives, test_gives}
+use Rattle.all_issued_law.proofs.Below.event_law.Bags.{thread_number}
+use Rattle.all_issued_law.proofs.Below.event_law.Events.{tot-server}
+use Rattle.all_issued_law.proofs.Below.event_law.Applied.{handed_on}
+use Rattle.all_issued_law.proofs.Below.event_law.Sending.{each_event_sends}
 use Rattle.ever_issued_law.proofs.Put.{word_in, word_at, taken_as, Shown, lands_shown}
 
 -- THINGS

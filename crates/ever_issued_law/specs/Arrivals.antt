@@ -1,18 +1,18 @@
 -- WHAT WAS ISSUED STAYS ISSUED where an object comes (this project's rule).
 use Rattle.std.specs.Prelude.{◌≡◌, ℕ, true, nat_lt}
-use Rattle.global_addr.specs.Words.{colour_of}
-use Rattle.heap_partition.specs.declared.value.Cell.{Cell}
-use Rattle.server_msgs.specs.declared.message.Message.TheVariants.{Moved}
-use Rattle.journal.specs.View.{EntryView}
-use Rattle.server_model.specs.declared.event.Event.{Event}
-use Rattle.server_model.specs.Servers.{Cluster}
-use Rattle.server_model.specs.Clusters.{apply}
-use Rattle.heap_law.specs.Sight.{sight, issued}
-use Rattle.type_law.specs.ClusterTypes.{IsCoherent}
-use Rattle.path_law.specs.HeapStore.{HasPaths}
-use Rattle.word_law.specs.Unmoved.{Delivers}
-use Rattle.event_law.specs.Laws.{Gives, FewEvents}
-use Rattle.old_words_law.specs.Old.{unissued, lent_words}
+use Rattle.all_issued_law.specs.Below.global_addr.Words.{colour_of}
+use Rattle.all_issued_law.specs.Below.heap_partition.declared.value.Cell.{Cell}
+use Rattle.all_issued_law.specs.Below.server_msgs.declared.message.Message.TheVariants.{Moved}
+use Rattle.all_issued_law.specs.Below.journal.View.{EntryView}
+use Rattle.all_issued_law.specs.Below.server_model.declared.event.Event.{Event}
+use Rattle.all_issued_law.specs.Below.server_model.Servers.{Cluster}
+use Rattle.all_issued_law.specs.Below.server_model.Clusters.{apply}
+use Rattle.all_issued_law.specs.Below.heap_law.Sight.{sight, issued}
+use Rattle.all_issued_law.specs.Below.type_law.ClusterTypes.{IsCoherent}
+use Rattle.all_issued_law.specs.Below.path_law.HeapStore.{HasPaths}
+use Rattle.all_issued_law.specs.Below.word_law.Unmoved.{Delivers}
+use Rattle.all_issued_law.specs.Below.event_law.Laws.{Gives, FewEvents}
+use Rattle.all_issued_law.specs.Below.old_words_law.Old.{unissued, lent_words}
 
 -- from a coherent cluster in which few events were done: after the delivery of an object, its messages handed over, each word below the limit that had been issued is issued,
 -- where places have types then and the pointers from which threads have taken objects have words that had been issued

@@ -1,11 +1,11 @@
 -- EACH EVENT ISSUES THE WORDS THAT STAND AFTER IT, or they had been issued (this project's rule).
-use Rattle.journal.specs.View.{EntryView}
-use Rattle.server_model.specs.declared.event.Event.{Event}
-use Rattle.server_model.specs.Servers.{Cluster}
-use Rattle.server_model.specs.Clusters.{apply}
-use Rattle.heap_law.specs.Coherent.{Holds, are_issued}
-use Rattle.event_law.specs.Laws.{Gives, FewEvents}
-use Rattle.type_law.specs.ClusterTypes.{IsCoherent}
+use Rattle.all_issued_law.specs.Below.journal.View.{EntryView}
+use Rattle.all_issued_law.specs.Below.server_model.declared.event.Event.{Event}
+use Rattle.all_issued_law.specs.Below.server_model.Servers.{Cluster}
+use Rattle.all_issued_law.specs.Below.server_model.Clusters.{apply}
+use Rattle.all_issued_law.specs.Below.heap_law.Coherent.{Holds, are_issued}
+use Rattle.all_issued_law.specs.Below.event_law.Laws.{Gives, FewEvents}
+use Rattle.all_issued_law.specs.Below.type_law.ClusterTypes.{IsCoherent}
 use Rattle.ever_issued_law.specs.Standing.{Settled}
 
 -- from a coherent cluster in which few events were done, after each event that has a result, its messages handed over: each word that stands anywhere was issued, where the cluster has

@@ -1,17 +1,17 @@
 -- POINTERS FROM WHICH AN OBJECT WAS TAKEN (this project's rule): their words had been issued, after an event too.
 use Rattle.std.specs.Prelude.{◌≡◌, ℕ}
-use Rattle.heap_partition.specs.declared.value.Cell.{Cell}
-use Rattle.journal.specs.View.{EntryView}
-use Rattle.server_msgs.specs.declared.message.Message.TheVariants.{Moved}
-use Rattle.server_model.specs.declared.event.Event.{Event}
-use Rattle.server_model.specs.declared.event.What.TheVariants.{Step}
-use Rattle.server_model.specs.Servers.{Cluster}
-use Rattle.server_model.specs.Clusters.{apply}
-use Rattle.heap_law.specs.Sight.{sight}
-use Rattle.event_law.specs.Laws.{Gives, FewEvents}
-use Rattle.type_law.specs.ClusterTypes.{IsCoherent}
-use Rattle.word_law.specs.Unmoved.{Delivers}
-use Rattle.old_words_law.specs.Old.{unissued, lent_words}
+use Rattle.all_issued_law.specs.Below.heap_partition.declared.value.Cell.{Cell}
+use Rattle.all_issued_law.specs.Below.journal.View.{EntryView}
+use Rattle.all_issued_law.specs.Below.server_msgs.declared.message.Message.TheVariants.{Moved}
+use Rattle.all_issued_law.specs.Below.server_model.declared.event.Event.{Event}
+use Rattle.all_issued_law.specs.Below.server_model.declared.event.What.TheVariants.{Step}
+use Rattle.all_issued_law.specs.Below.server_model.Servers.{Cluster}
+use Rattle.all_issued_law.specs.Below.server_model.Clusters.{apply}
+use Rattle.all_issued_law.specs.Below.heap_law.Sight.{sight}
+use Rattle.all_issued_law.specs.Below.event_law.Laws.{Gives, FewEvents}
+use Rattle.all_issued_law.specs.Below.type_law.ClusterTypes.{IsCoherent}
+use Rattle.all_issued_law.specs.Below.word_law.Unmoved.{Delivers}
+use Rattle.all_issued_law.specs.Below.old_words_law.Old.{unissued, lent_words}
 
 -- after the step of a thread from a coherent cluster in which few events were done, its messages handed over
 abbrev pub StepsLeaveLent : Type 0

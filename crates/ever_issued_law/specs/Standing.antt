@@ -1,21 +1,21 @@
 -- WORDS THAT STAND, told by those of former times (this project's rule): the first words of references, the words of objects under way and of copies, and those of
 -- pointers from which an object was taken. Where these were issued each word that stands anywhere was.
 use Rattle.std.specs.Prelude.{◌≡◌, ℕ, true, nat_lt}
-use Rattle.global_addr.specs.Words.{colour_of}
-use Rattle.journal.specs.View.{EntryView}
-use Rattle.server_model.specs.declared.event.Event.{Event}
-use Rattle.server_model.specs.Servers.{Cluster}
-use Rattle.server_model.specs.Clusters.{apply}
-use Rattle.heap_law.specs.Names.{tot}
-use Rattle.heap_law.specs.Things.{Thing, flies, things_of}
-use Rattle.heap_law.specs.Sight.{Sight, issued, sight}
-use Rattle.heap_law.specs.Words.{HasWords}
-use Rattle.heap_law.specs.Turn.{WaitInTurn}
-use Rattle.heap_law.specs.Coherent.{Holds, are_issued, first_at_holder, objects_there, taken_stands, Users}
-use Rattle.event_law.specs.Laws.{Gives, FewEvents}
-use Rattle.type_law.specs.ClusterTypes.{IsCoherent}
-use Rattle.path_law.specs.HeapStore.{HasPaths}
-use Rattle.old_words_law.specs.Old.{unissued, first_words, lent_words}
+use Rattle.all_issued_law.specs.Below.global_addr.Words.{colour_of}
+use Rattle.all_issued_law.specs.Below.journal.View.{EntryView}
+use Rattle.all_issued_law.specs.Below.server_model.declared.event.Event.{Event}
+use Rattle.all_issued_law.specs.Below.server_model.Servers.{Cluster}
+use Rattle.all_issued_law.specs.Below.server_model.Clusters.{apply}
+use Rattle.all_issued_law.specs.Below.heap_law.Names.{tot}
+use Rattle.all_issued_law.specs.Below.heap_law.Things.{Thing, flies, things_of}
+use Rattle.all_issued_law.specs.Below.heap_law.Sight.{Sight, issued, sight}
+use Rattle.all_issued_law.specs.Below.heap_law.Words.{HasWords}
+use Rattle.all_issued_law.specs.Below.heap_law.Turn.{WaitInTurn}
+use Rattle.all_issued_law.specs.Below.heap_law.Coherent.{Holds, are_issued, first_at_holder, objects_there, taken_stands, Users}
+use Rattle.all_issued_law.specs.Below.event_law.Laws.{Gives, FewEvents}
+use Rattle.all_issued_law.specs.Below.type_law.ClusterTypes.{IsCoherent}
+use Rattle.all_issued_law.specs.Below.path_law.HeapStore.{HasPaths}
+use Rattle.all_issued_law.specs.Below.old_words_law.Old.{unissued, first_words, lent_words}
 use Rattle.all_issued_law.specs.Issued.{copied_words}
 
 -- WORDS OF FORMER TIMES, with a weight

@@ -1,77 +1,77 @@
 -- A mutable reference ends that was made from a variable's own pointer: one that is dirty gets the next colour or a new address first, or its object is asked for.
 use Rattle.std.proofs.Common.{◌≡◌, ◌≢◌, inl, inr, ⊎_elim, ℕ, ◌+◌, ◌-◌, ◌==◌, Bool, true, false, if◌then◌else◌, List, [], ◌∷◌, ◌++◌, Option, Some, None, IsSome, refl, sym, ap, subst, ◌∙◌, arith}
 use Rattle.std.specs.Prelude.{nat_lt, slice_get, slice_set, length}
-use Rattle.fr_base.specs.declared.place.Lval.{Lval}
-use Rattle.fr_base.specs.declared.instruction.Operand.{Operand}
-use Rattle.fr_base.specs.declared.instruction.Instr.{Instr}
-use Rattle.fr_base.specs.declared.instruction.Instr.TheVariants as instr
-use Rattle.fr_base.specs.declared.name.ObjNo.{ObjNo}
-use Rattle.global_addr.specs.Words.{colour_of, next_word, server_of}
-use Rattle.journal.specs.View.{EntryView}
-use Rattle.journal.specs.declared.act.Act.TheVariants as act
-use Rattle.mut_borrow.specs.declared.mutable.MutRef.{MutRef}
-use Rattle.mut_borrow.specs.declared.mutable.Cleaned.TheVariants.{Same, Tinted, MustRenew}
-use Rattle.mut_borrow.specs.Refs.{cleaned_answer}
-use Rattle.thread_state.specs.View.{ThreadState}
-use Rattle.thread_state.specs.declared.phase.Phase.TheVariants as phase
-use Rattle.thread_state.specs.declared.value.Value.{Value}
-use Rattle.thread_state.specs.declared.value.Value.TheVariants as value
-use Rattle.server_msgs.specs.declared.message.Message.TheVariants as message
-use Rattle.server_model.specs.declared.event.What.TheVariants.{Step}
-use Rattle.server_model.specs.Servers.{Server, Cluster, server_at}
-use Rattle.server_model.specs.Work.{Work, Hand, last_of, front_of, with_temps, thread_in, without_thread, then_some}
-use Rattle.server_model.specs.Clusters.{apply}
-use Rattle.server_model.specs.NewWords.{NewWord, issue_tint, issue_renewal}
-use Rattle.server_model.specs.Places.{Spot, nowhere as no_spot, in_slot, on_top, took, with_word, put_at, set_pointer, put_word, value_at}
-use Rattle.server_model.specs.Prepare.{EndRef, Prepared, requested, nothing, and_then, ready_at, ask_object, box_of, unlabelled, cleaned_by, clean_value, ending, assigned, prepare}
-use Rattle.server_model.specs.Commit.{commit}
-use Rattle.server_model.specs.Events.{can_step, has_phase, enabled, does, Stepped, committed, prepared, step}
-use Rattle.heap_law.specs.Things.{Location, at_slot, at_temp, thread_things, servers_things, things_of}
-use Rattle.heap_law.specs.Follow.{value_in, temp_of}
-use Rattle.heap_law.specs.Stale.{holder_of}
-use Rattle.heap_law.specs.Sight.{Pointer, pointers_in, taken_pointers, sight, issued}
-use Rattle.heap_law.specs.Words.{IsStale, HasWords, LeadsTo}
-use Rattle.heap_law.specs.Paths.{ends, path_of, assigning, ending as path_ending}
-use Rattle.heap_law.specs.Walking.{path}
-use Rattle.type_law.specs.ClusterTypes.{IsCoherent}
-use Rattle.path_law.specs.Pointing.{assigns as assigns_to}
-use Rattle.path_law.proofs.Contained.{reference_there}
-use Rattle.path_law.proofs.Origins.{among_first}
-use Rattle.end_law.specs.Dropped.{written, dropped}
-use Rattle.end_law.proofs.Lying.{ended_lies_there}
-use Rattle.read_law.specs.Reading.{LiesUnder}
-use Rattle.read_law.proofs.Lookups.{one_state}
-use Rattle.word_law.specs.Reworded.{HasPlaces, LiesThere, Reworded}
-use Rattle.word_law.specs.PutBack.{put_in, StandsHere, LeadsHome}
-use Rattle.word_law.specs.Unmoved.{LeavesWords}
-use Rattle.word_law.proofs.Grounds.{of_borrows}
-use Rattle.word_law.proofs.NewWord.{is_new}
-use Rattle.word_law.proofs.Past.{first_issued}
-use Rattle.word_law.proofs.Slots.{set_same}
-use Rattle.word_law.proofs.Standing.{told}
-use Rattle.word_law.proofs.Tints.{word_put, next_leads, slot_stands as standing_now, slots_reword}
-use Rattle.word_law.proofs.Put.{Split, put_split}
-use Rattle.move_law.proofs.Relaid.{relaid_rewords, renewals_reword}
-use Rattle.event_law.specs.Laws.{Gives, FewEvents}
-use Rattle.event_law.proofs.RulesKeep.{sums_kept}
-use Rattle.event_law.proofs.Bags.{all_standing, thread_number}
-use Rattle.event_law.proofs.Events.{others_of}
-use Rattle.event_law.proofs.Values.{last_split}
-use Rattle.event_law.proofs.NewWords.{hand_renews, puts_word}
-use Rattle.event_law.proofs.Results.{given_by, weaker}
-use Rattle.event_law.specs.Kinds.{instr_kind}
-use Rattle.event_law.proofs.Proved.{IsProvedKind}
-use Rattle.stay_law.proofs.Steps.{TakesNoneHere}
-use Rattle.prepare_law.specs.Requests.{WordsRise}
-use Rattle.prepare_law.proofs.Rising.{rise_itself}
-use Rattle.prepare_law.proofs.Hands.{Walks, first_hand, calm_waits, requests, stands, places}
-use Rattle.prepare_law.proofs.Along.{Along, along_cleaned}
-use Rattle.prepare_law.proofs.Asking.{found_number}
+use Rattle.borrow_law.specs.Below.fr_base.declared.place.Lval.{Lval}
+use Rattle.borrow_law.specs.Below.fr_base.declared.instruction.Operand.{Operand}
+use Rattle.borrow_law.specs.Below.fr_base.declared.instruction.Instr.{Instr}
+use Rattle.borrow_law.specs.Below.fr_base.declared.instruction.Instr.TheVariants as instr
+use Rattle.borrow_law.specs.Below.fr_base.declared.name.ObjNo.{ObjNo}
+use Rattle.borrow_law.specs.Below.global_addr.Words.{colour_of, next_word, server_of}
+use Rattle.borrow_law.specs.Below.journal.View.{EntryView}
+use Rattle.borrow_law.specs.Below.journal.declared.act.Act.TheVariants as act
+use Rattle.borrow_law.specs.Below.mut_borrow.declared.mutable.MutRef.{MutRef}
+use Rattle.borrow_law.specs.Below.mut_borrow.declared.mutable.Cleaned.TheVariants.{Same, Tinted, MustRenew}
+use Rattle.borrow_law.specs.Below.mut_borrow.Refs.{cleaned_answer}
+use Rattle.borrow_law.specs.Below.thread_state.View.{ThreadState}
+use Rattle.borrow_law.specs.Below.thread_state.declared.phase.Phase.TheVariants as phase
+use Rattle.borrow_law.specs.Below.thread_state.declared.value.Value.{Value}
+use Rattle.borrow_law.specs.Below.thread_state.declared.value.Value.TheVariants as value
+use Rattle.borrow_law.specs.Below.server_msgs.declared.message.Message.TheVariants as message
+use Rattle.borrow_law.specs.Below.server_model.declared.event.What.TheVariants.{Step}
+use Rattle.borrow_law.specs.Below.server_model.Servers.{Server, Cluster, server_at}
+use Rattle.borrow_law.specs.Below.server_model.Work.{Work, Hand, last_of, front_of, with_temps, thread_in, without_thread, then_some}
+use Rattle.borrow_law.specs.Below.server_model.Clusters.{apply}
+use Rattle.borrow_law.specs.Below.server_model.NewWords.{NewWord, issue_tint, issue_renewal}
+use Rattle.borrow_law.specs.Below.server_model.Places.{Spot, nowhere as no_spot, in_slot, on_top, took, with_word, put_at, set_pointer, put_word, value_at}
+use Rattle.borrow_law.specs.Below.server_model.Prepare.{EndRef, Prepared, requested, nothing, and_then, ready_at, ask_object, box_of, unlabelled, cleaned_by, clean_value, ending, assigned, prepare}
+use Rattle.borrow_law.specs.Below.server_model.Commit.{commit}
+use Rattle.borrow_law.specs.Below.server_model.Events.{can_step, has_phase, enabled, does, Stepped, committed, prepared, step}
+use Rattle.borrow_law.specs.Below.heap_law.Things.{Location, at_slot, at_temp, thread_things, servers_things, things_of}
+use Rattle.borrow_law.specs.Below.heap_law.Follow.{value_in, temp_of}
+use Rattle.borrow_law.specs.Below.heap_law.Stale.{holder_of}
+use Rattle.borrow_law.specs.Below.heap_law.Sight.{Pointer, pointers_in, taken_pointers, sight, issued}
+use Rattle.borrow_law.specs.Below.heap_law.Words.{IsStale, HasWords, LeadsTo}
+use Rattle.borrow_law.specs.Below.heap_law.Paths.{ends, path_of, assigning, ending as path_ending}
+use Rattle.borrow_law.specs.Below.heap_law.Walking.{path}
+use Rattle.borrow_law.specs.Below.type_law.ClusterTypes.{IsCoherent}
+use Rattle.borrow_law.specs.Below.path_law.Pointing.{assigns as assigns_to}
+use Rattle.borrow_law.proofs.Below.path_law.Contained.{reference_there}
+use Rattle.borrow_law.proofs.Below.path_law.Origins.{among_first}
+use Rattle.refs_law.specs.Below.end_law.Dropped.{written, dropped}
+use Rattle.refs_law.proofs.Below.end_law.Lying.{ended_lies_there}
+use Rattle.borrow_law.specs.Below.read_law.Reading.{LiesUnder}
+use Rattle.borrow_law.proofs.Below.read_law.Lookups.{one_state}
+use Rattle.borrow_law.specs.Below.word_law.Reworded.{HasPlaces, LiesThere, Reworded}
+use Rattle.borrow_law.specs.Below.word_law.PutBack.{put_in, StandsHere, LeadsHome}
+use Rattle.borrow_law.specs.Below.word_law.Unmoved.{LeavesWords}
+use Rattle.borrow_law.proofs.Below.word_law.Grounds.{of_borrows}
+use Rattle.borrow_law.proofs.Below.word_law.NewWord.{is_new}
+use Rattle.borrow_law.proofs.Below.word_law.Past.{first_issued}
+use Rattle.borrow_law.proofs.Below.word_law.Slots.{set_same}
+use Rattle.borrow_law.proofs.Below.word_law.Standing.{told}
+use Rattle.borrow_law.proofs.Below.word_law.Tints.{word_put, next_leads, slot_stands as standing_now, slots_reword}
+use Rattle.borrow_law.proofs.Below.word_law.Put.{Split, put_split}
+use Rattle.borrow_law.proofs.Below.move_law.Relaid.{relaid_rewords, renewals_reword}
+use Rattle.borrow_law.specs.Below.event_law.Laws.{Gives, FewEvents}
+use Rattle.borrow_law.proofs.Below.event_law.RulesKeep.{sums_kept}
+use Rattle.borrow_law.proofs.Below.event_law.Bags.{all_standing, thread_number}
+use Rattle.borrow_law.proofs.Below.event_law.Events.{others_of}
+use Rattle.borrow_law.proofs.Below.event_law.Values.{last_split}
+use Rattle.borrow_law.proofs.Below.event_law.NewWords.{hand_renews, puts_word}
+use Rattle.borrow_law.proofs.Below.event_law.Results.{given_by, weaker}
+use Rattle.borrow_law.specs.Below.event_law.Kinds.{instr_kind}
+use Rattle.borrow_law.proofs.Below.event_law.Proved.{IsProvedKind}
+use Rattle.refs_law.proofs.Below.stay_law.Steps.{TakesNoneHere}
+use Rattle.refs_law.specs.Below.prepare_law.Requests.{WordsRise}
+use Rattle.refs_law.proofs.Below.prepare_law.Rising.{rise_itself}
+use Rattle.refs_law.proofs.Below.prepare_law.Hands.{Walks, first_hand, calm_waits, requests, stands, places}
+use Rattle.refs_law.proofs.Below.prepare_law.Along.{Along, along_cleaned}
+use Rattle.refs_law.proofs.Below.prepare_law.Asking.{found_number}
 use Rattle.borrow_law.proofs.Renews.{Renewed, renewed_at}
-use Rattle.carry_law.proofs.Hands.{Ok, first_ok, step_by}
-use Rattle.carry_law.proofs.Places.{end_is}
-use Rattle.carry_law.proofs.Replaced.{at_a, lies_back}
-use Rattle.carry_law.proofs.Locks.{Kept, kept_where, holds_on}
+use Rattle.refs_law.proofs.Below.carry_law.Hands.{Ok, first_ok, step_by}
+use Rattle.refs_law.proofs.Below.carry_law.Places.{end_is}
+use Rattle.refs_law.proofs.Below.carry_law.Replaced.{at_a, lies_back}
+use Rattle.refs_law.proofs.Below.carry_law.Locks.{Kept, kept_where, holds_on}
 use Rattle.refs_law.specs.Unpassed.{IsUnpassed}
 use Rattle.refs_law.proofs.Chains.{cluster}
 use Rattle.finish_law.specs.Ends.{EndsReference, drops, discards, assigns, FlatEndsKeep}

@@ -1,72 +1,72 @@
 -- A mutable reference ends in its cluster, where nothing is cleaned and no star is followed.
 use Rattle.std.proofs.Common.{◌≡◌, inl, inr, ℕ, zero, suc, ◌+◌, ◌-◌, Bool, true, false, if◌then◌else◌, List, [], ◌∷◌, ◌++◌, Some, None, refl, sym, ap, subst, ◌∙◌, arith}
 use Rattle.std.specs.Prelude.{nat_lt, slice_get, length}
-use Rattle.fr_base.specs.declared.place.Lval.{Lval}
-use Rattle.fr_base.specs.declared.instruction.Operand.{Operand}
-use Rattle.fr_base.specs.declared.instruction.Instr.{Instr}
-use Rattle.fr_base.specs.declared.instruction.Instr.TheVariants as instr
-use Rattle.global_addr.specs.Words.{colour_of, next_word}
-use Rattle.journal.specs.View.{EntryView}
-use Rattle.mut_borrow.specs.declared.mutable.MutRef.{MutRef}
-use Rattle.mut_borrow.specs.declared.mutable.Cleaned.TheVariants.{Same, Tinted, MustRenew}
-use Rattle.mut_borrow.specs.Refs.{cleaned_answer}
-use Rattle.thread_state.specs.View.{ThreadState}
-use Rattle.thread_state.specs.declared.phase.Phase.{Phase}
-use Rattle.thread_state.specs.declared.phase.Phase.TheVariants as phase
-use Rattle.thread_state.specs.declared.value.Value.{Value}
-use Rattle.thread_state.specs.declared.value.Value.TheVariants as value
-use Rattle.server_model.specs.declared.event.What.TheVariants.{Step}
-use Rattle.server_model.specs.Servers.{Server, Cluster, server_at}
-use Rattle.server_model.specs.Work.{Hand, last_of, front_of, thread_in, without_thread}
-use Rattle.server_model.specs.Clusters.{apply}
-use Rattle.server_model.specs.Places.{Spot, nowhere as no_spot, in_slot as spot_slot, on_top, value_at}
-use Rattle.server_model.specs.Prepare.{EndRef, Prepared, nothing, and_then, unlabelled, clean_value, cleaned_by, ending, assigned, prepare}
-use Rattle.server_model.specs.Commit.{commit}
-use Rattle.server_model.specs.Events.{can_step, has_phase, enabled, does, Stepped, committed, prepared, step}
-use Rattle.heap_law.specs.Names.{Among}
-use Rattle.heap_law.specs.Things.{Location, at_slot, at_temp, in_cell, servers_things, things_of}
-use Rattle.heap_law.specs.Follow.{Standing, Ground, slot_of, temp_of, value_in}
-use Rattle.heap_law.specs.Stale.{Reference, references, holder_of, is_among, with_place, one_star_less, lent_places}
-use Rattle.heap_law.specs.Sight.{sight}
-use Rattle.heap_law.specs.Paths.{ends, path_of, assigning, ending as path_ending}
-use Rattle.heap_law.specs.Walking.{path}
-use Rattle.heap_law.specs.Coherent.{Holds, first_at_holder}
-use Rattle.type_law.specs.ClusterTypes.{IsCoherent}
-use Rattle.path_law.specs.HeapStore.{GoesOn, HasPaths}
-use Rattle.path_law.specs.Pointing.{assigns as assigns_to}
-use Rattle.path_law.proofs.Alike.{coherent_has_paths}
-use Rattle.path_law.proofs.Contained.{among_thread}
-use Rattle.path_law.proofs.Shown.{stands_there}
-use Rattle.end_law.specs.Dropped.{GivesUp, written, dropped}
-use Rattle.end_law.proofs.Given.{given_up_may_be}
-use Rattle.word_law.specs.Reworded.{HasPlaces}
-use Rattle.word_law.specs.Unmoved.{seen_at, taking_by, takings, Untouched, LeavesWords}
-use Rattle.word_law.proofs.Follows.{seen_places_lead}
-use Rattle.word_law.proofs.Takings.{reference_at, lents_are, lent_by, lent_listed, lent_told}
-use Rattle.word_law.proofs.Unmoved.{reference, stale_at}
-use Rattle.event_law.specs.Kinds.{instr_kind}
-use Rattle.event_law.specs.Laws.{Gives}
-use Rattle.event_law.proofs.Proved.{IsProvedKind}
-use Rattle.event_law.proofs.RulesKeep.{sums_kept, sums_spend}
-use Rattle.event_law.proofs.Bags.{all_standing}
-use Rattle.event_law.proofs.Events.{others_of}
-use Rattle.event_law.proofs.Steps.{step_keeps}
-use Rattle.event_law.proofs.ThreadThere.{thread_there}
-use Rattle.event_law.proofs.Values.{last_split}
-use Rattle.stay_law.proofs.Steps.{TakesNoneHere}
-use Rattle.prepare_law.proofs.Hands.{calm_goes}
-use Rattle.prepare_law.proofs.Asking.{found_number}
-use Rattle.carry_law.proofs.Passing.{no_temp}
-use Rattle.carry_law.proofs.Places.{end_is}
-use Rattle.carry_law.proofs.Hands.{leaves_chain, There, Ok, h0, first_ok, left_where, step_there}
+use Rattle.borrow_law.specs.Below.fr_base.declared.place.Lval.{Lval}
+use Rattle.borrow_law.specs.Below.fr_base.declared.instruction.Operand.{Operand}
+use Rattle.borrow_law.specs.Below.fr_base.declared.instruction.Instr.{Instr}
+use Rattle.borrow_law.specs.Below.fr_base.declared.instruction.Instr.TheVariants as instr
+use Rattle.borrow_law.specs.Below.global_addr.Words.{colour_of, next_word}
+use Rattle.borrow_law.specs.Below.journal.View.{EntryView}
+use Rattle.borrow_law.specs.Below.mut_borrow.declared.mutable.MutRef.{MutRef}
+use Rattle.borrow_law.specs.Below.mut_borrow.declared.mutable.Cleaned.TheVariants.{Same, Tinted, MustRenew}
+use Rattle.borrow_law.specs.Below.mut_borrow.Refs.{cleaned_answer}
+use Rattle.borrow_law.specs.Below.thread_state.View.{ThreadState}
+use Rattle.borrow_law.specs.Below.thread_state.declared.phase.Phase.{Phase}
+use Rattle.borrow_law.specs.Below.thread_state.declared.phase.Phase.TheVariants as phase
+use Rattle.borrow_law.specs.Below.thread_state.declared.value.Value.{Value}
+use Rattle.borrow_law.specs.Below.thread_state.declared.value.Value.TheVariants as value
+use Rattle.borrow_law.specs.Below.server_model.declared.event.What.TheVariants.{Step}
+use Rattle.borrow_law.specs.Below.server_model.Servers.{Server, Cluster, server_at}
+use Rattle.borrow_law.specs.Below.server_model.Work.{Hand, last_of, front_of, thread_in, without_thread}
+use Rattle.borrow_law.specs.Below.server_model.Clusters.{apply}
+use Rattle.borrow_law.specs.Below.server_model.Places.{Spot, nowhere as no_spot, in_slot as spot_slot, on_top, value_at}
+use Rattle.borrow_law.specs.Below.server_model.Prepare.{EndRef, Prepared, nothing, and_then, unlabelled, clean_value, cleaned_by, ending, assigned, prepare}
+use Rattle.borrow_law.specs.Below.server_model.Commit.{commit}
+use Rattle.borrow_law.specs.Below.server_model.Events.{can_step, has_phase, enabled, does, Stepped, committed, prepared, step}
+use Rattle.borrow_law.specs.Below.heap_law.Names.{Among}
+use Rattle.borrow_law.specs.Below.heap_law.Things.{Location, at_slot, at_temp, in_cell, servers_things, things_of}
+use Rattle.borrow_law.specs.Below.heap_law.Follow.{Standing, Ground, slot_of, temp_of, value_in}
+use Rattle.borrow_law.specs.Below.heap_law.Stale.{Reference, references, holder_of, is_among, with_place, one_star_less, lent_places}
+use Rattle.borrow_law.specs.Below.heap_law.Sight.{sight}
+use Rattle.borrow_law.specs.Below.heap_law.Paths.{ends, path_of, assigning, ending as path_ending}
+use Rattle.borrow_law.specs.Below.heap_law.Walking.{path}
+use Rattle.borrow_law.specs.Below.heap_law.Coherent.{Holds, first_at_holder}
+use Rattle.borrow_law.specs.Below.type_law.ClusterTypes.{IsCoherent}
+use Rattle.borrow_law.specs.Below.path_law.HeapStore.{GoesOn, HasPaths}
+use Rattle.borrow_law.specs.Below.path_law.Pointing.{assigns as assigns_to}
+use Rattle.borrow_law.proofs.Below.path_law.Alike.{coherent_has_paths}
+use Rattle.borrow_law.proofs.Below.path_law.Contained.{among_thread}
+use Rattle.borrow_law.proofs.Below.path_law.Shown.{stands_there}
+use Rattle.refs_law.specs.Below.end_law.Dropped.{GivesUp, written, dropped}
+use Rattle.refs_law.proofs.Below.end_law.Given.{given_up_may_be}
+use Rattle.borrow_law.specs.Below.word_law.Reworded.{HasPlaces}
+use Rattle.borrow_law.specs.Below.word_law.Unmoved.{seen_at, taking_by, takings, Untouched, LeavesWords}
+use Rattle.borrow_law.proofs.Below.word_law.Follows.{seen_places_lead}
+use Rattle.borrow_law.proofs.Below.word_law.Takings.{reference_at, lents_are, lent_by, lent_listed, lent_told}
+use Rattle.borrow_law.proofs.Below.word_law.Unmoved.{reference, stale_at}
+use Rattle.borrow_law.specs.Below.event_law.Kinds.{instr_kind}
+use Rattle.borrow_law.specs.Below.event_law.Laws.{Gives}
+use Rattle.borrow_law.proofs.Below.event_law.Proved.{IsProvedKind}
+use Rattle.borrow_law.proofs.Below.event_law.RulesKeep.{sums_kept, sums_spend}
+use Rattle.borrow_law.proofs.Below.event_law.Bags.{all_standing}
+use Rattle.borrow_law.proofs.Below.event_law.Events.{others_of}
+use Rattle.borrow_law.proofs.Below.event_law.Steps.{step_keeps}
+use Rattle.borrow_law.proofs.Below.event_law.ThreadThere.{thread_there}
+use Rattle.borrow_law.proofs.Below.event_law.Values.{last_split}
+use Rattle.refs_law.proofs.Below.stay_law.Steps.{TakesNoneHere}
+use Rattle.refs_law.proofs.Below.prepare_law.Hands.{calm_goes}
+use Rattle.refs_law.proofs.Below.prepare_law.Asking.{found_number}
+use Rattle.refs_law.proofs.Below.carry_law.Passing.{no_temp}
+use Rattle.refs_law.proofs.Below.carry_law.Places.{end_is}
+use Rattle.refs_law.proofs.Below.carry_law.Hands.{leaves_chain, There, Ok, h0, first_ok, left_where, step_there}
 use Rattle.refs_law.specs.Unpassed.{IsUnpassed}
 use Rattle.refs_law.proofs.Unpassed.{unnamed_are_unpassed}
 use Rattle.refs_law.proofs.Fewer.{slots_lead, cells_lead, holders_lead}
 use Rattle.refs_law.proofs.Chains.{held_there, OnWay, cluster, first_seen, first_places, on_start, unpassed_at_start, firsts, with_thread}
 use Rattle.finish_law.specs.Ends.{EndsReference, drops, discards, assigns, EndsAtHand, EndsAtHandLeaveWords}
-use Rattle.prepare_law.specs.Requests.{WordsRise}
-use Rattle.prepare_law.proofs.Rising.{rise_itself}
-use Rattle.carry_law.proofs.Locks.{holds_on}
+use Rattle.refs_law.specs.Below.prepare_law.Requests.{WordsRise}
+use Rattle.refs_law.proofs.Below.prepare_law.Rising.{rise_itself}
+use Rattle.refs_law.proofs.Below.carry_law.Locks.{holds_on}
 use Rattle.finish_law.proofs.EndHands.{newest_there, SpotIs, Base, AtEnd, Past, past_leaves, slot_ends, top_ends, variable_ends, follow, ready_end}
 use Rattle.finish_law.proofs.EndTypes.{alone, fresh as fresh_there, only as only_there, untaken as untaken_there}
 

@@ -2,60 +2,60 @@
 use Rattle.std.proofs.Common.{◌≡◌, ◌≢◌, ◌⊎◌, inl, inr, ⊎_elim, ℕ, zero, suc, ◌+◌, ◌==◌, Bool, true, false, if◌then◌else◌, List, [], ◌∷◌, ◌++◌, Option, Some, None, option_map, refl, sym, ap, subst, ◌∙◌, arith}
 use Rattle.std.proofs.lemmas.Bool.Decides.{nat_tests}
 use Rattle.std.specs.Prelude.{nat_lt, slice_get, slice_set, length}
-use Rattle.fr_base.specs.declared.place.Lval.{Lval}
-use Rattle.fr_base.specs.declared.instruction.Operand.{Operand}
-use Rattle.fr_base.specs.declared.instruction.Operand.TheVariants as operand
-use Rattle.fr_base.specs.declared.instruction.Instr.{Instr}
-use Rattle.fr_base.specs.declared.instruction.Instr.TheVariants as instr
-use Rattle.fr_base.specs.declared.step.Fresh.TheVariants as fresh
-use Rattle.heap_partition.specs.declared.value.Owned.TheVariants as owned
-use Rattle.mut_borrow.specs.declared.mutable.MutRef.{MutRef}
-use Rattle.mut_borrow.specs.Refs.{finish_word}
-use Rattle.thread_state.specs.View.{ThreadState}
-use Rattle.thread_state.specs.declared.value.Value.{Value}
-use Rattle.thread_state.specs.declared.value.Value.TheVariants as value
-use Rattle.server_model.specs.Servers.{Server, Cluster, server_at}
-use Rattle.server_model.specs.Work.{Hand, Popped, last_of, front_of, with_slots, with_temps, thread_in, then_some, pop, unit}
-use Rattle.server_model.specs.Drop.{drop_value, finish, finished_at}
-use Rattle.server_model.specs.Places.{Spot, nowhere as no_spot, in_slot as spot_slot, value_at, with_word, put_slot, set_pointer}
-use Rattle.server_model.specs.Prepare.{Prepared, and_then, unlabelled, follow_ended, follow_holder, write_stars}
-use Rattle.server_model.specs.Commit.{goes_on, commit, label_dropped, assign, replace_slot, discard, drop_slot}
-use Rattle.server_model.specs.Events.{does, Stepped, committed, prepared}
-use Rattle.heap_law.specs.Names.{Among, other}
-use Rattle.heap_law.specs.Things.{Location, at_slot, at_temp, thread_things, things_of}
-use Rattle.heap_law.specs.Follow.{Ground, value_in, value_behind, locate}
-use Rattle.heap_law.specs.Stale.{Reference, references, holder_of, is_among, lent_places, is_held_at}
-use Rattle.heap_law.specs.Sight.{sight}
-use Rattle.heap_law.specs.Placing.{is_first, other_first}
-use Rattle.heap_law.proofs.Words.{none_at}
-use Rattle.path_law.proofs.Contained.{reference_there}
-use Rattle.path_law.proofs.Sole.{some_is}
-use Rattle.word_law.specs.Reworded.{HasPlaces}
-use Rattle.word_law.specs.Unmoved.{takings, LeavesWords}
-use Rattle.word_law.proofs.Put.{Split}
-use Rattle.word_law.proofs.Slots.{set_other}
-use Rattle.event_law.specs.Laws.{Gives}
-use Rattle.event_law.proofs.Results.{weaker}
-use Rattle.event_law.proofs.Values.{last_split}
-use Rattle.stay_law.proofs.Steps.{TakesNoneHere, owned_unseen}
-use Rattle.carry_law.proofs.Replaced.{places_on}
-use Rattle.carry_law.proofs.Passing.{Here, slot, temp, nowhere, located, here}
-use Rattle.carry_law.proofs.Places.{end_is}
-use Rattle.carry_law.proofs.Steps.{Does, goes_over}
+use Rattle.borrow_law.specs.Below.fr_base.declared.place.Lval.{Lval}
+use Rattle.borrow_law.specs.Below.fr_base.declared.instruction.Operand.{Operand}
+use Rattle.borrow_law.specs.Below.fr_base.declared.instruction.Operand.TheVariants as operand
+use Rattle.borrow_law.specs.Below.fr_base.declared.instruction.Instr.{Instr}
+use Rattle.borrow_law.specs.Below.fr_base.declared.instruction.Instr.TheVariants as instr
+use Rattle.borrow_law.specs.Below.fr_base.declared.step.Fresh.TheVariants as fresh
+use Rattle.borrow_law.specs.Below.heap_partition.declared.value.Owned.TheVariants as owned
+use Rattle.borrow_law.specs.Below.mut_borrow.declared.mutable.MutRef.{MutRef}
+use Rattle.borrow_law.specs.Below.mut_borrow.Refs.{finish_word}
+use Rattle.borrow_law.specs.Below.thread_state.View.{ThreadState}
+use Rattle.borrow_law.specs.Below.thread_state.declared.value.Value.{Value}
+use Rattle.borrow_law.specs.Below.thread_state.declared.value.Value.TheVariants as value
+use Rattle.borrow_law.specs.Below.server_model.Servers.{Server, Cluster, server_at}
+use Rattle.borrow_law.specs.Below.server_model.Work.{Hand, Popped, last_of, front_of, with_slots, with_temps, thread_in, then_some, pop, unit}
+use Rattle.borrow_law.specs.Below.server_model.Drop.{drop_value, finish, finished_at}
+use Rattle.borrow_law.specs.Below.server_model.Places.{Spot, nowhere as no_spot, in_slot as spot_slot, value_at, with_word, put_slot, set_pointer}
+use Rattle.borrow_law.specs.Below.server_model.Prepare.{Prepared, and_then, unlabelled, follow_ended, follow_holder, write_stars}
+use Rattle.borrow_law.specs.Below.server_model.Commit.{goes_on, commit, label_dropped, assign, replace_slot, discard, drop_slot}
+use Rattle.borrow_law.specs.Below.server_model.Events.{does, Stepped, committed, prepared}
+use Rattle.borrow_law.specs.Below.heap_law.Names.{Among, other}
+use Rattle.borrow_law.specs.Below.heap_law.Things.{Location, at_slot, at_temp, thread_things, things_of}
+use Rattle.borrow_law.specs.Below.heap_law.Follow.{Ground, value_in, value_behind, locate}
+use Rattle.borrow_law.specs.Below.heap_law.Stale.{Reference, references, holder_of, is_among, lent_places, is_held_at}
+use Rattle.borrow_law.specs.Below.heap_law.Sight.{sight}
+use Rattle.borrow_law.specs.Below.heap_law.Placing.{is_first, other_first}
+use Rattle.borrow_law.proofs.Below.heap_law.Words.{none_at}
+use Rattle.borrow_law.proofs.Below.path_law.Contained.{reference_there}
+use Rattle.borrow_law.proofs.Below.path_law.Sole.{some_is}
+use Rattle.borrow_law.specs.Below.word_law.Reworded.{HasPlaces}
+use Rattle.borrow_law.specs.Below.word_law.Unmoved.{takings, LeavesWords}
+use Rattle.borrow_law.proofs.Below.word_law.Put.{Split}
+use Rattle.borrow_law.proofs.Below.word_law.Slots.{set_other}
+use Rattle.borrow_law.specs.Below.event_law.Laws.{Gives}
+use Rattle.borrow_law.proofs.Below.event_law.Results.{weaker}
+use Rattle.borrow_law.proofs.Below.event_law.Values.{last_split}
+use Rattle.refs_law.proofs.Below.stay_law.Steps.{TakesNoneHere, owned_unseen}
+use Rattle.refs_law.proofs.Below.carry_law.Replaced.{places_on}
+use Rattle.refs_law.proofs.Below.carry_law.Passing.{Here, slot, temp, nowhere, located, here}
+use Rattle.refs_law.proofs.Below.carry_law.Places.{end_is}
+use Rattle.refs_law.proofs.Below.carry_law.Steps.{Does, goes_over}
 use Rattle.refs_law.specs.Unpassed.{IsUnpassed}
 use Rattle.refs_law.proofs.Chains.{rooted_over, cluster}
 use Rattle.refs_law.proofs.RefSteps.{relabelled, emptied, plain_comes, top_comes}
 use Rattle.finish_law.proofs.EndSteps.{Finishes, taken_same, same_takings, end_leaves}
 use Rattle.finish_law.proofs.EndPlaces.{Without, newest_without, emptied_without, top_without, first_finishes, word_finishes}
-use Rattle.carry_law.proofs.Hands.{Ok, Moved, leaves_chain}
+use Rattle.refs_law.proofs.Below.carry_law.Hands.{Ok, Moved, leaves_chain}
 use Rattle.std.proofs.Common.{IsSome}
-use Rattle.server_model.specs.Work.{working}
-use Rattle.heap_law.specs.Coherent.{IsSound}
-use Rattle.heap_law.specs.Words.{IsStale}
-use Rattle.word_law.specs.PutBack.{StandsHere}
-use Rattle.word_law.proofs.Put.{put_split}
-use Rattle.carry_law.proofs.Hands.{RootedIn, moved_from, places as then_places}
-use Rattle.prepare_law.specs.Requests.{WordsRise}
+use Rattle.borrow_law.specs.Below.server_model.Work.{working}
+use Rattle.borrow_law.specs.Below.heap_law.Coherent.{IsSound}
+use Rattle.borrow_law.specs.Below.heap_law.Words.{IsStale}
+use Rattle.borrow_law.specs.Below.word_law.PutBack.{StandsHere}
+use Rattle.borrow_law.proofs.Below.word_law.Put.{put_split}
+use Rattle.refs_law.proofs.Below.carry_law.Hands.{RootedIn, moved_from, places as then_places}
+use Rattle.refs_law.specs.Below.prepare_law.Requests.{WordsRise}
 
 -- a value is pushed
 pub length_end : {A : Type 0} (xs : List A) (v : A) → length (xs ++ v ∷ []) ≡ suc (length xs)

@@ -1,25 +1,25 @@
 -- How a mutable reference goes from a slot or the hand, and how the pointer at its holder gets its word in a variable.
 use Rattle.std.proofs.Common.{◌≡◌, ◌≢◌, inl, inr, ℕ, ◌+◌, false, List, [], ◌∷◌, ◌++◌, Some, None, refl, sym, ap, subst, ◌∙◌, arith}
 use Rattle.std.specs.Prelude.{slice_get, slice_set, length}
-use Rattle.fr_base.specs.declared.instruction.Instr.{Instr}
-use Rattle.fr_base.specs.declared.name.ObjNo.{ObjNo}
-use Rattle.heap_partition.specs.declared.value.Owned.TheVariants as owned
-use Rattle.mut_borrow.specs.declared.mutable.MutRef.{MutRef}
-use Rattle.thread_state.specs.View.{ThreadState}
-use Rattle.thread_state.specs.declared.value.Value.{Value}
-use Rattle.thread_state.specs.declared.value.Value.TheVariants as value
-use Rattle.server_model.specs.Places.{with_word}
-use Rattle.heap_law.specs.Names.{Among, tot}
-use Rattle.heap_law.specs.Things.{Location, in_slot, at_slot, at_temp, Thing, borrows, things_at, slot_things, temp_things, gift_things, walk_things}
-use Rattle.heap_law.specs.Sight.{Pointer, pointers_of}
-use Rattle.heap_law.specs.Weights.{owners}
-use Rattle.heap_law.proofs.Sums.{tot-append}
-use Rattle.word_law.specs.Unmoved.{pointing, taking_by}
-use Rattle.word_law.proofs.Slots.{set_same, set_other}
-use Rattle.stay_law.proofs.Alike.{Alike, itself, turned, chain, beside, alone, blank, goes}
-use Rattle.carry_law.proofs.Replaced.{tail_of}
-use Rattle.carry_law.proofs.Passing.{Here, slot, temp, nowhere, located, here}
-use Rattle.carry_law.proofs.Places.{end_none, end_other, end_things, end_sum, set_things, set_twice, placed_blank}
+use Rattle.borrow_law.specs.Below.fr_base.declared.instruction.Instr.{Instr}
+use Rattle.borrow_law.specs.Below.fr_base.declared.name.ObjNo.{ObjNo}
+use Rattle.borrow_law.specs.Below.heap_partition.declared.value.Owned.TheVariants as owned
+use Rattle.borrow_law.specs.Below.mut_borrow.declared.mutable.MutRef.{MutRef}
+use Rattle.borrow_law.specs.Below.thread_state.View.{ThreadState}
+use Rattle.borrow_law.specs.Below.thread_state.declared.value.Value.{Value}
+use Rattle.borrow_law.specs.Below.thread_state.declared.value.Value.TheVariants as value
+use Rattle.borrow_law.specs.Below.server_model.Places.{with_word}
+use Rattle.borrow_law.specs.Below.heap_law.Names.{Among, tot}
+use Rattle.borrow_law.specs.Below.heap_law.Things.{Location, in_slot, at_slot, at_temp, Thing, borrows, things_at, slot_things, temp_things, gift_things, walk_things}
+use Rattle.borrow_law.specs.Below.heap_law.Sight.{Pointer, pointers_of}
+use Rattle.borrow_law.specs.Below.heap_law.Weights.{owners}
+use Rattle.borrow_law.proofs.Below.heap_law.Sums.{tot-append}
+use Rattle.borrow_law.specs.Below.word_law.Unmoved.{pointing, taking_by}
+use Rattle.borrow_law.proofs.Below.word_law.Slots.{set_same, set_other}
+use Rattle.refs_law.proofs.Below.stay_law.Alike.{Alike, itself, turned, chain, beside, alone, blank, goes}
+use Rattle.refs_law.proofs.Below.carry_law.Replaced.{tail_of}
+use Rattle.refs_law.proofs.Below.carry_law.Passing.{Here, slot, temp, nowhere, located, here}
+use Rattle.refs_law.proofs.Below.carry_law.Places.{end_none, end_other, end_things, end_sum, set_things, set_twice, placed_blank}
 use Rattle.refs_law.proofs.RefPlaces.{out}
 use Rattle.finish_law.proofs.EndSteps.{Finishes}
 

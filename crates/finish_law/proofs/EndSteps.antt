@@ -1,40 +1,40 @@
 -- A mutable reference goes from a slot or the hand of one thread, and the pointer at its holder is as it was, or gets its word in a slot.
 use Rattle.std.proofs.Common.{◌≡◌, ◌≢◌, ◌⊎◌, inl, inr, ⊎_elim, ℕ, zero, suc, ◌≤◌, true, false, List, Option, Some, None, refl, sym, ap, subst, ◌∙◌, arith}
 use Rattle.std.specs.Prelude.{slice_get}
-use Rattle.fr_base.specs.declared.instruction.Instr.{Instr}
-use Rattle.fr_base.specs.declared.name.ObjNo.{ObjNo}
-use Rattle.heap_partition.specs.declared.value.Owned.TheVariants as owned
-use Rattle.mut_borrow.specs.declared.mutable.MutRef.{MutRef}
-use Rattle.thread_state.specs.View.{ThreadState}
-use Rattle.thread_state.specs.declared.value.Value.{Value}
-use Rattle.thread_state.specs.declared.value.Value.TheVariants as value
-use Rattle.server_model.specs.Servers.{Cluster}
-use Rattle.server_model.specs.Places.{with_word}
-use Rattle.heap_law.specs.Names.{Among, tot}
-use Rattle.heap_law.specs.Things.{Location, at_slot, at_temp, in_cell, thread_things, things_of}
-use Rattle.heap_law.specs.Follow.{Ground, Standing, thread_at, slot_of, temp_of, value_in, value_behind, leads, locate, place_at}
-use Rattle.heap_law.specs.Stale.{Reference, references, holder_of, is_held_at, is_among, lent_places, one_star_less}
-use Rattle.heap_law.specs.Sight.{Pointer, pointers_in, sight}
-use Rattle.heap_law.specs.Placing.{standing_in}
-use Rattle.heap_law.specs.Words.{IsStale, HasWords}
-use Rattle.heap_law.specs.Dirty.{PastWords}
-use Rattle.heap_law.specs.Coherent.{Holds, first_at_holder}
-use Rattle.heap_law.specs.Weights.{owners}
-use Rattle.type_law.proofs.Branches.{found}
-use Rattle.path_law.proofs.Sole.{some_is}
-use Rattle.word_law.specs.Reworded.{HasPlaces}
-use Rattle.word_law.specs.Unmoved.{pointing, Taking, taking_by, taking_of, takings, LeavesWords}
-use Rattle.word_law.proofs.Put.{Split}
-use Rattle.word_law.proofs.Standing.{stands_in}
-use Rattle.stay_law.proofs.Alike.{Alike, standing_turn}
-use Rattle.move_law.specs.Ended.{GetsBack, as_it_was, its_word, Ended}
-use Rattle.move_law.proofs.Ended.{ends_leave_words}
-use Rattle.carry_law.proofs.Replaced.{tail_of, at_a, at_b, in_slots, in_temps, in_cells, takings_same, lies_back, pointer_back, standing_back, of_thread}
-use Rattle.carry_law.proofs.Passing.{Here, slot, temp, nowhere, located, here, no_temp}
-use Rattle.carry_law.proofs.Taken.{taker_of, taking_thread}
-use Rattle.carry_law.proofs.Hands.{RootedIn}
+use Rattle.borrow_law.specs.Below.fr_base.declared.instruction.Instr.{Instr}
+use Rattle.borrow_law.specs.Below.fr_base.declared.name.ObjNo.{ObjNo}
+use Rattle.borrow_law.specs.Below.heap_partition.declared.value.Owned.TheVariants as owned
+use Rattle.borrow_law.specs.Below.mut_borrow.declared.mutable.MutRef.{MutRef}
+use Rattle.borrow_law.specs.Below.thread_state.View.{ThreadState}
+use Rattle.borrow_law.specs.Below.thread_state.declared.value.Value.{Value}
+use Rattle.borrow_law.specs.Below.thread_state.declared.value.Value.TheVariants as value
+use Rattle.borrow_law.specs.Below.server_model.Servers.{Cluster}
+use Rattle.borrow_law.specs.Below.server_model.Places.{with_word}
+use Rattle.borrow_law.specs.Below.heap_law.Names.{Among, tot}
+use Rattle.borrow_law.specs.Below.heap_law.Things.{Location, at_slot, at_temp, in_cell, thread_things, things_of}
+use Rattle.borrow_law.specs.Below.heap_law.Follow.{Ground, Standing, thread_at, slot_of, temp_of, value_in, value_behind, leads, locate, place_at}
+use Rattle.borrow_law.specs.Below.heap_law.Stale.{Reference, references, holder_of, is_held_at, is_among, lent_places, one_star_less}
+use Rattle.borrow_law.specs.Below.heap_law.Sight.{Pointer, pointers_in, sight}
+use Rattle.borrow_law.specs.Below.heap_law.Placing.{standing_in}
+use Rattle.borrow_law.specs.Below.heap_law.Words.{IsStale, HasWords}
+use Rattle.borrow_law.specs.Below.heap_law.Dirty.{PastWords}
+use Rattle.borrow_law.specs.Below.heap_law.Coherent.{Holds, first_at_holder}
+use Rattle.borrow_law.specs.Below.heap_law.Weights.{owners}
+use Rattle.borrow_law.proofs.Below.type_law.Branches.{found}
+use Rattle.borrow_law.proofs.Below.path_law.Sole.{some_is}
+use Rattle.borrow_law.specs.Below.word_law.Reworded.{HasPlaces}
+use Rattle.borrow_law.specs.Below.word_law.Unmoved.{pointing, Taking, taking_by, taking_of, takings, LeavesWords}
+use Rattle.borrow_law.proofs.Below.word_law.Put.{Split}
+use Rattle.borrow_law.proofs.Below.word_law.Standing.{stands_in}
+use Rattle.refs_law.proofs.Below.stay_law.Alike.{Alike, standing_turn}
+use Rattle.borrow_law.specs.Below.move_law.Ended.{GetsBack, as_it_was, its_word, Ended}
+use Rattle.borrow_law.proofs.Below.move_law.Ended.{ends_leave_words}
+use Rattle.refs_law.proofs.Below.carry_law.Replaced.{tail_of, at_a, at_b, in_slots, in_temps, in_cells, takings_same, lies_back, pointer_back, standing_back, of_thread}
+use Rattle.refs_law.proofs.Below.carry_law.Passing.{Here, slot, temp, nowhere, located, here, no_temp}
+use Rattle.refs_law.proofs.Below.carry_law.Taken.{taker_of, taking_thread}
+use Rattle.refs_law.proofs.Below.carry_law.Hands.{RootedIn}
 use Rattle.refs_law.specs.Unpassed.{IsUnpassed}
-use Rattle.word_law.proofs.Grounds.{same_place}
+use Rattle.borrow_law.proofs.Below.word_law.Grounds.{same_place}
 use Rattle.refs_law.proofs.QuietSlots.{own_slot}
 use Rattle.refs_law.proofs.Chains.{held_there}
 

@@ -1,33 +1,33 @@
 -- A mutable reference that ends: it is the only one that was made from the pointer at its holder, by types.
 use Rattle.std.proofs.Common.{◌≡◌, inl, ⊎_elim, ◌<◌, ◌≤◌, ◌==◌, Bool, true, false, Option, Some, None, refl, sym, ap, subst, ◌∙◌, arith}
-use Rattle.fr_base.specs.declared.instruction.Instr.TheVariants as instr
-use Rattle.heap_partition.specs.declared.value.Owned.TheVariants as owned
-use Rattle.mut_borrow.specs.declared.mutable.MutRef.{MutRef}
-use Rattle.thread_state.specs.View.{is_over}
-use Rattle.thread_state.specs.declared.value.Value.{Value}
-use Rattle.thread_state.specs.declared.value.Value.TheVariants as value
-use Rattle.server_model.specs.Servers.{Cluster}
-use Rattle.heap_law.specs.Names.{Among, other, same_object}
-use Rattle.heap_law.specs.Things.{Location, things_of}
-use Rattle.heap_law.specs.Follow.{Standing, Ground, value_in, value_behind}
-use Rattle.heap_law.specs.Stale.{Reference, references, holder_of, is_held_at, is_among, lent_places}
-use Rattle.heap_law.specs.Sight.{Pointer, sight}
-use Rattle.heap_law.specs.Placing.{is_first, other_first}
-use Rattle.heap_law.specs.Paths.{ends}
-use Rattle.heap_law.specs.Walking.{path}
-use Rattle.heap_law.specs.Coherent.{Holds, first_at_holder}
-use Rattle.heap_law.specs.Words.{IsStale}
-use Rattle.heap_law.proofs.Words.{named, none_at}
-use Rattle.path_law.specs.HeapStore.{GoesOn, HasPaths}
-use Rattle.path_law.specs.Pointing.{Above, made_from, made_below, lends}
-use Rattle.path_law.proofs.Climbs.{and_second}
-use Rattle.path_law.proofs.Contained.{reference_there, held_there}
-use Rattle.path_law.proofs.FreshPaths.{held_at, taken_among, followed_of, none_made}
-use Rattle.end_law.specs.Ending.{IsAlone, EndsAlone}
-use Rattle.end_law.proofs.Alone.{ended_are_alone}
-use Rattle.word_law.specs.Reworded.{HasPlaces}
-use Rattle.word_law.proofs.Grounds.{of_borrows}
-use Rattle.word_law.proofs.Standing.{told, borrow_stands}
+use Rattle.borrow_law.specs.Below.fr_base.declared.instruction.Instr.TheVariants as instr
+use Rattle.borrow_law.specs.Below.heap_partition.declared.value.Owned.TheVariants as owned
+use Rattle.borrow_law.specs.Below.mut_borrow.declared.mutable.MutRef.{MutRef}
+use Rattle.borrow_law.specs.Below.thread_state.View.{is_over}
+use Rattle.borrow_law.specs.Below.thread_state.declared.value.Value.{Value}
+use Rattle.borrow_law.specs.Below.thread_state.declared.value.Value.TheVariants as value
+use Rattle.borrow_law.specs.Below.server_model.Servers.{Cluster}
+use Rattle.borrow_law.specs.Below.heap_law.Names.{Among, other, same_object}
+use Rattle.borrow_law.specs.Below.heap_law.Things.{Location, things_of}
+use Rattle.borrow_law.specs.Below.heap_law.Follow.{Standing, Ground, value_in, value_behind}
+use Rattle.borrow_law.specs.Below.heap_law.Stale.{Reference, references, holder_of, is_held_at, is_among, lent_places}
+use Rattle.borrow_law.specs.Below.heap_law.Sight.{Pointer, sight}
+use Rattle.borrow_law.specs.Below.heap_law.Placing.{is_first, other_first}
+use Rattle.borrow_law.specs.Below.heap_law.Paths.{ends}
+use Rattle.borrow_law.specs.Below.heap_law.Walking.{path}
+use Rattle.borrow_law.specs.Below.heap_law.Coherent.{Holds, first_at_holder}
+use Rattle.borrow_law.specs.Below.heap_law.Words.{IsStale}
+use Rattle.borrow_law.proofs.Below.heap_law.Words.{named, none_at}
+use Rattle.borrow_law.specs.Below.path_law.HeapStore.{GoesOn, HasPaths}
+use Rattle.borrow_law.specs.Below.path_law.Pointing.{Above, made_from, made_below, lends}
+use Rattle.borrow_law.proofs.Below.path_law.Climbs.{and_second}
+use Rattle.borrow_law.proofs.Below.path_law.Contained.{reference_there, held_there}
+use Rattle.borrow_law.proofs.Below.path_law.FreshPaths.{held_at, taken_among, followed_of, none_made}
+use Rattle.refs_law.specs.Below.end_law.Ending.{IsAlone, EndsAlone}
+use Rattle.refs_law.proofs.Below.end_law.Alone.{ended_are_alone}
+use Rattle.borrow_law.specs.Below.word_law.Reworded.{HasPlaces}
+use Rattle.borrow_law.proofs.Below.word_law.Grounds.{of_borrows}
+use Rattle.borrow_law.proofs.Below.word_law.Standing.{told, borrow_stands}
 use Rattle.refs_law.specs.Fewer.{IsRanked}
 use Rattle.refs_law.proofs.Ranks.{types_rank}
 

@@ -1,44 +1,44 @@
 -- A mutable reference got another word in the event in which it ends: it ends from there.
 use Rattle.std.proofs.Common.{◌≡◌, ⊎_elim, ℕ, zero, suc, ◌-◌, ◌≤◌, true, List, [], ◌∷◌, ◌++◌, Some, refl, sym, ap, subst, ◌∙◌, arith}
 use Rattle.std.specs.Prelude.{slice_get, slice_set, length}
-use Rattle.fr_base.specs.declared.name.ObjNo.{ObjNo}
-use Rattle.fr_base.specs.declared.place.Lval.{Lval}
-use Rattle.mut_borrow.specs.declared.mutable.MutRef.{MutRef}
-use Rattle.thread_state.specs.View.{ThreadState}
-use Rattle.thread_state.specs.declared.value.Value.{Value}
-use Rattle.thread_state.specs.declared.value.Value.TheVariants as value
-use Rattle.server_model.specs.declared.event.What.TheVariants.{Step}
-use Rattle.server_model.specs.Servers.{Server, Cluster, server_at}
-use Rattle.server_model.specs.Work.{Hand, last_of, front_of, thread_in}
-use Rattle.server_model.specs.Places.{Spot, took}
-use Rattle.server_model.specs.Commit.{goes_on, discard, drop_slot}
-use Rattle.server_model.specs.Events.{enabled, Stepped, committed}
-use Rattle.heap_law.specs.Names.{Among}
-use Rattle.heap_law.specs.Things.{Location, at_slot, at_temp, in_cell, things_of}
-use Rattle.heap_law.specs.Follow.{Ground, value_in, leads, locate, place_at}
-use Rattle.heap_law.specs.Stale.{Reference, references, holder_of, is_held_at, is_among, with_place, one_star_less, lent_places}
-use Rattle.heap_law.specs.Sight.{sight}
-use Rattle.heap_law.specs.Words.{IsStale}
-use Rattle.heap_law.specs.Coherent.{IsSound}
-use Rattle.heap_law.specs.Paths.{ends}
-use Rattle.heap_law.specs.Walking.{path}
-use Rattle.type_law.specs.ClusterTypes.{IsCoherent}
-use Rattle.path_law.proofs.Contained.{reference_there}
-use Rattle.word_law.specs.Reworded.{HasPlaces, Reworded}
-use Rattle.word_law.specs.Soles.{TookIt, SameOutlines}
-use Rattle.word_law.specs.Unmoved.{seen_at, Taking, takings, Untouched}
-use Rattle.word_law.proofs.Follows.{seen_places_lead, seen_holders_lead}
-use Rattle.word_law.proofs.Grounds.{of_borrows, same_place}
-use Rattle.word_law.proofs.Outlines.{leads_outline, soles_stay}
-use Rattle.word_law.proofs.Slots.{set_same}
-use Rattle.word_law.proofs.Standing.{borrow_stands}
-use Rattle.word_law.proofs.Takings.{reference_at, lents_are, lent_by, lent_listed, lent_told}
-use Rattle.event_law.specs.Laws.{Gives}
-use Rattle.event_law.proofs.Objects.{length_set}
-use Rattle.stay_law.proofs.Steps.{TakesNoneHere}
-use Rattle.prepare_law.specs.Requests.{WordsRise}
-use Rattle.carry_law.proofs.Hands.{Ok, RootedIn, rooted, places as then_places}
-use Rattle.carry_law.proofs.Places.{end_is}
+use Rattle.borrow_law.specs.Below.fr_base.declared.name.ObjNo.{ObjNo}
+use Rattle.borrow_law.specs.Below.fr_base.declared.place.Lval.{Lval}
+use Rattle.borrow_law.specs.Below.mut_borrow.declared.mutable.MutRef.{MutRef}
+use Rattle.borrow_law.specs.Below.thread_state.View.{ThreadState}
+use Rattle.borrow_law.specs.Below.thread_state.declared.value.Value.{Value}
+use Rattle.borrow_law.specs.Below.thread_state.declared.value.Value.TheVariants as value
+use Rattle.borrow_law.specs.Below.server_model.declared.event.What.TheVariants.{Step}
+use Rattle.borrow_law.specs.Below.server_model.Servers.{Server, Cluster, server_at}
+use Rattle.borrow_law.specs.Below.server_model.Work.{Hand, last_of, front_of, thread_in}
+use Rattle.borrow_law.specs.Below.server_model.Places.{Spot, took}
+use Rattle.borrow_law.specs.Below.server_model.Commit.{goes_on, discard, drop_slot}
+use Rattle.borrow_law.specs.Below.server_model.Events.{enabled, Stepped, committed}
+use Rattle.borrow_law.specs.Below.heap_law.Names.{Among}
+use Rattle.borrow_law.specs.Below.heap_law.Things.{Location, at_slot, at_temp, in_cell, things_of}
+use Rattle.borrow_law.specs.Below.heap_law.Follow.{Ground, value_in, leads, locate, place_at}
+use Rattle.borrow_law.specs.Below.heap_law.Stale.{Reference, references, holder_of, is_held_at, is_among, with_place, one_star_less, lent_places}
+use Rattle.borrow_law.specs.Below.heap_law.Sight.{sight}
+use Rattle.borrow_law.specs.Below.heap_law.Words.{IsStale}
+use Rattle.borrow_law.specs.Below.heap_law.Coherent.{IsSound}
+use Rattle.borrow_law.specs.Below.heap_law.Paths.{ends}
+use Rattle.borrow_law.specs.Below.heap_law.Walking.{path}
+use Rattle.borrow_law.specs.Below.type_law.ClusterTypes.{IsCoherent}
+use Rattle.borrow_law.proofs.Below.path_law.Contained.{reference_there}
+use Rattle.borrow_law.specs.Below.word_law.Reworded.{HasPlaces, Reworded}
+use Rattle.borrow_law.specs.Below.word_law.Soles.{TookIt, SameOutlines}
+use Rattle.borrow_law.specs.Below.word_law.Unmoved.{seen_at, Taking, takings, Untouched}
+use Rattle.borrow_law.proofs.Below.word_law.Follows.{seen_places_lead, seen_holders_lead}
+use Rattle.borrow_law.proofs.Below.word_law.Grounds.{of_borrows, same_place}
+use Rattle.borrow_law.proofs.Below.word_law.Outlines.{leads_outline, soles_stay}
+use Rattle.borrow_law.proofs.Below.word_law.Slots.{set_same}
+use Rattle.borrow_law.proofs.Below.word_law.Standing.{borrow_stands}
+use Rattle.borrow_law.proofs.Below.word_law.Takings.{reference_at, lents_are, lent_by, lent_listed, lent_told}
+use Rattle.borrow_law.specs.Below.event_law.Laws.{Gives}
+use Rattle.borrow_law.proofs.Below.event_law.Objects.{length_set}
+use Rattle.refs_law.proofs.Below.stay_law.Steps.{TakesNoneHere}
+use Rattle.refs_law.specs.Below.prepare_law.Requests.{WordsRise}
+use Rattle.refs_law.proofs.Below.carry_law.Hands.{Ok, RootedIn, rooted, places as then_places}
+use Rattle.refs_law.proofs.Below.carry_law.Places.{end_is}
 use Rattle.refs_law.specs.Unpassed.{IsUnpassed}
 use Rattle.refs_law.proofs.Fewer.{slots_lead, cells_lead}
 use Rattle.refs_law.proofs.Chains.{cluster}

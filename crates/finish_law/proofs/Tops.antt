@@ -3,28 +3,28 @@ use Rattle.std.proofs.Common.{◌≡◌, ◌≢◌, inl, inr, ⊎_elim, ℕ, zer
 use Rattle.std.specs.Prelude.{slice_get, length}
 use Rattle.std.proofs.lemmas.Bool.Decides.{nat_tests}
 use Rattle.std.proofs.lemmas.List.{append_assoc}
-use Rattle.heap_partition.specs.declared.value.Cell.{Cell}
-use Rattle.mut_borrow.specs.declared.mutable.MutRef.{MutRef}
-use Rattle.mut_borrow.specs.Refs.{changed}
-use Rattle.thread_state.specs.View.{ThreadState}
-use Rattle.thread_state.specs.declared.value.Value.{Value}
-use Rattle.thread_state.specs.declared.value.Value.TheVariants as value
-use Rattle.server_model.specs.Servers.{Cluster}
-use Rattle.server_model.specs.Places.{took}
-use Rattle.heap_law.specs.Names.{Among}
-use Rattle.heap_law.specs.Things.{Location, at_slot, at_temp, in_cell, Thing, lies, things_at, gift_things, walk_things, slot_things, temp_things, thread_things, things_of}
-use Rattle.heap_law.specs.Follow.{Standing, threads_in, cells_in, temp_of, value_in}
-use Rattle.heap_law.specs.Sight.{sight}
-use Rattle.heap_law.specs.Words.{LeadsTo}
-use Rattle.heap_law.proofs.Bags.{among_split}
-use Rattle.path_law.proofs.Origins.{threads_joined, among_first, among_second}
-use Rattle.path_law.proofs.Contained.{rest_none}
-use Rattle.word_law.specs.Reworded.{HasPlaces, is_loose, turn_of, LiesThere, Reworded}
-use Rattle.word_law.proofs.Grounds.{renews}
-use Rattle.word_law.proofs.Put.{Split}
-use Rattle.word_law.proofs.Slots.{turns_replaced, thread_cells, lying_in}
-use Rattle.carry_law.proofs.Replaced.{at_a, at_b, in_slots, in_temps, in_cells}
-use Rattle.carry_law.proofs.Places.{end_is}
+use Rattle.borrow_law.specs.Below.heap_partition.declared.value.Cell.{Cell}
+use Rattle.borrow_law.specs.Below.mut_borrow.declared.mutable.MutRef.{MutRef}
+use Rattle.borrow_law.specs.Below.mut_borrow.Refs.{changed}
+use Rattle.borrow_law.specs.Below.thread_state.View.{ThreadState}
+use Rattle.borrow_law.specs.Below.thread_state.declared.value.Value.{Value}
+use Rattle.borrow_law.specs.Below.thread_state.declared.value.Value.TheVariants as value
+use Rattle.borrow_law.specs.Below.server_model.Servers.{Cluster}
+use Rattle.borrow_law.specs.Below.server_model.Places.{took}
+use Rattle.borrow_law.specs.Below.heap_law.Names.{Among}
+use Rattle.borrow_law.specs.Below.heap_law.Things.{Location, at_slot, at_temp, in_cell, Thing, lies, things_at, gift_things, walk_things, slot_things, temp_things, thread_things, things_of}
+use Rattle.borrow_law.specs.Below.heap_law.Follow.{Standing, threads_in, cells_in, temp_of, value_in}
+use Rattle.borrow_law.specs.Below.heap_law.Sight.{sight}
+use Rattle.borrow_law.specs.Below.heap_law.Words.{LeadsTo}
+use Rattle.borrow_law.proofs.Below.heap_law.Bags.{among_split}
+use Rattle.borrow_law.proofs.Below.path_law.Origins.{threads_joined, among_first, among_second}
+use Rattle.borrow_law.proofs.Below.path_law.Contained.{rest_none}
+use Rattle.borrow_law.specs.Below.word_law.Reworded.{HasPlaces, is_loose, turn_of, LiesThere, Reworded}
+use Rattle.borrow_law.proofs.Below.word_law.Grounds.{renews}
+use Rattle.borrow_law.proofs.Below.word_law.Put.{Split}
+use Rattle.borrow_law.proofs.Below.word_law.Slots.{turns_replaced, thread_cells, lying_in}
+use Rattle.refs_law.proofs.Below.carry_law.Replaced.{at_a, at_b, in_slots, in_temps, in_cells}
+use Rattle.refs_law.proofs.Below.carry_law.Places.{end_is}
 
 -- a reference with another word than its first is changed
 not_first : (r : MutRef) (w : ℕ) → w ≢ r.first → changed (took r w) ≡ true

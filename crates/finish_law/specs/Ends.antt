@@ -1,21 +1,21 @@
 -- STEPS WITH WHICH A MUTABLE REFERENCE ENDS (this project's rules): it goes with its slot or from the hand, or is assigned over, and the pointer at its holder has its word.
 use Rattle.std.specs.Prelude.{◌≡◌, ◌⊎◌, ℕ, false, Some, slice_get}
-use Rattle.fr_base.specs.declared.place.Lval.{Lval}
-use Rattle.fr_base.specs.declared.instruction.Operand.{Operand}
-use Rattle.fr_base.specs.declared.instruction.Instr.{Instr}
-use Rattle.fr_base.specs.declared.instruction.Instr.TheVariants as instr
-use Rattle.journal.specs.View.{EntryView}
-use Rattle.mut_borrow.specs.declared.mutable.MutRef.{MutRef}
-use Rattle.thread_state.specs.View.{ThreadState}
-use Rattle.thread_state.specs.declared.value.Value.TheVariants as value
-use Rattle.server_model.specs.declared.event.What.TheVariants.{Step}
-use Rattle.server_model.specs.Servers.{Server, Cluster, server_at}
-use Rattle.server_model.specs.Work.{thread_in, last_of}
-use Rattle.server_model.specs.Clusters.{apply}
-use Rattle.type_law.specs.ClusterTypes.{IsCoherent}
-use Rattle.event_law.specs.Laws.{Gives, FewEvents}
-use Rattle.word_law.specs.Unmoved.{LeavesWords}
-use Rattle.prepare_law.specs.Requests.{WordsRise}
+use Rattle.borrow_law.specs.Below.fr_base.declared.place.Lval.{Lval}
+use Rattle.borrow_law.specs.Below.fr_base.declared.instruction.Operand.{Operand}
+use Rattle.borrow_law.specs.Below.fr_base.declared.instruction.Instr.{Instr}
+use Rattle.borrow_law.specs.Below.fr_base.declared.instruction.Instr.TheVariants as instr
+use Rattle.borrow_law.specs.Below.journal.View.{EntryView}
+use Rattle.borrow_law.specs.Below.mut_borrow.declared.mutable.MutRef.{MutRef}
+use Rattle.borrow_law.specs.Below.thread_state.View.{ThreadState}
+use Rattle.borrow_law.specs.Below.thread_state.declared.value.Value.TheVariants as value
+use Rattle.borrow_law.specs.Below.server_model.declared.event.What.TheVariants.{Step}
+use Rattle.borrow_law.specs.Below.server_model.Servers.{Server, Cluster, server_at}
+use Rattle.borrow_law.specs.Below.server_model.Work.{thread_in, last_of}
+use Rattle.borrow_law.specs.Below.server_model.Clusters.{apply}
+use Rattle.borrow_law.specs.Below.type_law.ClusterTypes.{IsCoherent}
+use Rattle.borrow_law.specs.Below.event_law.Laws.{Gives, FewEvents}
+use Rattle.borrow_law.specs.Below.word_law.Unmoved.{LeavesWords}
+use Rattle.refs_law.specs.Below.prepare_law.Requests.{WordsRise}
 
 -- an instruction with which the mutable reference ends
 pub data EndsReference (y : ThreadState) (r : MutRef) : Instr → Type 0 where

@@ -2,53 +2,53 @@
 use Rattle.std.proofs.Common.{◌≡◌, inl, inr, ℕ, zero, suc, ◌<◌, ◌==◌, ◌||◌, not, Bool, true, false, if◌then◌else◌, List, [], ◌∷◌, reverse, map, length, Option, Some, None, is_some, refl, sym, ap, subst, ◌∙◌, arith}
 use Rattle.std.specs.Prelude.{slice_get}
 use Rattle.std.proofs.lemmas.List.{length-reverse, length-map}
-use Rattle.fr_typing.proofs.PlaceLemmas.{eq_cases}
-use Rattle.fr_base.specs.declared.name.ObjNo.{ObjNo}
-use Rattle.fr_base.specs.declared.name.MutexNo.{MutexNo}
-use Rattle.fr_base.specs.declared.instruction.Instr.{Instr}
-use Rattle.fr_base.specs.declared.instruction.Instr.TheVariants as instr
-use Rattle.fr_plain.specs.declared.value.Value.TheVariants.{Own}
-use Rattle.fr_plain.specs.MachineThreads.{ended}
-use Rattle.heap_partition.specs.Plain.{plain_of}
-use Rattle.heap_partition.specs.declared.value.BoxPtr.{BoxPtr}
-use Rattle.heap_partition.specs.declared.value.Cell.{Cell}
-use Rattle.heap_partition.specs.declared.value.Owned.{Owned}
-use Rattle.heap_partition.specs.declared.value.Owned.TheVariants as owned
-use Rattle.thread_state.specs.View.{is_over}
-use Rattle.thread_state.specs.declared.value.Value.{Value}
-use Rattle.thread_state.specs.declared.value.Value.TheVariants as value
-use Rattle.server_model.specs.Servers.{Cluster}
-use Rattle.fr_typing.specs.Kinds.{Owned as OwnedType, box, Kind, own, shared, mutable, view, Piece, whole, gone, boxed, map_some}
-use Rattle.fr_typing.specs.Places.{Slot, Env}
-use Rattle.fr_store.specs.Keys.{Key, slot_k, temp_k, content_k, result_k}
-use Rattle.fr_store.specs.Store.{Location, at_key, at_object, gone_v, box_v, ref_v, Store, value_at, box_target, below_key}
-use Rattle.fr_store.specs.Typed.{Tree, int_tree, Exact, owns, refers, KeyTypes, TopFits}
-use Rattle.fr_store.specs.Below.{tree_of, TreeOf, ExactOf, SlotsBelow}
-use Rattle.fr_store.specs.Thread.{TempIs}
-use Rattle.fr_store.proofs.Chains.{from_box}
-use Rattle.fr_store.proofs.Sound.{ref_at}
-use Rattle.fr_store.proofs.Rows.{top_fits}
-use Rattle.fr_sound.specs.Seen.{Gives, owned_val, seen_cell}
-use Rattle.fr_sound.specs.States.{Typing, env_at, part_of, owned_part, owned_kind, hand_key, hand_kind, operands, IsThread, is_hidden, is_held, content_val, result_val}
-use Rattle.fr_code.specs.Steps.{Place}
-use Rattle.fr_code.specs.CodeTypes.{Entry, Table}
-use Rattle.fr_code.specs.TableStates.{CodeStateTypes}
-use Rattle.heap_law.specs.Names.{tot, if_so, Among}
-use Rattle.heap_law.specs.Things.{Spot, in_slot, in_temp, as_gift, as_content, as_result, in_hand, Thing, holds, lies, flies}
-use Rattle.heap_law.specs.Follow.{Standing, thread_at}
-use Rattle.heap_law.specs.Sight.{Sight, sight}
-use Rattle.heap_law.specs.Walking.{instr_of}
-use Rattle.heap_law.specs.Paths.{joined_thread}
-use Rattle.heap_law.specs.Requests.{locked_mutex}
+use Rattle.still_law.proofs.Below.fr_typing.PlaceLemmas.{eq_cases}
+use Rattle.still_law.specs.Below.fr_base.declared.name.ObjNo.{ObjNo}
+use Rattle.still_law.specs.Below.fr_base.declared.name.MutexNo.{MutexNo}
+use Rattle.still_law.specs.Below.fr_base.declared.instruction.Instr.{Instr}
+use Rattle.still_law.specs.Below.fr_base.declared.instruction.Instr.TheVariants as instr
+use Rattle.still_law.specs.Below.fr_plain.declared.value.Value.TheVariants.{Own}
+use Rattle.still_law.specs.Below.fr_plain.MachineThreads.{ended}
+use Rattle.still_law.specs.Below.heap_partition.Plain.{plain_of}
+use Rattle.still_law.specs.Below.heap_partition.declared.value.BoxPtr.{BoxPtr}
+use Rattle.still_law.specs.Below.heap_partition.declared.value.Cell.{Cell}
+use Rattle.still_law.specs.Below.heap_partition.declared.value.Owned.{Owned}
+use Rattle.still_law.specs.Below.heap_partition.declared.value.Owned.TheVariants as owned
+use Rattle.still_law.specs.Below.thread_state.View.{is_over}
+use Rattle.still_law.specs.Below.thread_state.declared.value.Value.{Value}
+use Rattle.still_law.specs.Below.thread_state.declared.value.Value.TheVariants as value
+use Rattle.still_law.specs.Below.server_model.Servers.{Cluster}
+use Rattle.still_law.specs.Below.fr_typing.Kinds.{Owned as OwnedType, box, Kind, own, shared, mutable, view, Piece, whole, gone, boxed, map_some}
+use Rattle.still_law.specs.Below.fr_typing.Places.{Slot, Env}
+use Rattle.still_law.specs.Below.fr_store.Keys.{Key, slot_k, temp_k, content_k, result_k}
+use Rattle.still_law.specs.Below.fr_store.Store.{Location, at_key, at_object, gone_v, box_v, ref_v, Store, value_at, box_target, below_key}
+use Rattle.still_law.specs.Below.fr_store.Typed.{Tree, int_tree, Exact, owns, refers, KeyTypes, TopFits}
+use Rattle.still_law.specs.Below.fr_store.Below.{tree_of, TreeOf, ExactOf, SlotsBelow}
+use Rattle.still_law.specs.Below.fr_store.Thread.{TempIs}
+use Rattle.still_law.proofs.Below.fr_store.Chains.{from_box}
+use Rattle.still_law.proofs.Below.fr_store.Sound.{ref_at}
+use Rattle.still_law.proofs.Below.fr_store.Rows.{top_fits}
+use Rattle.typed_law.specs.Below.fr_sound.Seen.{Gives, owned_val, seen_cell}
+use Rattle.typed_law.specs.Below.fr_sound.States.{Typing, env_at, part_of, owned_part, owned_kind, hand_key, hand_kind, operands, IsThread, is_hidden, is_held, content_val, result_val}
+use Rattle.still_law.specs.Below.fr_code.Steps.{Place}
+use Rattle.still_law.specs.Below.fr_code.CodeTypes.{Entry, Table}
+use Rattle.still_law.specs.Below.fr_code.TableStates.{CodeStateTypes}
+use Rattle.still_law.specs.Below.heap_law.Names.{tot, if_so, Among}
+use Rattle.still_law.specs.Below.heap_law.Things.{Spot, in_slot, in_temp, as_gift, as_content, as_result, in_hand, Thing, holds, lies, flies}
+use Rattle.still_law.specs.Below.heap_law.Follow.{Standing, thread_at}
+use Rattle.still_law.specs.Below.heap_law.Sight.{Sight, sight}
+use Rattle.still_law.specs.Below.heap_law.Walking.{instr_of}
+use Rattle.still_law.specs.Below.heap_law.Paths.{joined_thread}
+use Rattle.still_law.specs.Below.heap_law.Requests.{locked_mutex}
 use Rattle.fit_law.specs.Fits.{StandsOnce}
-use Rattle.heap_law.specs.OneHeap.{one_heap, plain_value, Node, object_n, mutex_n, task_n, Owner, inside, content_owner, result_owner, gift_owner, gift_owner_of, owner_of, owns as owns_node, names, owner_in, named_in, any_named, in_state_by, is_in_state, if_in, cell_value, first_shown, share_in}
-use Rattle.heap_law.proofs.Words.{named, itself}
-use Rattle.type_law.specs.Names.{names_of, fits}
-use Rattle.type_law.specs.ClusterTypes.{entry_wrong}
-use Rattle.path_law.specs.HeapStore.{GoesOn}
-use Rattle.path_law.proofs.Sole.{some_is}
-use Rattle.path_law.proofs.Shown.{at_behind, behind_is}
-use Rattle.path_law.proofs.Forms.{none_of}
+use Rattle.still_law.specs.Below.heap_law.OneHeap.{one_heap, plain_value, Node, object_n, mutex_n, task_n, Owner, inside, content_owner, result_owner, gift_owner, gift_owner_of, owner_of, owns as owns_node, names, owner_in, named_in, any_named, in_state_by, is_in_state, if_in, cell_value, first_shown, share_in}
+use Rattle.still_law.proofs.Below.heap_law.Words.{named, itself}
+use Rattle.typed_law.specs.Below.type_law.Names.{names_of, fits}
+use Rattle.typed_law.specs.Below.type_law.ClusterTypes.{entry_wrong}
+use Rattle.typed_law.specs.Below.path_law.HeapStore.{GoesOn}
+use Rattle.typed_law.proofs.Below.path_law.Sole.{some_is}
+use Rattle.typed_law.proofs.Below.path_law.Shown.{at_behind, behind_is}
+use Rattle.typed_law.proofs.Below.path_law.Forms.{none_of}
 use Rattle.still_law.proofs.Rounds.{enough}
 use Rattle.still_law.proofs.Alike.{Once}
 use Rattle.fit_law.proofs.Once.{stands_once}

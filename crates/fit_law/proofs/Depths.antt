@@ -1,20 +1,20 @@
 -- What stands so many boxes below a key that owns something has a type, which is partly there.
 use Rattle.std.proofs.Common.{◌≡◌, ◌⊎◌, inl, inr, ℕ, zero, suc, true, Some, None, refl, sym, ap, subst, ◌∙◌}
-use Rattle.fr_base.specs.declared.name.ObjNo.{ObjNo}
-use Rattle.heap_partition.specs.Plain.{plain_of}
-use Rattle.heap_partition.specs.declared.value.BoxPtr.{BoxPtr}
-use Rattle.heap_partition.specs.declared.value.Owned.{Owned}
-use Rattle.heap_partition.specs.declared.value.Owned.TheVariants as owned
-use Rattle.fr_typing.specs.Kinds.{Owned as OwnedType, unit, int, box, mutex, task}
-use Rattle.fr_store.specs.Keys.{Key}
-use Rattle.fr_store.specs.Store.{Location, at_key, Val, gone_v, unit_v, box_v, Store, value_at, below_key}
-use Rattle.fr_store.specs.Typed.{Tree, hole, unit_tree, int_tree, mutex_tree, task_tree, box_tree, owns, KeyTypes, Typed, TopFits, tree_under, some_owns, exact_under}
-use Rattle.fr_store.specs.Below.{tree_of}
-use Rattle.fr_store.proofs.Chains.{from_suc}
-use Rattle.fr_sound.specs.Seen.{Gives, owned_val}
-use Rattle.plain_types.proofs.Envs.{same_tree}
-use Rattle.type_law.specs.Names.{names_of, fits, is_there}
-use Rattle.path_law.proofs.Sole.{some_is}
+use Rattle.still_law.specs.Below.fr_base.declared.name.ObjNo.{ObjNo}
+use Rattle.still_law.specs.Below.heap_partition.Plain.{plain_of}
+use Rattle.still_law.specs.Below.heap_partition.declared.value.BoxPtr.{BoxPtr}
+use Rattle.still_law.specs.Below.heap_partition.declared.value.Owned.{Owned}
+use Rattle.still_law.specs.Below.heap_partition.declared.value.Owned.TheVariants as owned
+use Rattle.still_law.specs.Below.fr_typing.Kinds.{Owned as OwnedType, unit, int, box, mutex, task}
+use Rattle.still_law.specs.Below.fr_store.Keys.{Key}
+use Rattle.still_law.specs.Below.fr_store.Store.{Location, at_key, Val, gone_v, unit_v, box_v, Store, value_at, below_key}
+use Rattle.still_law.specs.Below.fr_store.Typed.{Tree, hole, unit_tree, int_tree, mutex_tree, task_tree, box_tree, owns, KeyTypes, Typed, TopFits, tree_under, some_owns, exact_under}
+use Rattle.still_law.specs.Below.fr_store.Below.{tree_of}
+use Rattle.still_law.proofs.Below.fr_store.Chains.{from_suc}
+use Rattle.typed_law.specs.Below.fr_sound.Seen.{Gives, owned_val}
+use Rattle.typed_law.proofs.Below.plain_types.Envs.{same_tree}
+use Rattle.typed_law.specs.Below.type_law.Names.{names_of, fits, is_there}
+use Rattle.typed_law.proofs.Below.path_law.Sole.{some_is}
 use Rattle.typed_law.proofs.Objects.{under_boxes}
 use Rattle.typed_law.proofs.Forms.{same_if}
 

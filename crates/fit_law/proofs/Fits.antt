@@ -1,33 +1,33 @@
 -- What stands in a typed one heap agrees with the types of its names.
 use Rattle.std.proofs.Common.{◌≡◌, inl, inr, ℕ, suc, ◌+◌, ◌&&◌, Bool, true, false, List, [], ◌∷◌, Option, Some, None, refl, sym, ap, subst, ◌∙◌, arith}
-use Rattle.fr_base.specs.declared.name.MutexNo.{MutexNo}
-use Rattle.fr_base.specs.declared.instruction.Instr.{Instr}
-use Rattle.fr_base.specs.declared.instruction.Instr.TheVariants as instr
-use Rattle.heap_partition.specs.Plain.{plain_of}
-use Rattle.heap_partition.specs.declared.value.Cell.{Cell}
-use Rattle.heap_partition.specs.declared.value.Owned.{Owned}
-use Rattle.server_model.specs.Servers.{Cluster}
-use Rattle.fr_typing.specs.Kinds.{Owned as OwnedType}
-use Rattle.fr_store.specs.Keys.{Key, content_k, result_k}
-use Rattle.fr_store.specs.Store.{at_key, at_object}
-use Rattle.fr_store.specs.Typed.{owns, TopFits}
-use Rattle.fr_store.specs.Below.{tree_of}
-use Rattle.fr_store.proofs.Rows.{top_fits}
-use Rattle.fr_sound.specs.Seen.{owned_val}
-use Rattle.fr_sound.specs.States.{Typing}
-use Rattle.fr_code.specs.CodeTypes.{Table}
-use Rattle.fr_code.specs.TableStates.{CodeStateTypes}
-use Rattle.heap_law.specs.Names.{tot, other, if_so, Among}
-use Rattle.heap_law.specs.Things.{Spot, in_slot, in_temp, as_gift, as_content, as_result, in_hand, Thing, holds, lies, flies}
-use Rattle.heap_law.specs.Follow.{Standing}
-use Rattle.heap_law.specs.Sight.{Sight, sight}
-use Rattle.heap_law.specs.Walking.{instr_of}
-use Rattle.heap_law.specs.Paths.{joined_thread}
-use Rattle.heap_law.specs.Requests.{locked_mutex}
-use Rattle.heap_law.specs.OneHeap.{one_heap, object_n, mutex_n, task_n, inside, content_owner, result_owner, gift_owner, owner_of, owner_in, is_in_state, value_is_in}
-use Rattle.type_law.specs.Names.{NameTypes, names_of, fits, is_there}
-use Rattle.type_law.specs.ClusterTypes.{misfit, content_gift, result_gift, gift_misfit}
-use Rattle.path_law.proofs.Sole.{some_is}
+use Rattle.still_law.specs.Below.fr_base.declared.name.MutexNo.{MutexNo}
+use Rattle.still_law.specs.Below.fr_base.declared.instruction.Instr.{Instr}
+use Rattle.still_law.specs.Below.fr_base.declared.instruction.Instr.TheVariants as instr
+use Rattle.still_law.specs.Below.heap_partition.Plain.{plain_of}
+use Rattle.still_law.specs.Below.heap_partition.declared.value.Cell.{Cell}
+use Rattle.still_law.specs.Below.heap_partition.declared.value.Owned.{Owned}
+use Rattle.still_law.specs.Below.server_model.Servers.{Cluster}
+use Rattle.still_law.specs.Below.fr_typing.Kinds.{Owned as OwnedType}
+use Rattle.still_law.specs.Below.fr_store.Keys.{Key, content_k, result_k}
+use Rattle.still_law.specs.Below.fr_store.Store.{at_key, at_object}
+use Rattle.still_law.specs.Below.fr_store.Typed.{owns, TopFits}
+use Rattle.still_law.specs.Below.fr_store.Below.{tree_of}
+use Rattle.still_law.proofs.Below.fr_store.Rows.{top_fits}
+use Rattle.typed_law.specs.Below.fr_sound.Seen.{owned_val}
+use Rattle.typed_law.specs.Below.fr_sound.States.{Typing}
+use Rattle.still_law.specs.Below.fr_code.CodeTypes.{Table}
+use Rattle.still_law.specs.Below.fr_code.TableStates.{CodeStateTypes}
+use Rattle.still_law.specs.Below.heap_law.Names.{tot, other, if_so, Among}
+use Rattle.still_law.specs.Below.heap_law.Things.{Spot, in_slot, in_temp, as_gift, as_content, as_result, in_hand, Thing, holds, lies, flies}
+use Rattle.still_law.specs.Below.heap_law.Follow.{Standing}
+use Rattle.still_law.specs.Below.heap_law.Sight.{Sight, sight}
+use Rattle.still_law.specs.Below.heap_law.Walking.{instr_of}
+use Rattle.still_law.specs.Below.heap_law.Paths.{joined_thread}
+use Rattle.still_law.specs.Below.heap_law.Requests.{locked_mutex}
+use Rattle.still_law.specs.Below.heap_law.OneHeap.{one_heap, object_n, mutex_n, task_n, inside, content_owner, result_owner, gift_owner, owner_of, owner_in, is_in_state, value_is_in}
+use Rattle.typed_law.specs.Below.type_law.Names.{NameTypes, names_of, fits, is_there}
+use Rattle.typed_law.specs.Below.type_law.ClusterTypes.{misfit, content_gift, result_gift, gift_misfit}
+use Rattle.typed_law.proofs.Below.path_law.Sole.{some_is}
 use Rattle.typed_law.specs.Counted.{CountsFollow, sorts_wrong}
 use Rattle.typed_law.proofs.Following.{HasHeap}
 use Rattle.typed_law.proofs.Leads.{to_other, leads_follow}

@@ -1,20 +1,20 @@
 -- Between events no value is in a hand.
 use Rattle.std.proofs.Common.{◌≡◌, inl, inr, ℕ, ◌+◌, ◌≤◌, Bool, true, false, if◌then◌else◌, List, [], ◌∷◌, ◌++◌, Option, Some, None, refl, sym, subst, arith}
-use Rattle.heap_partition.specs.declared.value.Cell.{Cell}
-use Rattle.heap_partition.specs.declared.value.Owned.{Owned}
-use Rattle.mut_borrow.specs.declared.shared.SharedRef.{SharedRef}
-use Rattle.owner_box.specs.View.{PartitionState}
-use Rattle.mutex_home.specs.Mutexes.{Mutex}
-use Rattle.join_home.specs.Tasks.{TaskState, going, let_go, kept, asked, in_pair}
-use Rattle.thread_state.specs.View.{ThreadState}
-use Rattle.thread_state.specs.declared.value.Value.{Value}
-use Rattle.thread_state.specs.declared.value.Value.TheVariants as value
-use Rattle.server_msgs.specs.declared.message.Message.{Message}
-use Rattle.server_msgs.specs.declared.message.Message.TheVariants as message
-use Rattle.server_model.specs.Servers.{Server, Cluster}
-use Rattle.heap_law.specs.Names.{tot, Among}
-use Rattle.heap_law.specs.Things.{Location, Spot, in_slot, in_temp, in_hand, Thing, holds, retired, uses, things_at, pin_things, value_things, slot_things, temp_things, gift_things, walk_things, thread_things, standing_things, is_free, cell_things, free_things, partition_things, copy_things, content_things, queue_things, mutex_things, result_things, task_things, message_things, waiting_things, leaving_things, server_things, servers_things, things_of}
-use Rattle.heap_law.proofs.Sums.{tot-append, server_parts}
+use Rattle.still_law.specs.Below.heap_partition.declared.value.Cell.{Cell}
+use Rattle.still_law.specs.Below.heap_partition.declared.value.Owned.{Owned}
+use Rattle.still_law.specs.Below.mut_borrow.declared.shared.SharedRef.{SharedRef}
+use Rattle.still_law.specs.Below.owner_box.View.{PartitionState}
+use Rattle.still_law.specs.Below.mutex_home.Mutexes.{Mutex}
+use Rattle.still_law.specs.Below.join_home.Tasks.{TaskState, going, let_go, kept, asked, in_pair}
+use Rattle.still_law.specs.Below.thread_state.View.{ThreadState}
+use Rattle.still_law.specs.Below.thread_state.declared.value.Value.{Value}
+use Rattle.still_law.specs.Below.thread_state.declared.value.Value.TheVariants as value
+use Rattle.still_law.specs.Below.server_msgs.declared.message.Message.{Message}
+use Rattle.still_law.specs.Below.server_msgs.declared.message.Message.TheVariants as message
+use Rattle.still_law.specs.Below.server_model.Servers.{Server, Cluster}
+use Rattle.still_law.specs.Below.heap_law.Names.{tot, Among}
+use Rattle.still_law.specs.Below.heap_law.Things.{Location, Spot, in_slot, in_temp, in_hand, Thing, holds, retired, uses, things_at, pin_things, value_things, slot_things, temp_things, gift_things, walk_things, thread_things, standing_things, is_free, cell_things, free_things, partition_things, copy_things, content_things, queue_things, mutex_things, result_things, task_things, message_things, waiting_things, leaving_things, server_things, servers_things, things_of}
+use Rattle.still_law.proofs.Below.heap_law.Sums.{tot-append, server_parts}
 
 -- a thing weighs no more than all
 pub weighs : (f : Thing → ℕ) (x : Thing) (b : List Thing) → Among x b → f x ≤ tot f b

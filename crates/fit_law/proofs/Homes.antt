@@ -1,27 +1,27 @@
 -- A mutex has one home: mutexes are at the servers that their numbers name, and stand there by rising number.
 use Rattle.std.proofs.Common.{◌≡◌, ℕ, ◌+◌, ◌≤◌, ◌<◌, ◌==◌, Bool, true, false, List, [], ◌∷◌, refl, ap, arith}
 use Rattle.std.proofs.lemmas.Bool.Decides.{nat_tests}
-use Rattle.fr_base.specs.Names.{same_mutex}
-use Rattle.fr_base.specs.declared.name.MutexNo.{MutexNo}
-use Rattle.mutex_home.specs.Mutexes.{Mutex}
-use Rattle.join_home.specs.Tasks.{Task}
-use Rattle.thread_state.specs.View.{ThreadState}
-use Rattle.server_msgs.specs.declared.message.Message.{Message}
-use Rattle.server_msgs.specs.declared.message.Message.TheVariants as message
-use Rattle.server_model.specs.Servers.{Server, Cluster}
-use Rattle.heap_law.specs.Names.{tot, one, other, if_so}
-use Rattle.heap_law.specs.Things.{Thing, at_home, things_at, content_things, queue_things, mutex_things, task_things, standing_things, thread_things, waiting_things, leaving_things, message_things, server_things, servers_things, things_of}
-use Rattle.heap_law.specs.Sight.{Sight, sight}
-use Rattle.heap_law.specs.Weights.{is_home_of}
-use Rattle.heap_law.specs.Sharing.{elsewhere}
-use Rattle.heap_law.specs.Naming.{rising, rising_from, numbers_of, servers_wrong, pinned_parcel}
-use Rattle.heap_law.specs.Walking.{sum_threads}
-use Rattle.heap_law.proofs.Names.{same_mutexes}
-use Rattle.heap_law.proofs.Sums.{tot-append, server_parts}
-use Rattle.event_law.proofs.Trades.{tot-front}
-use Rattle.event_law.proofs.Unseen.{Unseen, none_at, thread_alone, content_none, result_none, partition_none, copies_none}
-use Rattle.event_law.proofs.MutexResults.{weighed, here, all_at_home, no_server}
-use Rattle.event_law.proofs.NotesFound.{below}
+use Rattle.still_law.specs.Below.fr_base.Names.{same_mutex}
+use Rattle.still_law.specs.Below.fr_base.declared.name.MutexNo.{MutexNo}
+use Rattle.still_law.specs.Below.mutex_home.Mutexes.{Mutex}
+use Rattle.still_law.specs.Below.join_home.Tasks.{Task}
+use Rattle.still_law.specs.Below.thread_state.View.{ThreadState}
+use Rattle.still_law.specs.Below.server_msgs.declared.message.Message.{Message}
+use Rattle.still_law.specs.Below.server_msgs.declared.message.Message.TheVariants as message
+use Rattle.still_law.specs.Below.server_model.Servers.{Server, Cluster}
+use Rattle.still_law.specs.Below.heap_law.Names.{tot, one, other, if_so}
+use Rattle.still_law.specs.Below.heap_law.Things.{Thing, at_home, things_at, content_things, queue_things, mutex_things, task_things, standing_things, thread_things, waiting_things, leaving_things, message_things, server_things, servers_things, things_of}
+use Rattle.still_law.specs.Below.heap_law.Sight.{Sight, sight}
+use Rattle.still_law.specs.Below.heap_law.Weights.{is_home_of}
+use Rattle.still_law.specs.Below.heap_law.Sharing.{elsewhere}
+use Rattle.still_law.specs.Below.heap_law.Naming.{rising, rising_from, numbers_of, servers_wrong, pinned_parcel}
+use Rattle.still_law.specs.Below.heap_law.Walking.{sum_threads}
+use Rattle.still_law.proofs.Below.heap_law.Names.{same_mutexes}
+use Rattle.still_law.proofs.Below.heap_law.Sums.{tot-append, server_parts}
+use Rattle.still_law.proofs.Below.event_law.Trades.{tot-front}
+use Rattle.still_law.proofs.Below.event_law.Unseen.{Unseen, none_at, thread_alone, content_none, result_none, partition_none, copies_none}
+use Rattle.still_law.proofs.Below.event_law.MutexResults.{weighed, here, all_at_home, no_server}
+use Rattle.still_law.proofs.Below.event_law.NotesFound.{below}
 use Rattle.still_law.proofs.Told.{at_most, ones}
 use Rattle.fit_law.specs.Fits.{StandsOnce}
 

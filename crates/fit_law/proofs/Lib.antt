@@ -1,3 +1,4 @@
+pub mod Below
 pub mod Homes
 pub mod Once
 pub mod Depths

@@ -1,28 +1,28 @@
 -- Where each thing stands once, each object, each content and each result is shown once, and no two threads have one number: what soundness says of it, without what needs types.
 use Rattle.std.proofs.Common.{◌≡◌, inl, inr, ℕ, zero, suc, ◌+◌, ◌≤◌, ◌==◌, Bool, true, false, if◌then◌else◌, List, [], ◌∷◌, Option, Some, None, is_some, refl, sym, subst, arith}
-use Rattle.fr_base.specs.declared.label.Plain.{Plain}
-use Rattle.fr_base.specs.declared.label.Plain.TheVariants as plain
-use Rattle.fr_base.specs.declared.name.MutexNo.{MutexNo}
-use Rattle.fr_base.specs.declared.name.ObjNo.{ObjNo}
-use Rattle.join_home.specs.Tasks.{TaskState, going, let_go, kept, asked, in_pair}
-use Rattle.server_msgs.specs.declared.message.Message.{Message}
-use Rattle.server_msgs.specs.declared.message.Message.TheVariants as message
-use Rattle.server_model.specs.Servers.{Cluster}
-use Rattle.heap_law.specs.Names.{tot, one, if_so, some, same_object, same_mutex, Among}
-use Rattle.heap_law.specs.Things.{Spot, in_slot, in_temp, as_gift, as_content, as_result, in_hand, Thing, holds, lies, flies, sent, stands, noted, things_of}
-use Rattle.heap_law.specs.Follow.{Standing, threads_in, thread_at}
-use Rattle.heap_law.specs.Sight.{Sight, sight}
-use Rattle.heap_law.specs.Sharing.{is_content_of, gift_content, contents, finished_of, joined_of, got_phase, kept_note, gift_result, results, has_ended}
-use Rattle.heap_law.specs.Weights.{cells}
-use Rattle.heap_law.specs.OneHeap.{if_in, or_else, cell_value, is_gift_of, content_value, pair_over, branch_result, is_joined_by, result_value}
+use Rattle.still_law.specs.Below.fr_base.declared.label.Plain.{Plain}
+use Rattle.still_law.specs.Below.fr_base.declared.label.Plain.TheVariants as plain
+use Rattle.still_law.specs.Below.fr_base.declared.name.MutexNo.{MutexNo}
+use Rattle.still_law.specs.Below.fr_base.declared.name.ObjNo.{ObjNo}
+use Rattle.still_law.specs.Below.join_home.Tasks.{TaskState, going, let_go, kept, asked, in_pair}
+use Rattle.still_law.specs.Below.server_msgs.declared.message.Message.{Message}
+use Rattle.still_law.specs.Below.server_msgs.declared.message.Message.TheVariants as message
+use Rattle.still_law.specs.Below.server_model.Servers.{Cluster}
+use Rattle.still_law.specs.Below.heap_law.Names.{tot, one, if_so, some, same_object, same_mutex, Among}
+use Rattle.still_law.specs.Below.heap_law.Things.{Spot, in_slot, in_temp, as_gift, as_content, as_result, in_hand, Thing, holds, lies, flies, sent, stands, noted, things_of}
+use Rattle.still_law.specs.Below.heap_law.Follow.{Standing, threads_in, thread_at}
+use Rattle.still_law.specs.Below.heap_law.Sight.{Sight, sight}
+use Rattle.still_law.specs.Below.heap_law.Sharing.{is_content_of, gift_content, contents, finished_of, joined_of, got_phase, kept_note, gift_result, results, has_ended}
+use Rattle.still_law.specs.Below.heap_law.Weights.{cells}
+use Rattle.still_law.specs.Below.heap_law.OneHeap.{if_in, or_else, cell_value, is_gift_of, content_value, pair_over, branch_result, is_joined_by, result_value}
 use Rattle.still_law.proofs.Told.{at_most, found, told, ones}
 use Rattle.still_law.proofs.Counting.{shown_result}
 use Rattle.still_law.proofs.Alike.{Once}
 use Rattle.still_law.proofs.Gifts.{placed, telling, places_told}
 use Rattle.fit_law.specs.Fits.{StandsOnce, SoundStandOnce}
 use Rattle.fit_law.proofs.Homes.{few_homes}
-use Rattle.heap_partition.specs.Plain.{plain_of}
-use Rattle.heap_partition.specs.declared.value.Owned.{Owned}
+use Rattle.still_law.specs.Below.heap_partition.Plain.{plain_of}
+use Rattle.still_law.specs.Below.heap_partition.declared.value.Owned.{Owned}
 
 told_one : (q : Bool) (v : Plain) → told ones (if_in q (Some v)) ≡ one q
 told_one true v = refl

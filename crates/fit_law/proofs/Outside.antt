@@ -1,30 +1,30 @@
 -- Where what is outside a typed one heap agrees with the types of its names, all does: who is inside names only what is inside, and the other way.
 use Rattle.std.proofs.Common.{◌≡◌, inl, inr, ℕ, zero, suc, ◌+◌, ◌≤◌, ◌||◌, ◌&&◌, not, Bool, true, false, if◌then◌else◌, List, [], ◌∷◌, length, Option, Some, None, refl, sym, ap, ◌∙◌, arith}
-use Rattle.fr_base.specs.declared.name.MutexNo.{MutexNo}
-use Rattle.fr_base.specs.declared.name.ObjNo.{ObjNo}
-use Rattle.heap_partition.specs.declared.value.BoxPtr.{BoxPtr}
-use Rattle.heap_partition.specs.declared.value.Cell.{Cell}
-use Rattle.heap_partition.specs.declared.value.Owned.{Owned}
-use Rattle.heap_partition.specs.declared.value.Owned.TheVariants as owned
-use Rattle.server_model.specs.Servers.{Cluster}
-use Rattle.fr_typing.specs.Kinds.{Owned as OwnedType, unit, int, box, mutex, task, same_owned}
-use Rattle.fr_sound.specs.Seen.{Gives}
-use Rattle.fr_sound.specs.States.{Typing}
-use Rattle.fr_code.specs.CodeTypes.{Table}
-use Rattle.heap_law.specs.Names.{tot, one, other, if_so, Among, boxes, same_object}
-use Rattle.heap_law.specs.Things.{Spot, in_slot, in_temp, as_gift, as_content, as_result, in_hand, Thing, holds, lies, flies}
-use Rattle.heap_law.specs.Follow.{Standing}
-use Rattle.heap_law.specs.Sight.{Sight, sight}
-use Rattle.heap_law.specs.Walking.{instr_of}
-use Rattle.heap_law.specs.Paths.{joined_thread}
-use Rattle.heap_law.specs.Requests.{locked_mutex}
-use Rattle.heap_law.specs.Weights.{owners}
-use Rattle.heap_law.specs.OneHeap.{Node, object_n, Owner, a_thread, inside, outside, owns as owns_node, names, owner_of, owner_in, named_in, any_named, in_state_by, is_in_state, value_is_in, if_in, first_shown, cell_value}
-use Rattle.heap_law.proofs.Words.{itself}
-use Rattle.type_law.specs.Names.{NameTypes, names_of, fits, is_there}
-use Rattle.type_law.specs.ClusterTypes.{misfit, content_gift, result_gift, gift_misfit}
-use Rattle.path_law.proofs.Forms.{none_of}
-use Rattle.path_law.proofs.InState.{only_one}
+use Rattle.still_law.specs.Below.fr_base.declared.name.MutexNo.{MutexNo}
+use Rattle.still_law.specs.Below.fr_base.declared.name.ObjNo.{ObjNo}
+use Rattle.still_law.specs.Below.heap_partition.declared.value.BoxPtr.{BoxPtr}
+use Rattle.still_law.specs.Below.heap_partition.declared.value.Cell.{Cell}
+use Rattle.still_law.specs.Below.heap_partition.declared.value.Owned.{Owned}
+use Rattle.still_law.specs.Below.heap_partition.declared.value.Owned.TheVariants as owned
+use Rattle.still_law.specs.Below.server_model.Servers.{Cluster}
+use Rattle.still_law.specs.Below.fr_typing.Kinds.{Owned as OwnedType, unit, int, box, mutex, task, same_owned}
+use Rattle.typed_law.specs.Below.fr_sound.Seen.{Gives}
+use Rattle.typed_law.specs.Below.fr_sound.States.{Typing}
+use Rattle.still_law.specs.Below.fr_code.CodeTypes.{Table}
+use Rattle.still_law.specs.Below.heap_law.Names.{tot, one, other, if_so, Among, boxes, same_object}
+use Rattle.still_law.specs.Below.heap_law.Things.{Spot, in_slot, in_temp, as_gift, as_content, as_result, in_hand, Thing, holds, lies, flies}
+use Rattle.still_law.specs.Below.heap_law.Follow.{Standing}
+use Rattle.still_law.specs.Below.heap_law.Sight.{Sight, sight}
+use Rattle.still_law.specs.Below.heap_law.Walking.{instr_of}
+use Rattle.still_law.specs.Below.heap_law.Paths.{joined_thread}
+use Rattle.still_law.specs.Below.heap_law.Requests.{locked_mutex}
+use Rattle.still_law.specs.Below.heap_law.Weights.{owners}
+use Rattle.still_law.specs.Below.heap_law.OneHeap.{Node, object_n, Owner, a_thread, inside, outside, owns as owns_node, names, owner_of, owner_in, named_in, any_named, in_state_by, is_in_state, value_is_in, if_in, first_shown, cell_value}
+use Rattle.still_law.proofs.Below.heap_law.Words.{itself}
+use Rattle.typed_law.specs.Below.type_law.Names.{NameTypes, names_of, fits, is_there}
+use Rattle.typed_law.specs.Below.type_law.ClusterTypes.{misfit, content_gift, result_gift, gift_misfit}
+use Rattle.typed_law.proofs.Below.path_law.Forms.{none_of}
+use Rattle.typed_law.proofs.Below.path_law.InState.{only_one}
 use Rattle.still_law.proofs.Rounds.{enough}
 use Rattle.typed_law.specs.Counted.{AreTheseTypes}
 use Rattle.fit_law.specs.Fits.{StandsOnce, gift_is_in, HeapFits, outside_misfits, WholeAgrees, MisfitsFollow}

@@ -2,39 +2,39 @@
 use Rattle.std.proofs.Common.{◌≡◌, ◌⊎◌, inl, inr, ℕ, ◌+◌, ◌≤◌, ◌%◌, ◌^◌, ◌==◌, ◌&&◌, ◌||◌, not, Bool, true, false, List, [], ◌∷◌, ◌++◌, length, Option, Some, None, is_some, refl, sym, ap, subst, ◌∙◌, arith}
 use Rattle.std.specs.Prelude.{slice_get}
 use Rattle.std.proofs.lemmas.Bool.Decides.{nat_tests}
-use Rattle.fr_base.specs.declared.label.Plain.{Plain}
-use Rattle.fr_base.specs.declared.name.MutexNo.{MutexNo}
-use Rattle.fr_base.specs.declared.instruction.Instr.{Instr}
-use Rattle.fr_base.specs.declared.instruction.Instr.TheVariants as instr
-use Rattle.fr_plain.specs.declared.value.Value.TheVariants.{Own}
-use Rattle.fr_plain.specs.MachineThreads.{ended}
-use Rattle.heap_partition.specs.Plain.{plain_of}
-use Rattle.heap_partition.specs.declared.value.Owned.{Owned}
-use Rattle.join_home.specs.Tasks.{TaskState, going, let_go, kept, asked, in_pair}
-use Rattle.server_msgs.specs.declared.message.Message.{Message}
-use Rattle.server_msgs.specs.declared.message.Message.TheVariants as message
-use Rattle.thread_state.specs.View.{is_over}
-use Rattle.thread_state.specs.declared.value.Value.TheVariants as value
-use Rattle.server_model.specs.Servers.{Cluster}
-use Rattle.heap_law.specs.Names.{tot, one, other, some, if_so, Among, same_mutex}
-use Rattle.heap_law.specs.Things.{Spot, in_slot, in_temp, as_gift, as_content, as_result, in_hand, Thing, holds, sent, stands, noted, things_at, gift_things, walk_things, slot_things, temp_things, things_of}
-use Rattle.heap_law.specs.Follow.{Standing, threads_in, thread_at}
-use Rattle.heap_law.specs.Sight.{Sight, sight}
-use Rattle.heap_law.specs.Walking.{instr_of}
-use Rattle.heap_law.specs.Paths.{joined_thread}
-use Rattle.heap_law.specs.Requests.{locked_mutex, is_mutex, is_task, home_of}
-use Rattle.heap_law.specs.Rooted.{is_end, dressed}
-use Rattle.heap_law.specs.Sharing.{has_ended}
-use Rattle.heap_law.specs.Weights.{is_thread}
-use Rattle.heap_law.specs.Naming.{threads, started_at, uncounted_thread, zeroth_thread}
+use Rattle.still_law.specs.Below.fr_base.declared.label.Plain.{Plain}
+use Rattle.still_law.specs.Below.fr_base.declared.name.MutexNo.{MutexNo}
+use Rattle.still_law.specs.Below.fr_base.declared.instruction.Instr.{Instr}
+use Rattle.still_law.specs.Below.fr_base.declared.instruction.Instr.TheVariants as instr
+use Rattle.still_law.specs.Below.fr_plain.declared.value.Value.TheVariants.{Own}
+use Rattle.still_law.specs.Below.fr_plain.MachineThreads.{ended}
+use Rattle.still_law.specs.Below.heap_partition.Plain.{plain_of}
+use Rattle.still_law.specs.Below.heap_partition.declared.value.Owned.{Owned}
+use Rattle.still_law.specs.Below.join_home.Tasks.{TaskState, going, let_go, kept, asked, in_pair}
+use Rattle.still_law.specs.Below.server_msgs.declared.message.Message.{Message}
+use Rattle.still_law.specs.Below.server_msgs.declared.message.Message.TheVariants as message
+use Rattle.still_law.specs.Below.thread_state.View.{is_over}
+use Rattle.still_law.specs.Below.thread_state.declared.value.Value.TheVariants as value
+use Rattle.still_law.specs.Below.server_model.Servers.{Cluster}
+use Rattle.still_law.specs.Below.heap_law.Names.{tot, one, other, some, if_so, Among, same_mutex}
+use Rattle.still_law.specs.Below.heap_law.Things.{Spot, in_slot, in_temp, as_gift, as_content, as_result, in_hand, Thing, holds, sent, stands, noted, things_at, gift_things, walk_things, slot_things, temp_things, things_of}
+use Rattle.still_law.specs.Below.heap_law.Follow.{Standing, threads_in, thread_at}
+use Rattle.still_law.specs.Below.heap_law.Sight.{Sight, sight}
+use Rattle.still_law.specs.Below.heap_law.Walking.{instr_of}
+use Rattle.still_law.specs.Below.heap_law.Paths.{joined_thread}
+use Rattle.still_law.specs.Below.heap_law.Requests.{locked_mutex, is_mutex, is_task, home_of}
+use Rattle.still_law.specs.Below.heap_law.Rooted.{is_end, dressed}
+use Rattle.still_law.specs.Below.heap_law.Sharing.{has_ended}
+use Rattle.still_law.specs.Below.heap_law.Weights.{is_thread}
+use Rattle.still_law.specs.Below.heap_law.Naming.{threads, started_at, uncounted_thread, zeroth_thread}
 use Rattle.fit_law.specs.Fits.{StandsOnce}
-use Rattle.heap_law.specs.OneHeap.{one_heap, mutex_n, task_n, inside, content_owner, result_owner, gift_owner, gift_owner_of, owner_of, is_in_state, if_in, or_else, first_shown, is_gift_of, content_value, share_in, if_there, is_joined_by, result_value, result_of, ended_with, life_of, life_at, if_given, is_given_thread}
-use Rattle.event_law.proofs.MutexResults.{mutex_self}
-use Rattle.path_law.specs.HeapStore.{GoesOn}
-use Rattle.path_law.proofs.Shown.{none_else}
-use Rattle.path_law.proofs.Forms.{none_of}
-use Rattle.path_law.proofs.Contained.{among_thread, servers_contain}
-use Rattle.path_law.proofs.Origins.{Origin, of_thread, of_none, origin, Listed, in_slots, own_value, among_first}
+use Rattle.still_law.specs.Below.heap_law.OneHeap.{one_heap, mutex_n, task_n, inside, content_owner, result_owner, gift_owner, gift_owner_of, owner_of, is_in_state, if_in, or_else, first_shown, is_gift_of, content_value, share_in, if_there, is_joined_by, result_value, result_of, ended_with, life_of, life_at, if_given, is_given_thread}
+use Rattle.still_law.proofs.Below.event_law.MutexResults.{mutex_self}
+use Rattle.typed_law.specs.Below.path_law.HeapStore.{GoesOn}
+use Rattle.typed_law.proofs.Below.path_law.Shown.{none_else}
+use Rattle.typed_law.proofs.Below.path_law.Forms.{none_of}
+use Rattle.typed_law.proofs.Below.path_law.Contained.{among_thread, servers_contain}
+use Rattle.typed_law.proofs.Below.path_law.Origins.{Origin, of_thread, of_none, origin, Listed, in_slots, own_value, among_first}
 use Rattle.still_law.specs.Shows.{is_held}
 use Rattle.still_law.proofs.Told.{told, ones, at_thread, at_most, thread_told, found}
 use Rattle.still_law.proofs.Gifts.{placed, telling, places_told}

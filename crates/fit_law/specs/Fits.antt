@@ -1,24 +1,24 @@
 -- WHAT STANDS IN THE ONE HEAP AGREES with the types of its names (this project's rule).
 use Rattle.std.specs.Prelude.{◌≡◌, ℕ, ◌+◌, Bool, not}
-use Rattle.fr_base.specs.declared.name.ObjNo.{ObjNo}
-use Rattle.fr_typing.specs.Kinds.{Owned as OwnedType}
-use Rattle.fr_sound.specs.States.{Typing}
-use Rattle.fr_code.specs.CodeTypes.{Table}
-use Rattle.fr_code.specs.TableStates.{CodeStateTypes}
-use Rattle.server_model.specs.Servers.{Cluster}
-use Rattle.heap_law.specs.Names.{if_so}
-use Rattle.heap_law.specs.Follow.{Standing}
-use Rattle.heap_law.specs.Sight.{Sight, sight}
-use Rattle.heap_law.specs.Placing.{sum_over}
-use Rattle.heap_law.specs.Walking.{sum_threads, instr_of}
-use Rattle.heap_law.specs.OneHeap.{one_heap, gift_owner, owner_in, is_in_state, value_is_in}
-use Rattle.heap_law.specs.Balances.{Agree, AtMost, AtMostOne}
-use Rattle.heap_law.specs.Things.{things_of}
-use Rattle.heap_law.specs.Weights.{cells, owners, is_home_of}
-use Rattle.heap_law.specs.Sharing.{contents, results, has_ended}
-use Rattle.heap_law.specs.Coherent.{Holds, at_their_home, parts_are_typed, IsSound}
-use Rattle.type_law.specs.Names.{NameTypes, names_of}
-use Rattle.type_law.specs.ClusterTypes.{misfit, gift_misfit, misfits}
+use Rattle.still_law.specs.Below.fr_base.declared.name.ObjNo.{ObjNo}
+use Rattle.still_law.specs.Below.fr_typing.Kinds.{Owned as OwnedType}
+use Rattle.typed_law.specs.Below.fr_sound.States.{Typing}
+use Rattle.still_law.specs.Below.fr_code.CodeTypes.{Table}
+use Rattle.still_law.specs.Below.fr_code.TableStates.{CodeStateTypes}
+use Rattle.still_law.specs.Below.server_model.Servers.{Cluster}
+use Rattle.still_law.specs.Below.heap_law.Names.{if_so}
+use Rattle.still_law.specs.Below.heap_law.Follow.{Standing}
+use Rattle.still_law.specs.Below.heap_law.Sight.{Sight, sight}
+use Rattle.still_law.specs.Below.heap_law.Placing.{sum_over}
+use Rattle.still_law.specs.Below.heap_law.Walking.{sum_threads, instr_of}
+use Rattle.still_law.specs.Below.heap_law.OneHeap.{one_heap, gift_owner, owner_in, is_in_state, value_is_in}
+use Rattle.still_law.specs.Below.heap_law.Balances.{Agree, AtMost, AtMostOne}
+use Rattle.still_law.specs.Below.heap_law.Things.{things_of}
+use Rattle.still_law.specs.Below.heap_law.Weights.{cells, owners, is_home_of}
+use Rattle.still_law.specs.Below.heap_law.Sharing.{contents, results, has_ended}
+use Rattle.still_law.specs.Below.heap_law.Coherent.{Holds, at_their_home, parts_are_typed, IsSound}
+use Rattle.typed_law.specs.Below.type_law.Names.{NameTypes, names_of}
+use Rattle.typed_law.specs.Below.type_law.ClusterTypes.{misfit, gift_misfit, misfits}
 use Rattle.typed_law.specs.Counted.{HasNumbers, AreTheseTypes, CountsFollow, sorts_wrong}
 
 -- a gift is in the one heap where whose content or result it still is, is

@@ -2,24 +2,24 @@
 use Rattle.std.proofs.Common.{◌≡◌, ℕ, ◌+◌, ◌==◌, Bool, true, false, not, ◌&&◌, List, [], ◌∷◌, ◌++◌, reverse, map, Option, Some, None, refl, sym, ap, ap₂, ◌∙◌}
 use Rattle.std.specs.Prelude.{is_some}
 use Rattle.std.proofs.lemmas.List.{map-append, reverse-append}
-use Rattle.fr_base.specs.declared.label.Plain.{Plain}
-use Rattle.fr_base.specs.declared.label.Plain.TheVariants as plain
-use Rattle.fr_base.specs.declared.name.ObjNo.{ObjNo}
-use Rattle.fr_base.specs.declared.place.Lval.{Lval}
-use Rattle.fr_typing.specs.Kinds.{Owned as OwnedType, unit, int, box, mutex, task, Kind, own, shared, mutable, view, Piece, whole, gone, boxed}
-use Rattle.fr_typing.specs.Places.{Slot}
-use Rattle.fr_sound.specs.States.{owned_part}
-use Rattle.heap_partition.specs.Plain.{plain_of}
-use Rattle.heap_partition.specs.declared.value.Owned.{Owned}
-use Rattle.heap_partition.specs.declared.value.Owned.TheVariants as owned
-use Rattle.mut_borrow.specs.declared.shared.SharedRef.{SharedRef}
-use Rattle.mut_borrow.specs.declared.mutable.MutRef.{MutRef}
-use Rattle.thread_state.specs.declared.value.Value.{Value}
-use Rattle.thread_state.specs.declared.value.Value.TheVariants as value
-use Rattle.heap_law.specs.Names.{other, same_object}
-use Rattle.type_law.specs.Names.{NameTypes, fits, is_there, fits_some, is_type}
-use Rattle.type_law.specs.ClusterTypes.{has_form, is_mark, slot_form, slots_wrong, temps_wrong, above_mark, locked_of}
-use Rattle.still_law.specs.Shows.{Frame, moved_out, owning, shared_slot, mutable_slot, shared_object, mutable_object, marking, frame_of}
+use Rattle.undone_law.specs.Below.fr_base.declared.label.Plain.{Plain}
+use Rattle.undone_law.specs.Below.fr_base.declared.label.Plain.TheVariants as plain
+use Rattle.undone_law.specs.Below.fr_base.declared.name.ObjNo.{ObjNo}
+use Rattle.undone_law.specs.Below.fr_base.declared.place.Lval.{Lval}
+use Rattle.undone_law.specs.Below.fr_typing.Kinds.{Owned as OwnedType, unit, int, box, mutex, task, Kind, own, shared, mutable, view, Piece, whole, gone, boxed}
+use Rattle.undone_law.specs.Below.fr_typing.Places.{Slot}
+use Rattle.undone_law.specs.Below.fr_sound.States.{owned_part}
+use Rattle.undone_law.specs.Below.heap_partition.Plain.{plain_of}
+use Rattle.undone_law.specs.Below.heap_partition.declared.value.Owned.{Owned}
+use Rattle.undone_law.specs.Below.heap_partition.declared.value.Owned.TheVariants as owned
+use Rattle.undone_law.specs.Below.mut_borrow.declared.shared.SharedRef.{SharedRef}
+use Rattle.undone_law.specs.Below.mut_borrow.declared.mutable.MutRef.{MutRef}
+use Rattle.undone_law.specs.Below.thread_state.declared.value.Value.{Value}
+use Rattle.undone_law.specs.Below.thread_state.declared.value.Value.TheVariants as value
+use Rattle.undone_law.specs.Below.heap_law.Names.{other, same_object}
+use Rattle.undone_law.specs.Below.type_law.Names.{NameTypes, fits, is_there, fits_some, is_type}
+use Rattle.undone_law.specs.Below.type_law.ClusterTypes.{has_form, is_mark, slot_form, slots_wrong, temps_wrong, above_mark, locked_of}
+use Rattle.undone_law.specs.Below.still_law.Shows.{Frame, moved_out, owning, shared_slot, mutable_slot, shared_object, mutable_object, marking, frame_of}
 
 -- THE VALUE OF A FRAME
 

@@ -2,21 +2,21 @@
 use Rattle.std.proofs.Common.{◌≡◌, ℕ, ◌+◌, ◌==◌, ◌<◌, ◌≤◌, Bool, true, false, not, ◌&&◌, List, [], ◌∷◌, length, reverse, map, Option, Some, None, refl, sym, ap, ap₂, ◌∙◌, arith}
 use Rattle.std.specs.Prelude.{is_some}
 use Rattle.std.specs.Bool.{⊤}
-use Rattle.fr_base.specs.declared.name.MutexNo.{MutexNo}
-use Rattle.fr_base.specs.declared.name.ObjNo.{ObjNo}
-use Rattle.fr_base.specs.declared.place.Lval.{Lval}
-use Rattle.fr_store.specs.Keys.{Key, slot_k, temp_k}
-use Rattle.fr_store.specs.Typed.{Exact, owns, refers, KeyTypes}
-use Rattle.heap_partition.specs.declared.value.Owned.TheVariants as owned
-use Rattle.thread_state.specs.View.{ThreadState}
-use Rattle.thread_state.specs.declared.value.Value.{Value}
-use Rattle.thread_state.specs.declared.value.Value.TheVariants as value
-use Rattle.heap_law.specs.Names.{tot, one, other, if_so, same_mutex}
-use Rattle.heap_law.specs.Things.{Location}
-use Rattle.heap_law.specs.Follow.{Standing, Ground, leads, locate, place_at, value_at}
-use Rattle.heap_law.specs.Requests.{mutex_of}
-use Rattle.type_law.specs.ClusterTypes.{same_place, is_held_at, leads_as, astray_from, astray, all_astray, astray_of}
-use Rattle.still_law.proofs.PlainValues.{shown_of}
+use Rattle.undone_law.specs.Below.fr_base.declared.name.MutexNo.{MutexNo}
+use Rattle.undone_law.specs.Below.fr_base.declared.name.ObjNo.{ObjNo}
+use Rattle.undone_law.specs.Below.fr_base.declared.place.Lval.{Lval}
+use Rattle.undone_law.specs.Below.fr_store.Keys.{Key, slot_k, temp_k}
+use Rattle.undone_law.specs.Below.fr_store.Typed.{Exact, owns, refers, KeyTypes}
+use Rattle.undone_law.specs.Below.heap_partition.declared.value.Owned.TheVariants as owned
+use Rattle.undone_law.specs.Below.thread_state.View.{ThreadState}
+use Rattle.undone_law.specs.Below.thread_state.declared.value.Value.{Value}
+use Rattle.undone_law.specs.Below.thread_state.declared.value.Value.TheVariants as value
+use Rattle.undone_law.specs.Below.heap_law.Names.{tot, one, other, if_so, same_mutex}
+use Rattle.undone_law.specs.Below.heap_law.Things.{Location}
+use Rattle.undone_law.specs.Below.heap_law.Follow.{Standing, Ground, leads, locate, place_at, value_at}
+use Rattle.undone_law.specs.Below.heap_law.Requests.{mutex_of}
+use Rattle.undone_law.specs.Below.type_law.ClusterTypes.{same_place, is_held_at, leads_as, astray_from, astray, all_astray, astray_of}
+use Rattle.undone_law.proofs.Below.still_law.PlainValues.{shown_of}
 use Rattle.frame_law.proofs.Bare.{bared, all_bared, bared_twice}
 use Rattle.frame_law.proofs.Twins.{bare_standing, SeesFrames}
 

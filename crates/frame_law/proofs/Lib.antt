@@ -1,3 +1,4 @@
+pub mod Below
 pub mod Bare
 pub mod Twins
 pub mod Leading

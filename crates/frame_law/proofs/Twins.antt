@@ -1,26 +1,26 @@
 -- Two clusters that show alike: what a sum over threads sees of each thread but for words, marks and pins is the same in both.
 use Rattle.std.proofs.Common.{◌≡◌, ℕ, ◌+◌, ◌==◌, ◌≤◌, Bool, true, false, not, ◌&&◌, List, [], ◌∷◌, reverse, map, Option, Some, None, option_map, refl, sym, ap, ap₂, ◌∙◌, arith}
 use Rattle.std.specs.Bool.{⊤}
-use Rattle.fr_base.specs.declared.name.ObjNo.{ObjNo}
-use Rattle.fr_base.specs.declared.label.Plain.{Plain}
-use Rattle.thread_state.specs.View.{ThreadState, is_over}
-use Rattle.thread_state.specs.declared.phase.Phase.{Phase}
-use Rattle.thread_state.specs.declared.phase.Phase.TheVariants as phase
-use Rattle.fr_code.specs.CodeTypes.{Entry, Table}
-use Rattle.server_model.specs.Servers.{Cluster}
-use Rattle.heap_law.specs.Names.{tot, one, other, if_so}
-use Rattle.heap_law.specs.Things.{Thing, stands, noted, things_of}
-use Rattle.heap_law.specs.Follow.{Standing, threads_in}
-use Rattle.heap_law.specs.Sight.{sight}
-use Rattle.heap_law.specs.OneHeap.{two_in}
-use Rattle.type_law.specs.Names.{NameTypes}
-use Rattle.type_law.specs.ClusterTypes.{entry_wrong, forms_of, forms_wrong, slots_wrong, temps_wrong, locked_of, locked_wrong, gives_other, ends_wrong}
-use Rattle.event_law.proofs.KnownSound.{on_standing, sum_standing}
-use Rattle.still_law.specs.Shows.{ShownThread, Sign, nothing, a_thread, frame_of, has_both, shown_thread, sign_of}
-use Rattle.still_law.proofs.Told.{tot_same}
-use Rattle.still_law.proofs.PlainValues.{unnoted, shown_of}
-use Rattle.still_law.proofs.Counting.{no_values}
-use Rattle.still_law.proofs.Alike.{HeedAlike}
+use Rattle.undone_law.specs.Below.fr_base.declared.name.ObjNo.{ObjNo}
+use Rattle.undone_law.specs.Below.fr_base.declared.label.Plain.{Plain}
+use Rattle.undone_law.specs.Below.thread_state.View.{ThreadState, is_over}
+use Rattle.undone_law.specs.Below.thread_state.declared.phase.Phase.{Phase}
+use Rattle.undone_law.specs.Below.thread_state.declared.phase.Phase.TheVariants as phase
+use Rattle.undone_law.specs.Below.fr_code.CodeTypes.{Entry, Table}
+use Rattle.undone_law.specs.Below.server_model.Servers.{Cluster}
+use Rattle.undone_law.specs.Below.heap_law.Names.{tot, one, other, if_so}
+use Rattle.undone_law.specs.Below.heap_law.Things.{Thing, stands, noted, things_of}
+use Rattle.undone_law.specs.Below.heap_law.Follow.{Standing, threads_in}
+use Rattle.undone_law.specs.Below.heap_law.Sight.{sight}
+use Rattle.undone_law.specs.Below.heap_law.OneHeap.{two_in}
+use Rattle.undone_law.specs.Below.type_law.Names.{NameTypes}
+use Rattle.undone_law.specs.Below.type_law.ClusterTypes.{entry_wrong, forms_of, forms_wrong, slots_wrong, temps_wrong, locked_of, locked_wrong, gives_other, ends_wrong}
+use Rattle.undone_law.proofs.Below.event_law.KnownSound.{on_standing, sum_standing}
+use Rattle.undone_law.specs.Below.still_law.Shows.{ShownThread, Sign, nothing, a_thread, frame_of, has_both, shown_thread, sign_of}
+use Rattle.undone_law.proofs.Below.still_law.Told.{tot_same}
+use Rattle.undone_law.proofs.Below.still_law.PlainValues.{unnoted, shown_of}
+use Rattle.undone_law.proofs.Below.still_law.Counting.{no_values}
+use Rattle.undone_law.proofs.Below.still_law.Alike.{HeedAlike}
 use Rattle.frame_law.proofs.Bare.{bare, all_bared, bared_twice, reversed, slots_bare, temps_bare, locked_bare}
 
 -- A THREAD WITHOUT WHAT ISN'T SHOWN

@@ -1,32 +1,32 @@
 -- Event by event: whatever does no plain step leaves what types say of threads.
 use Rattle.std.proofs.Common.{◌≡◌, ℕ, ◌+◌, Bool, true, false, not, length, Option, Some, None, refl, sym, ap, ap₂, ◌∙◌, arith}
 use Rattle.std.specs.Prelude.{is_some}
-use Rattle.fr_base.specs.declared.name.ObjNo.{ObjNo}
-use Rattle.fr_base.specs.declared.place.Lval.{Lval}
-use Rattle.journal.specs.View.{EntryView}
-use Rattle.thread_state.specs.View.{is_over}
-use Rattle.server_model.specs.declared.event.Event.{Event}
-use Rattle.server_model.specs.Servers.{Cluster}
-use Rattle.server_model.specs.Clusters.{apply}
-use Rattle.heap_law.specs.Names.{tot, one, other, if_so, Among}
-use Rattle.heap_law.specs.Things.{Location, at_slot, at_temp, in_cell, things_of}
-use Rattle.heap_law.specs.Follow.{Standing, Ground, threads_in, locate}
-use Rattle.heap_law.specs.Sight.{sight}
-use Rattle.heap_law.specs.Rooted.{is_end, dressed}
-use Rattle.heap_law.specs.Walking.{instr_of}
-use Rattle.type_law.specs.Names.{names_of}
-use Rattle.type_law.specs.ClusterTypes.{Types, IsCoherent, leads_wrong, astray_of}
-use Rattle.path_law.specs.HeapStore.{GoesOn, HasPaths}
-use Rattle.path_law.proofs.Alike.{coherent_has_paths}
-use Rattle.path_law.proofs.Forms.{none_of}
-use Rattle.event_law.specs.Laws.{Gives, FewEvents, OneResult}
-use Rattle.event_law.proofs.Results.{both_give}
-use Rattle.event_law.proofs.TurnEvents.{asking_applied, result_once}
-use Rattle.still_law.proofs.Once.{shown_once}
-use Rattle.still_law.proofs.Drops.{named}
-use Rattle.still_law.proofs.Sites.{leads_by}
-use Rattle.still_law.proofs.Counting.{no_stray}
-use Rattle.still_law.proofs.Alike.{SeenAt, HeedAlike, Heeds, place_same, mutex_same}
+use Rattle.undone_law.specs.Below.fr_base.declared.name.ObjNo.{ObjNo}
+use Rattle.undone_law.specs.Below.fr_base.declared.place.Lval.{Lval}
+use Rattle.undone_law.specs.Below.journal.View.{EntryView}
+use Rattle.undone_law.specs.Below.thread_state.View.{is_over}
+use Rattle.undone_law.specs.Below.server_model.declared.event.Event.{Event}
+use Rattle.undone_law.specs.Below.server_model.Servers.{Cluster}
+use Rattle.undone_law.specs.Below.server_model.Clusters.{apply}
+use Rattle.undone_law.specs.Below.heap_law.Names.{tot, one, other, if_so, Among}
+use Rattle.undone_law.specs.Below.heap_law.Things.{Location, at_slot, at_temp, in_cell, things_of}
+use Rattle.undone_law.specs.Below.heap_law.Follow.{Standing, Ground, threads_in, locate}
+use Rattle.undone_law.specs.Below.heap_law.Sight.{sight}
+use Rattle.undone_law.specs.Below.heap_law.Rooted.{is_end, dressed}
+use Rattle.undone_law.specs.Below.heap_law.Walking.{instr_of}
+use Rattle.undone_law.specs.Below.type_law.Names.{names_of}
+use Rattle.undone_law.specs.Below.type_law.ClusterTypes.{Types, IsCoherent, leads_wrong, astray_of}
+use Rattle.undone_law.specs.Below.path_law.HeapStore.{GoesOn, HasPaths}
+use Rattle.undone_law.proofs.Below.path_law.Alike.{coherent_has_paths}
+use Rattle.undone_law.proofs.Below.path_law.Forms.{none_of}
+use Rattle.undone_law.specs.Below.event_law.Laws.{Gives, FewEvents, OneResult}
+use Rattle.undone_law.proofs.Below.event_law.Results.{both_give}
+use Rattle.undone_law.proofs.Below.event_law.TurnEvents.{asking_applied, result_once}
+use Rattle.undone_law.proofs.Below.still_law.Once.{shown_once}
+use Rattle.undone_law.proofs.Below.still_law.Drops.{named}
+use Rattle.undone_law.proofs.Below.still_law.Sites.{leads_by}
+use Rattle.undone_law.proofs.Below.still_law.Counting.{no_stray}
+use Rattle.undone_law.proofs.Below.still_law.Alike.{SeenAt, HeedAlike, Heeds, place_same, mutex_same}
 use Rattle.undone_law.proofs.Undone.{event_goes}
 use Rattle.undone_law.proofs.Locks.{locks_see, places_see}
 use Rattle.frame_law.specs.Threads.{TypesThreads, UndoneKeepsThreadTypes}

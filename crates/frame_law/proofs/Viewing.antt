@@ -1,29 +1,29 @@
 -- Each view is seen by the parent that it was seen by.
 use Rattle.std.proofs.Common.{◌≡◌, ◌⊎◌, inl, inr, ℕ, zero, suc, ◌+◌, ◌==◌, ◌<◌, ◌≤◌, Bool, true, false, not, ◌&&◌, ◌||◌, List, [], ◌∷◌, length, reverse, map, Option, Some, None, refl, sym, ap, ap₂, ◌∙◌, arith}
 use Rattle.std.proofs.lemmas.Bool.{eqb-true, eq-eqb}
-use Rattle.fr_base.specs.declared.name.ObjNo.{ObjNo}
-use Rattle.fr_typing.specs.Kinds.{Kind, own, shared, mutable, view, Piece, whole, gone, boxed}
-use Rattle.fr_typing.specs.Places.{Slot}
-use Rattle.fr_code.specs.CodeTypes.{Entry, Table}
-use Rattle.thread_state.specs.View.{ThreadState, is_over}
-use Rattle.thread_state.specs.declared.phase.Phase.{Phase}
-use Rattle.thread_state.specs.declared.phase.Phase.TheVariants as phase
-use Rattle.thread_state.specs.declared.value.Value.{Value}
-use Rattle.thread_state.specs.declared.value.Value.TheVariants as value
-use Rattle.server_model.specs.Servers.{Cluster}
-use Rattle.heap_law.specs.Names.{tot, one, other, if_so, some, same_object, Among}
-use Rattle.heap_law.specs.Things.{Thing, stands, things_of}
-use Rattle.heap_law.specs.Follow.{Standing, threads_in}
-use Rattle.heap_law.specs.Sight.{Sight, sight}
-use Rattle.heap_law.specs.Balances.{AtMost, AtMostOne}
-use Rattle.heap_law.specs.Weights.{is_thread}
-use Rattle.heap_law.specs.Sharing.{got_phase, results, has_ended}
-use Rattle.heap_law.specs.OneHeap.{two_in}
-use Rattle.type_law.specs.ClusterTypes.{entry_wrong, refers_to, parent_sees, unseen, unseen_slots, unseen_temps, views_wrong}
-use Rattle.event_law.proofs.KnownSound.{on_standing, sum_standing}
-use Rattle.still_law.proofs.Told.{at_most, tot_same}
-use Rattle.still_law.proofs.PlainValues.{shown_of}
-use Rattle.still_law.proofs.Alike.{HeedAlike}
+use Rattle.undone_law.specs.Below.fr_base.declared.name.ObjNo.{ObjNo}
+use Rattle.undone_law.specs.Below.fr_typing.Kinds.{Kind, own, shared, mutable, view, Piece, whole, gone, boxed}
+use Rattle.undone_law.specs.Below.fr_typing.Places.{Slot}
+use Rattle.undone_law.specs.Below.fr_code.CodeTypes.{Entry, Table}
+use Rattle.undone_law.specs.Below.thread_state.View.{ThreadState, is_over}
+use Rattle.undone_law.specs.Below.thread_state.declared.phase.Phase.{Phase}
+use Rattle.undone_law.specs.Below.thread_state.declared.phase.Phase.TheVariants as phase
+use Rattle.undone_law.specs.Below.thread_state.declared.value.Value.{Value}
+use Rattle.undone_law.specs.Below.thread_state.declared.value.Value.TheVariants as value
+use Rattle.undone_law.specs.Below.server_model.Servers.{Cluster}
+use Rattle.undone_law.specs.Below.heap_law.Names.{tot, one, other, if_so, some, same_object, Among}
+use Rattle.undone_law.specs.Below.heap_law.Things.{Thing, stands, things_of}
+use Rattle.undone_law.specs.Below.heap_law.Follow.{Standing, threads_in}
+use Rattle.undone_law.specs.Below.heap_law.Sight.{Sight, sight}
+use Rattle.undone_law.specs.Below.heap_law.Balances.{AtMost, AtMostOne}
+use Rattle.undone_law.specs.Below.heap_law.Weights.{is_thread}
+use Rattle.undone_law.specs.Below.heap_law.Sharing.{got_phase, results, has_ended}
+use Rattle.undone_law.specs.Below.heap_law.OneHeap.{two_in}
+use Rattle.undone_law.specs.Below.type_law.ClusterTypes.{entry_wrong, refers_to, parent_sees, unseen, unseen_slots, unseen_temps, views_wrong}
+use Rattle.undone_law.proofs.Below.event_law.KnownSound.{on_standing, sum_standing}
+use Rattle.undone_law.proofs.Below.still_law.Told.{at_most, tot_same}
+use Rattle.undone_law.proofs.Below.still_law.PlainValues.{shown_of}
+use Rattle.undone_law.proofs.Below.still_law.Alike.{HeedAlike}
 use Rattle.frame_law.proofs.Bare.{bared, all_bared, bared_twice, reversed}
 use Rattle.frame_law.proofs.Twins.{bare_standing, SeesFrames, over_shown, at_entry, same_sum}
 

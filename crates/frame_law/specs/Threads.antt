@@ -1,13 +1,13 @@
 -- WHAT TYPES SAY OF THREADS, and that it stays where no plain step is done (this project's rule).
 use Rattle.std.specs.Prelude.{◌≡◌, None}
-use Rattle.journal.specs.View.{EntryView}
-use Rattle.server_model.specs.declared.event.Event.{Event}
-use Rattle.server_model.specs.Servers.{Cluster}
-use Rattle.server_model.specs.Clusters.{apply}
-use Rattle.heap_law.specs.Sight.{sight}
-use Rattle.type_law.specs.Names.{names_of}
-use Rattle.type_law.specs.ClusterTypes.{Types, IsCoherent, forms_wrong, locked_wrong, leads_wrong, views_wrong, ends_wrong}
-use Rattle.event_law.specs.Laws.{Gives, FewEvents}
+use Rattle.undone_law.specs.Below.journal.View.{EntryView}
+use Rattle.undone_law.specs.Below.server_model.declared.event.Event.{Event}
+use Rattle.undone_law.specs.Below.server_model.Servers.{Cluster}
+use Rattle.undone_law.specs.Below.server_model.Clusters.{apply}
+use Rattle.undone_law.specs.Below.heap_law.Sight.{sight}
+use Rattle.undone_law.specs.Below.type_law.Names.{names_of}
+use Rattle.undone_law.specs.Below.type_law.ClusterTypes.{Types, IsCoherent, forms_wrong, locked_wrong, leads_wrong, views_wrong, ends_wrong}
+use Rattle.undone_law.specs.Below.event_law.Laws.{Gives, FewEvents}
 
 -- what the types of a cluster say of threads is true of another one
 pub record TypesThreads (k : Cluster) (c : Types k) (z : Cluster) : Type 0 where

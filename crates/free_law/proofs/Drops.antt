@@ -1,49 +1,49 @@
 -- A `drop` at its server: the object leaves its address, and what it owned is dropped, beside all else.
 use Rattle.std.proofs.Common.{◌≡◌, ◌≤◌, ℕ, zero, suc, ◌+◌, nat_lt, Bool, true, false, if◌then◌else◌, List, [], ◌∷◌, ◌++◌, Option, Some, None, option_map, refl, sym, ap, subst, arith}
 use Rattle.std.specs.Prelude.{slice_get, slice_set, length, take, drop as drop_first}
-use Rattle.fr_base.specs.declared.instruction.Instr.{Instr}
-use Rattle.fr_base.specs.declared.name.ObjNo.{ObjNo}
-use Rattle.global_addr.specs.Words.{address_of, colour_of}
-use Rattle.heap_partition.specs.declared.value.Cell.{Cell}
-use Rattle.owner_box.specs.View.{PartitionState}
-use Rattle.owner_box.specs.Partition.{freed}
-use Rattle.journal.specs.View.{EntryView}
-use Rattle.journal.specs.declared.act.Act.TheVariants as act
-use Rattle.server_msgs.specs.declared.message.Message.{Message}
-use Rattle.server_msgs.specs.declared.message.Message.TheVariants as message
-use Rattle.server_model.specs.declared.event.Event.{Event}
-use Rattle.server_model.specs.declared.event.What.TheVariants.{Deliver}
-use Rattle.server_model.specs.Servers.{Rest, Server, Cluster, server_at}
-use Rattle.server_model.specs.Work.{Work, Site, look, look_object, receive, then_some, note, with_partition}
-use Rattle.server_model.specs.Drop.{give_up}
-use Rattle.server_model.specs.Events.{enabled, does, left_by, received, deliver, deliver_message}
-use Rattle.server_model.specs.Clusters.{with_server, hand_over_newer, done_at, apply}
-use Rattle.heap_law.specs.Names.{Among, tot, one, same_object}
-use Rattle.heap_law.specs.Things.{Thing, holds, in_hand, lies, vacant, retired, sent, things_at, copy_things, mutex_things, task_things, message_things, leaving_things, waiting_things, cell_things, server_things, servers_things, things_of}
-use Rattle.heap_law.specs.Coherent.{IsSound}
-use Rattle.heap_law.specs.Weights.{cells, drops}
-use Rattle.heap_law.proofs.Sums.{server_parts}
-use Rattle.heap_law.proofs.Words.{itself as same_itself, named}
-use Rattle.type_law.specs.ClusterTypes.{IsCoherent}
-use Rattle.word_law.specs.Reworded.{HasPlaces}
-use Rattle.word_law.specs.Unmoved.{LeavesWords}
-use Rattle.event_law.specs.Laws.{Gives, GoTo, FewEvents}
-use Rattle.event_law.proofs.Results.{over_gives, test_gives, both_give}
-use Rattle.event_law.proofs.Bags.{all_standing, body_things}
-use Rattle.event_law.proofs.Cells.{left_by as place_left, looked, frees}
-use Rattle.event_law.proofs.Events.{tot-server}
-use Rattle.event_law.proofs.MutexResults.{has}
-use Rattle.event_law.proofs.ObjectMessages.{looked_object}
-use Rattle.event_law.proofs.Applied.{go_with}
-use Rattle.event_law.proofs.Sending.{applied_part, each_event_sends}
-use Rattle.event_law.proofs.Trades.{tot-remove}
-use Rattle.read_law.proofs.Flights.{truly}
+use Rattle.result_law.specs.Below.fr_base.declared.instruction.Instr.{Instr}
+use Rattle.result_law.specs.Below.fr_base.declared.name.ObjNo.{ObjNo}
+use Rattle.result_law.specs.Below.global_addr.Words.{address_of, colour_of}
+use Rattle.result_law.specs.Below.heap_partition.declared.value.Cell.{Cell}
+use Rattle.result_law.specs.Below.owner_box.View.{PartitionState}
+use Rattle.result_law.specs.Below.owner_box.Partition.{freed}
+use Rattle.result_law.specs.Below.journal.View.{EntryView}
+use Rattle.result_law.specs.Below.journal.declared.act.Act.TheVariants as act
+use Rattle.result_law.specs.Below.server_msgs.declared.message.Message.{Message}
+use Rattle.result_law.specs.Below.server_msgs.declared.message.Message.TheVariants as message
+use Rattle.result_law.specs.Below.server_model.declared.event.Event.{Event}
+use Rattle.result_law.specs.Below.server_model.declared.event.What.TheVariants.{Deliver}
+use Rattle.result_law.specs.Below.server_model.Servers.{Rest, Server, Cluster, server_at}
+use Rattle.result_law.specs.Below.server_model.Work.{Work, Site, look, look_object, receive, then_some, note, with_partition}
+use Rattle.result_law.specs.Below.server_model.Drop.{give_up}
+use Rattle.result_law.specs.Below.server_model.Events.{enabled, does, left_by, received, deliver, deliver_message}
+use Rattle.result_law.specs.Below.server_model.Clusters.{with_server, hand_over_newer, done_at, apply}
+use Rattle.result_law.specs.Below.heap_law.Names.{Among, tot, one, same_object}
+use Rattle.result_law.specs.Below.heap_law.Things.{Thing, holds, in_hand, lies, vacant, retired, sent, things_at, copy_things, mutex_things, task_things, message_things, leaving_things, waiting_things, cell_things, server_things, servers_things, things_of}
+use Rattle.result_law.specs.Below.heap_law.Coherent.{IsSound}
+use Rattle.result_law.specs.Below.heap_law.Weights.{cells, drops}
+use Rattle.result_law.proofs.Below.heap_law.Sums.{server_parts}
+use Rattle.result_law.proofs.Below.heap_law.Words.{itself as same_itself, named}
+use Rattle.result_law.specs.Below.type_law.ClusterTypes.{IsCoherent}
+use Rattle.made_law.specs.Below.word_law.Reworded.{HasPlaces}
+use Rattle.made_law.specs.Below.word_law.Unmoved.{LeavesWords}
+use Rattle.result_law.specs.Below.event_law.Laws.{Gives, GoTo, FewEvents}
+use Rattle.result_law.proofs.Below.event_law.Results.{over_gives, test_gives, both_give}
+use Rattle.result_law.proofs.Below.event_law.Bags.{all_standing, body_things}
+use Rattle.result_law.proofs.Below.event_law.Cells.{left_by as place_left, looked, frees}
+use Rattle.result_law.proofs.Below.event_law.Events.{tot-server}
+use Rattle.result_law.proofs.Below.event_law.MutexResults.{has}
+use Rattle.result_law.proofs.Below.event_law.ObjectMessages.{looked_object}
+use Rattle.result_law.proofs.Below.event_law.Applied.{go_with}
+use Rattle.result_law.proofs.Below.event_law.Sending.{applied_part, each_event_sends}
+use Rattle.result_law.proofs.Below.event_law.Trades.{tot-remove}
+use Rattle.made_law.proofs.Below.read_law.Flights.{truly}
 use Rattle.result_law.proofs.Flights.{weighs}
 use Rattle.still_law.proofs.Addresses.{in_place, lies_alone}
 use Rattle.still_law.proofs.Leaving.{others, placed_here}
-use Rattle.stay_law.proofs.Alike.{Alike, itself, turned, chain, beside, in_front, goes}
-use Rattle.stay_law.proofs.Servers.{held, server_body, receives, given_up}
-use Rattle.stay_law.proofs.Sites.{ends_alike, servers_alike, replaced, handed_over}
+use Rattle.made_law.proofs.Below.stay_law.Alike.{Alike, itself, turned, chain, beside, in_front, goes}
+use Rattle.made_law.proofs.Below.stay_law.Servers.{held, server_body, receives, given_up}
+use Rattle.made_law.proofs.Below.stay_law.Sites.{ends_alike, servers_alike, replaced, handed_over}
 use Rattle.made_law.proofs.Below.carry_law.Hands.{rooted}
 use Rattle.made_law.proofs.Below.carry_law.Leaving.{one_cell, all_cells, none_blank, free_blank}
 use Rattle.free_law.specs.Drops.{DropsLeave}

@@ -1,30 +1,30 @@
 -- Where an object goes to which no place leads, the words of others stay.
 use Rattle.std.proofs.Common.{◌≡◌, ◌⊎◌, inl, inr, ⊎_elim, ℕ, true, List, [], Option, Some, None, refl, sym, ap, subst, ◌∙◌}
-use Rattle.fr_base.specs.declared.name.ObjNo.{ObjNo}
-use Rattle.heap_partition.specs.declared.value.Cell.{Cell}
-use Rattle.mut_borrow.specs.declared.mutable.MutRef.{MutRef}
-use Rattle.server_model.specs.Servers.{Cluster}
-use Rattle.thread_state.specs.declared.value.Value.TheVariants as value
-use Rattle.heap_law.specs.Names.{Among, other}
-use Rattle.heap_law.specs.Things.{Location, in_cell, lies, things_of}
-use Rattle.heap_law.specs.Follow.{Ground, cell_of, value_of, value_in, value_behind}
-use Rattle.heap_law.specs.Stale.{is_among, Reference, references, holder_of, is_held_at, with_place, lent_places, changed_above, stale_above, taken_above}
-use Rattle.heap_law.specs.Sight.{Pointer, pointers_in, taken_object, taken_pointers, sight}
-use Rattle.heap_law.specs.Placing.{is_first, other_first, standing_in, standing_pointers}
-use Rattle.heap_law.specs.Coherent.{Holds, first_at_holder}
-use Rattle.heap_law.specs.Words.{all_pointers, IsStale, Fresh, HasWords, LeadsTo}
-use Rattle.heap_law.specs.Dirty.{DirtyAlone, PastWords}
-use Rattle.heap_law.proofs.Bags.{among_split}
-use Rattle.heap_law.proofs.Words.{none_at, none_all}
-use Rattle.path_law.proofs.Origins.{among_first, among_second}
-use Rattle.path_law.proofs.Contained.{reference_there}
-use Rattle.path_law.proofs.FreshPaths.{held_at}
-use Rattle.path_law.proofs.Sole.{some_is}
-use Rattle.word_law.specs.Reworded.{HasPlaces}
-use Rattle.word_law.specs.Unmoved.{seen_at, takings, WordsStay}
-use Rattle.word_law.proofs.Standing.{tells, told, told_standing, stands_in, borrow_stands}
-use Rattle.word_law.proofs.Takings.{reference_at, seen_pointer_at, first_at, lent_by, taken_by, lents_are, takens_are, lent_listed, lent_told, taken_listed, taken_told}
-use Rattle.word_law.proofs.Grounds.{of_borrows, same_place}
+use Rattle.result_law.specs.Below.fr_base.declared.name.ObjNo.{ObjNo}
+use Rattle.result_law.specs.Below.heap_partition.declared.value.Cell.{Cell}
+use Rattle.result_law.specs.Below.mut_borrow.declared.mutable.MutRef.{MutRef}
+use Rattle.result_law.specs.Below.server_model.Servers.{Cluster}
+use Rattle.result_law.specs.Below.thread_state.declared.value.Value.TheVariants as value
+use Rattle.result_law.specs.Below.heap_law.Names.{Among, other}
+use Rattle.result_law.specs.Below.heap_law.Things.{Location, in_cell, lies, things_of}
+use Rattle.result_law.specs.Below.heap_law.Follow.{Ground, cell_of, value_of, value_in, value_behind}
+use Rattle.result_law.specs.Below.heap_law.Stale.{is_among, Reference, references, holder_of, is_held_at, with_place, lent_places, changed_above, stale_above, taken_above}
+use Rattle.result_law.specs.Below.heap_law.Sight.{Pointer, pointers_in, taken_object, taken_pointers, sight}
+use Rattle.result_law.specs.Below.heap_law.Placing.{is_first, other_first, standing_in, standing_pointers}
+use Rattle.result_law.specs.Below.heap_law.Coherent.{Holds, first_at_holder}
+use Rattle.result_law.specs.Below.heap_law.Words.{all_pointers, IsStale, Fresh, HasWords, LeadsTo}
+use Rattle.result_law.specs.Below.heap_law.Dirty.{DirtyAlone, PastWords}
+use Rattle.result_law.proofs.Below.heap_law.Bags.{among_split}
+use Rattle.result_law.proofs.Below.heap_law.Words.{none_at, none_all}
+use Rattle.result_law.proofs.Below.path_law.Origins.{among_first, among_second}
+use Rattle.result_law.proofs.Below.path_law.Contained.{reference_there}
+use Rattle.result_law.proofs.Below.path_law.FreshPaths.{held_at}
+use Rattle.result_law.proofs.Below.path_law.Sole.{some_is}
+use Rattle.made_law.specs.Below.word_law.Reworded.{HasPlaces}
+use Rattle.made_law.specs.Below.word_law.Unmoved.{seen_at, takings, WordsStay}
+use Rattle.made_law.proofs.Below.word_law.Standing.{tells, told, told_standing, stands_in, borrow_stands}
+use Rattle.made_law.proofs.Below.word_law.Takings.{reference_at, seen_pointer_at, first_at, lent_by, taken_by, lents_are, takens_are, lent_listed, lent_told, taken_listed, taken_told}
+use Rattle.made_law.proofs.Below.word_law.Grounds.{of_borrows, same_place}
 use Rattle.made_law.proofs.Below.carry_law.Carrying.{held_somewhere, lent_there}
 use Rattle.free_law.specs.Freed.{Freed, FreedLeaves}
 

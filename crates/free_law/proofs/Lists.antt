@@ -1,28 +1,28 @@
 -- Of two clusters words see the same, but that an object lies in the first one whose `drop` is there, and that what it owned is at no place in the second one.
 use Rattle.std.proofs.Common.{◌≡◌, ◌⊎◌, inl, inr, ⊎_elim, ℕ, zero, suc, Bool, List, ◌∷◌, Option, Some, None, refl, sym, ap, subst, ◌∙◌}
-use Rattle.fr_base.specs.declared.name.ObjNo.{ObjNo}
-use Rattle.heap_partition.specs.declared.value.Cell.{Cell}
-use Rattle.mut_borrow.specs.declared.mutable.MutRef.{MutRef}
-use Rattle.server_model.specs.Servers.{Cluster}
-use Rattle.server_msgs.specs.declared.message.Message.TheVariants.{Drop}
-use Rattle.thread_state.specs.View.{ThreadState}
-use Rattle.thread_state.specs.declared.value.Value.TheVariants as value
-use Rattle.heap_law.specs.Names.{Among, tot}
-use Rattle.heap_law.specs.Things.{Location, at_slot, at_temp, in_cell, in_hand, Thing, holds, lies, flies, sent, stands, things_of}
-use Rattle.heap_law.specs.Follow.{Ground, cells_in, cell_of, value_of, value_in, value_behind, leads, locate}
-use Rattle.heap_law.specs.Stale.{holder_of, one_star_less}
-use Rattle.heap_law.specs.Sight.{Pointer, pointer_in, pointers_in, sight}
-use Rattle.heap_law.specs.Placing.{standing_in}
-use Rattle.heap_law.specs.Weights.{cells}
-use Rattle.heap_law.proofs.Bags.{among_split}
-use Rattle.heap_law.proofs.Words.{none_at}
-use Rattle.path_law.proofs.Sole.{some_is}
-use Rattle.word_law.specs.Reworded.{HasPlaces, LiesThere}
-use Rattle.word_law.specs.Unmoved.{seen_at, takings}
-use Rattle.word_law.proofs.Standing.{CellOf, lying, flying, cell_among, cell_found, pointers_among, standing_among, pointer_at, tells, stands_in}
-use Rattle.word_law.proofs.Loose.{box_nowhere}
-use Rattle.word_law.proofs.Takings.{leads_pointing}
-use Rattle.stay_law.proofs.Alike.{shows_turn, StandsIn, Within, Alike, standing_turn}
+use Rattle.result_law.specs.Below.fr_base.declared.name.ObjNo.{ObjNo}
+use Rattle.result_law.specs.Below.heap_partition.declared.value.Cell.{Cell}
+use Rattle.result_law.specs.Below.mut_borrow.declared.mutable.MutRef.{MutRef}
+use Rattle.result_law.specs.Below.server_model.Servers.{Cluster}
+use Rattle.result_law.specs.Below.server_msgs.declared.message.Message.TheVariants.{Drop}
+use Rattle.result_law.specs.Below.thread_state.View.{ThreadState}
+use Rattle.result_law.specs.Below.thread_state.declared.value.Value.TheVariants as value
+use Rattle.result_law.specs.Below.heap_law.Names.{Among, tot}
+use Rattle.result_law.specs.Below.heap_law.Things.{Location, at_slot, at_temp, in_cell, in_hand, Thing, holds, lies, flies, sent, stands, things_of}
+use Rattle.result_law.specs.Below.heap_law.Follow.{Ground, cells_in, cell_of, value_of, value_in, value_behind, leads, locate}
+use Rattle.result_law.specs.Below.heap_law.Stale.{holder_of, one_star_less}
+use Rattle.result_law.specs.Below.heap_law.Sight.{Pointer, pointer_in, pointers_in, sight}
+use Rattle.result_law.specs.Below.heap_law.Placing.{standing_in}
+use Rattle.result_law.specs.Below.heap_law.Weights.{cells}
+use Rattle.result_law.proofs.Below.heap_law.Bags.{among_split}
+use Rattle.result_law.proofs.Below.heap_law.Words.{none_at}
+use Rattle.result_law.proofs.Below.path_law.Sole.{some_is}
+use Rattle.made_law.specs.Below.word_law.Reworded.{HasPlaces, LiesThere}
+use Rattle.made_law.specs.Below.word_law.Unmoved.{seen_at, takings}
+use Rattle.made_law.proofs.Below.word_law.Standing.{CellOf, lying, flying, cell_among, cell_found, pointers_among, standing_among, pointer_at, tells, stands_in}
+use Rattle.made_law.proofs.Below.word_law.Loose.{box_nowhere}
+use Rattle.made_law.proofs.Below.word_law.Takings.{leads_pointing}
+use Rattle.made_law.proofs.Below.stay_law.Alike.{shows_turn, StandsIn, Within, Alike, standing_turn}
 use Rattle.made_law.proofs.Below.carry_law.Far.{loose_within, CellIn, lies_in, flies_in}
 use Rattle.made_law.proofs.Below.carry_law.Hands.{RootedIn}
 use Rattle.made_law.proofs.Below.carry_law.Passing.{move_in, no_temp}

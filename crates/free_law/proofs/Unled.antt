@@ -1,36 +1,36 @@
 -- An object whose `drop` is there has this message as its one owner, so it isn't in the one heap, and nothing leads to it.
 use Rattle.std.proofs.Common.{◌≡◌, ◌⊎◌, inl, inr, ◌≤◌, ℕ, zero, suc, Bool, false, length, Option, Some, None, refl, sym, ap, subst, ◌∙◌, arith}
 use Rattle.std.specs.Prelude.{slice_get}
-use Rattle.fr_base.specs.declared.label.Plain.{Plain}
-use Rattle.fr_base.specs.declared.name.ObjNo.{ObjNo}
-use Rattle.fr_sound.specs.Seen.{seen_cell}
-use Rattle.fr_store.specs.Keys.{Key, slot_k, temp_k}
-use Rattle.fr_store.specs.Store.{Store, Val, at_object, ref_v}
-use Rattle.heap_partition.specs.declared.value.Cell.{Cell}
-use Rattle.heap_partition.specs.declared.value.Owned.{Owned}
-use Rattle.heap_partition.specs.declared.value.Owned.TheVariants as owned
-use Rattle.mut_borrow.specs.declared.mutable.MutRef.{MutRef}
-use Rattle.mut_borrow.specs.declared.shared.SharedRef.{SharedRef}
-use Rattle.thread_state.specs.declared.value.Value.{Value}
-use Rattle.thread_state.specs.declared.value.Value.TheVariants as value
-use Rattle.server_model.specs.Servers.{Cluster}
-use Rattle.server_msgs.specs.declared.message.Message.TheVariants.{Drop}
-use Rattle.heap_law.specs.Names.{Among, tot, one, some, boxes}
-use Rattle.heap_law.specs.Things.{Location, at_slot, at_temp, in_cell, Thing, holds, shares, borrows, lies, flies, sent, things_of}
-use Rattle.heap_law.specs.Follow.{Standing, Ground, cell_of, value_of, value_in, leads}
-use Rattle.heap_law.specs.Sight.{Pointer, pointer_in, location_of, pointers_of, pointers_in, sight}
-use Rattle.heap_law.specs.Weights.{owners}
-use Rattle.heap_law.specs.OneHeap.{object_n, owns, names, if_in, is_in_state, object_value, first_shown, cell_value}
-use Rattle.heap_law.proofs.Words.{itself}
-use Rattle.type_law.specs.ClusterTypes.{IsCoherent}
-use Rattle.path_law.specs.HeapStore.{heap_store, GoesOn, HasPaths}
-use Rattle.path_law.proofs.Alike.{there_of, slot_shared, slot_mut, temp_shared, temp_mut, coherent_has_paths}
-use Rattle.path_law.proofs.InState.{only_one}
-use Rattle.path_law.proofs.Pointers.{Stood, borrowed_at, shared_at}
+use Rattle.result_law.specs.Below.fr_base.declared.label.Plain.{Plain}
+use Rattle.result_law.specs.Below.fr_base.declared.name.ObjNo.{ObjNo}
+use Rattle.result_law.specs.Below.fr_sound.Seen.{seen_cell}
+use Rattle.result_law.specs.Below.fr_store.Keys.{Key, slot_k, temp_k}
+use Rattle.result_law.specs.Below.fr_store.Store.{Store, Val, at_object, ref_v}
+use Rattle.result_law.specs.Below.heap_partition.declared.value.Cell.{Cell}
+use Rattle.result_law.specs.Below.heap_partition.declared.value.Owned.{Owned}
+use Rattle.result_law.specs.Below.heap_partition.declared.value.Owned.TheVariants as owned
+use Rattle.result_law.specs.Below.mut_borrow.declared.mutable.MutRef.{MutRef}
+use Rattle.result_law.specs.Below.mut_borrow.declared.shared.SharedRef.{SharedRef}
+use Rattle.result_law.specs.Below.thread_state.declared.value.Value.{Value}
+use Rattle.result_law.specs.Below.thread_state.declared.value.Value.TheVariants as value
+use Rattle.result_law.specs.Below.server_model.Servers.{Cluster}
+use Rattle.result_law.specs.Below.server_msgs.declared.message.Message.TheVariants.{Drop}
+use Rattle.result_law.specs.Below.heap_law.Names.{Among, tot, one, some, boxes}
+use Rattle.result_law.specs.Below.heap_law.Things.{Location, at_slot, at_temp, in_cell, Thing, holds, shares, borrows, lies, flies, sent, things_of}
+use Rattle.result_law.specs.Below.heap_law.Follow.{Standing, Ground, cell_of, value_of, value_in, leads}
+use Rattle.result_law.specs.Below.heap_law.Sight.{Pointer, pointer_in, location_of, pointers_of, pointers_in, sight}
+use Rattle.result_law.specs.Below.heap_law.Weights.{owners}
+use Rattle.result_law.specs.Below.heap_law.OneHeap.{object_n, owns, names, if_in, is_in_state, object_value, first_shown, cell_value}
+use Rattle.result_law.proofs.Below.heap_law.Words.{itself}
+use Rattle.result_law.specs.Below.type_law.ClusterTypes.{IsCoherent}
+use Rattle.result_law.specs.Below.path_law.HeapStore.{heap_store, GoesOn, HasPaths}
+use Rattle.result_law.proofs.Below.path_law.Alike.{there_of, slot_shared, slot_mut, temp_shared, temp_mut, coherent_has_paths}
+use Rattle.result_law.proofs.Below.path_law.InState.{only_one}
+use Rattle.result_law.proofs.Below.path_law.Pointers.{Stood, borrowed_at, shared_at}
 use Rattle.result_law.proofs.Flights.{weighs}
 use Rattle.still_law.specs.Shows.{is_named}
 use Rattle.still_law.proofs.Counting.{unnamed_out}
-use Rattle.word_law.proofs.Standing.{of_thing, told, slot_among, temp_among}
+use Rattle.made_law.proofs.Below.word_law.Standing.{of_thing, told, slot_among, temp_among}
 use Rattle.free_law.proofs.Lists.{NoneLeads}
 
 module _ (k : Cluster) (coherent : IsCoherent k) (o : ObjNo) (n w : ℕ) (there : Among (sent n (Drop w o)) (things_of k)) where

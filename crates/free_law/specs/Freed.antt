@@ -1,19 +1,19 @@
 -- AN OBJECT GOES (this project's rule): its cell lies nowhere any more, and what it owned points from no place now. No place led to it.
 use Rattle.std.specs.Prelude.{◌≡◌, ◌⊎◌, ℕ, Some, None}
-use Rattle.fr_base.specs.declared.name.ObjNo.{ObjNo}
-use Rattle.heap_partition.specs.declared.value.Cell.{Cell}
-use Rattle.mut_borrow.specs.declared.mutable.MutRef.{MutRef}
-use Rattle.thread_state.specs.declared.value.Value.TheVariants as value
-use Rattle.server_model.specs.Servers.{Cluster}
-use Rattle.heap_law.specs.Names.{Among}
-use Rattle.heap_law.specs.Things.{Location, in_cell, lies, things_of}
-use Rattle.heap_law.specs.Follow.{value_in, place_at}
-use Rattle.heap_law.specs.Stale.{holder_of, one_star_less}
-use Rattle.heap_law.specs.Sight.{Pointer, pointers_in, sight}
-use Rattle.heap_law.specs.Placing.{standing_in}
-use Rattle.heap_law.specs.Coherent.{Holds, first_at_holder}
-use Rattle.word_law.specs.Reworded.{HasPlaces, LiesThere}
-use Rattle.word_law.specs.Unmoved.{seen_at, Taking, takings, LeavesWords}
+use Rattle.result_law.specs.Below.fr_base.declared.name.ObjNo.{ObjNo}
+use Rattle.result_law.specs.Below.heap_partition.declared.value.Cell.{Cell}
+use Rattle.result_law.specs.Below.mut_borrow.declared.mutable.MutRef.{MutRef}
+use Rattle.result_law.specs.Below.thread_state.declared.value.Value.TheVariants as value
+use Rattle.result_law.specs.Below.server_model.Servers.{Cluster}
+use Rattle.result_law.specs.Below.heap_law.Names.{Among}
+use Rattle.result_law.specs.Below.heap_law.Things.{Location, in_cell, lies, things_of}
+use Rattle.result_law.specs.Below.heap_law.Follow.{value_in, place_at}
+use Rattle.result_law.specs.Below.heap_law.Stale.{holder_of, one_star_less}
+use Rattle.result_law.specs.Below.heap_law.Sight.{Pointer, pointers_in, sight}
+use Rattle.result_law.specs.Below.heap_law.Placing.{standing_in}
+use Rattle.result_law.specs.Below.heap_law.Coherent.{Holds, first_at_holder}
+use Rattle.made_law.specs.Below.word_law.Reworded.{HasPlaces, LiesThere}
+use Rattle.made_law.specs.Below.word_law.Unmoved.{seen_at, Taking, takings, LeavesWords}
 
 pub record Freed (k z : Cluster) (o : ObjNo) : Type 0 where
   -- elsewhere words see the same, and no cell is there

@@ -2,61 +2,61 @@
 use Rattle.std.proofs.Common.{◌≡◌, inl, inr, ◌≤◌, ◌<◌, ℕ, zero, suc, ◌*◌, ◌+◌, ◌-◌, ◌==◌, ◌&&◌, not, Bool, true, false, if◌then◌else◌, List, [], ◌∷◌, Option, Some, None, is_some, refl, sym, ap, ap₂, subst, ◌∙◌, arith}
 use Rattle.std.proofs.lemmas.Bool.{eqb-true, eq-eqb}
 use Rattle.std.specs.Prelude.{slice_get}
-use Rattle.fr_base.specs.declared.name.ObjNo.{ObjNo}
-use Rattle.fr_base.specs.declared.place.Lval.{Lval}
-use Rattle.fr_base.specs.declared.instruction.Instr.{Instr}
-use Rattle.fr_base.specs.declared.instruction.Instr.TheVariants as instr
-use Rattle.fr_store.specs.Keys.{slot_k}
-use Rattle.fr_store.specs.Store.{at_key, at_object, Store, walk, below_key}
-use Rattle.fr_store.specs.Typed.{KeyTypes}
-use Rattle.fr_store.proofs.Sound.{sound as sound_path}
-use Rattle.global_addr.specs.Words.{server_of, address_of}
-use Rattle.heap_partition.specs.Same.{same_cell}
-use Rattle.heap_partition.specs.declared.value.BoxPtr.{BoxPtr}
-use Rattle.heap_partition.specs.declared.value.Cell.{Cell}
-use Rattle.heap_partition.specs.declared.value.Owned.TheVariants as owned
-use Rattle.thread_state.specs.View.{ThreadState, is_over}
-use Rattle.thread_state.specs.declared.value.Value.{Value}
-use Rattle.thread_state.specs.declared.value.Value.TheVariants as value
-use Rattle.thread_state.specs.declared.phase.Phase.{Phase}
-use Rattle.thread_state.specs.declared.phase.Phase.TheVariants as phase
-use Rattle.server_msgs.specs.declared.message.Message.{Message}
-use Rattle.server_msgs.specs.declared.message.Message.TheVariants as message
-use Rattle.server_model.specs.Servers.{Cluster}
-use Rattle.server_model.specs.Places.{pointer_of}
-use Rattle.heap_law.specs.Names.{tot, one, some, other, if_so, same_object, Among}
-use Rattle.heap_law.specs.Things.{Location, in_cell, Thing, lies, sent, things_of}
-use Rattle.heap_law.specs.Follow.{Standing, Ground, thread_at, cells_in, value_in, value_behind, leads, locate}
-use Rattle.heap_law.specs.Sight.{is_word, sight, word}
-use Rattle.heap_law.specs.Weights.{lies_under}
-use Rattle.heap_law.specs.Placing.{sum_over, other_cell, clean_cell, other_copy, unclean}
-use Rattle.heap_law.specs.Paths.{Path, reads, shares, lends, path_of, taking, assigning, ending, Awaited, to_read, to_write, to_clean, is_spent}
-use Rattle.heap_law.specs.Walking.{path, instr_of, asked_for, asks_for}
-use Rattle.heap_law.specs.Requests.{halves, halves_to, message_answer, is_cell, in_phase, phase_fits, carries, not_there}
-use Rattle.heap_law.specs.Turn.{IsAsked, AwaitsAt, read_at, before_share, at_share, before_lend, at_lend, InTurn, by_read, by_share, by_lend, by_write, by_end, by_holder}
-use Rattle.heap_law.specs.Coherent.{IsSound}
-use Rattle.heap_law.proofs.Names.{and_left, and_right}
-use Rattle.heap_law.proofs.Words.{named, none_at, none_all}
-use Rattle.heap_law.proofs.Passing.{paths_law}
-use Rattle.event_law.proofs.Askers.{other_none}
-use Rattle.path_law.specs.HeapStore.{heap_store, GoesOn, HasPaths}
-use Rattle.path_law.proofs.Alike.{leads_in_heap}
-use Rattle.path_law.proofs.Circles.{shorter}
-use Rattle.path_law.proofs.Contained.{among_thread}
-use Rattle.path_law.proofs.Shown.{stands_there}
-use Rattle.path_law.proofs.Sole.{some_is}
-use Rattle.word_law.proofs.Standing.{lying}
-use Rattle.local_law.proofs.Messages.{on_sent}
-use Rattle.read_law.specs.Reading.{Reads, copies, dups, locks, shares as shares_it, lends as lends_it, MayRead}
-use Rattle.read_law.proofs.ReadPlaces.{may_read_so}
-use Rattle.read_law.proofs.Flights.{truly}
-use Rattle.end_law.proofs.ReadPaths.{reads_of, shares_of, read_pointer}
-use Rattle.result_law.proofs.Alone.{needed_less}
-use Rattle.result_law.proofs.Flights.{weighs}
-use Rattle.result_law.proofs.Made.{OwnedBy}
-use Rattle.result_law.proofs.Near.{base_mine, one_reaches}
-use Rattle.result_law.proofs.Pointing.{same_cells}
-use Rattle.copy_law.proofs.Clean.{thing_cell, found_by, told, one_of_word}
+use Rattle.clean_law.specs.Below.fr_base.declared.name.ObjNo.{ObjNo}
+use Rattle.clean_law.specs.Below.fr_base.declared.place.Lval.{Lval}
+use Rattle.clean_law.specs.Below.fr_base.declared.instruction.Instr.{Instr}
+use Rattle.clean_law.specs.Below.fr_base.declared.instruction.Instr.TheVariants as instr
+use Rattle.clean_law.specs.Below.fr_store.Keys.{slot_k}
+use Rattle.clean_law.specs.Below.fr_store.Store.{at_key, at_object, Store, walk, below_key}
+use Rattle.clean_law.specs.Below.fr_store.Typed.{KeyTypes}
+use Rattle.clean_law.proofs.Below.fr_store.Sound.{sound as sound_path}
+use Rattle.clean_law.specs.Below.global_addr.Words.{server_of, address_of}
+use Rattle.clean_law.specs.Below.heap_partition.Same.{same_cell}
+use Rattle.clean_law.specs.Below.heap_partition.declared.value.BoxPtr.{BoxPtr}
+use Rattle.clean_law.specs.Below.heap_partition.declared.value.Cell.{Cell}
+use Rattle.clean_law.specs.Below.heap_partition.declared.value.Owned.TheVariants as owned
+use Rattle.clean_law.specs.Below.thread_state.View.{ThreadState, is_over}
+use Rattle.clean_law.specs.Below.thread_state.declared.value.Value.{Value}
+use Rattle.clean_law.specs.Below.thread_state.declared.value.Value.TheVariants as value
+use Rattle.clean_law.specs.Below.thread_state.declared.phase.Phase.{Phase}
+use Rattle.clean_law.specs.Below.thread_state.declared.phase.Phase.TheVariants as phase
+use Rattle.clean_law.specs.Below.server_msgs.declared.message.Message.{Message}
+use Rattle.clean_law.specs.Below.server_msgs.declared.message.Message.TheVariants as message
+use Rattle.clean_law.specs.Below.server_model.Servers.{Cluster}
+use Rattle.clean_law.specs.Below.server_model.Places.{pointer_of}
+use Rattle.clean_law.specs.Below.heap_law.Names.{tot, one, some, other, if_so, same_object, Among}
+use Rattle.clean_law.specs.Below.heap_law.Things.{Location, in_cell, Thing, lies, sent, things_of}
+use Rattle.clean_law.specs.Below.heap_law.Follow.{Standing, Ground, thread_at, cells_in, value_in, value_behind, leads, locate}
+use Rattle.clean_law.specs.Below.heap_law.Sight.{is_word, sight, word}
+use Rattle.clean_law.specs.Below.heap_law.Weights.{lies_under}
+use Rattle.clean_law.specs.Below.heap_law.Placing.{sum_over, other_cell, clean_cell, other_copy, unclean}
+use Rattle.clean_law.specs.Below.heap_law.Paths.{Path, reads, shares, lends, path_of, taking, assigning, ending, Awaited, to_read, to_write, to_clean, is_spent}
+use Rattle.clean_law.specs.Below.heap_law.Walking.{path, instr_of, asked_for, asks_for}
+use Rattle.clean_law.specs.Below.heap_law.Requests.{halves, halves_to, message_answer, is_cell, in_phase, phase_fits, carries, not_there}
+use Rattle.clean_law.specs.Below.heap_law.Turn.{IsAsked, AwaitsAt, read_at, before_share, at_share, before_lend, at_lend, InTurn, by_read, by_share, by_lend, by_write, by_end, by_holder}
+use Rattle.clean_law.specs.Below.heap_law.Coherent.{IsSound}
+use Rattle.clean_law.proofs.Below.heap_law.Names.{and_left, and_right}
+use Rattle.clean_law.proofs.Below.heap_law.Words.{named, none_at, none_all}
+use Rattle.clean_law.proofs.Below.heap_law.Passing.{paths_law}
+use Rattle.clean_law.proofs.Below.event_law.Askers.{other_none}
+use Rattle.clean_law.specs.Below.path_law.HeapStore.{heap_store, GoesOn, HasPaths}
+use Rattle.clean_law.proofs.Below.path_law.Alike.{leads_in_heap}
+use Rattle.clean_law.proofs.Below.path_law.Circles.{shorter}
+use Rattle.clean_law.proofs.Below.path_law.Contained.{among_thread}
+use Rattle.clean_law.proofs.Below.path_law.Shown.{stands_there}
+use Rattle.clean_law.proofs.Below.path_law.Sole.{some_is}
+use Rattle.borrow_law.proofs.Below.word_law.Standing.{lying}
+use Rattle.borrow_law.proofs.Below.local_law.Messages.{on_sent}
+use Rattle.borrow_law.specs.Below.read_law.Reading.{Reads, copies, dups, locks, shares as shares_it, lends as lends_it, MayRead}
+use Rattle.borrow_law.proofs.Below.read_law.ReadPlaces.{may_read_so}
+use Rattle.borrow_law.proofs.Below.read_law.Flights.{truly}
+use Rattle.borrow_law.proofs.Below.end_law.ReadPaths.{reads_of, shares_of, read_pointer}
+use Rattle.clean_law.proofs.Below.result_law.Alone.{needed_less}
+use Rattle.clean_law.proofs.Below.result_law.Flights.{weighs}
+use Rattle.clean_law.proofs.Below.result_law.Made.{OwnedBy}
+use Rattle.clean_law.proofs.Below.result_law.Near.{base_mine, one_reaches}
+use Rattle.clean_law.proofs.Below.result_law.Pointing.{same_cells}
+use Rattle.clean_law.proofs.Below.copy_law.Clean.{thing_cell, found_by, told, one_of_word}
 use Rattle.clean_law.proofs.Asked.{asking}
 use Rattle.clean_law.proofs.Worded.{clean_told}
 use Rattle.fresh_law.proofs.Turned.{Unasked}

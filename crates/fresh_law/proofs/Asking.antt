@@ -1,39 +1,39 @@
 -- What a step asks for that reads the pointers of its place: a copy of what one of them leads to, which gets the next colour first where that is a dirty reference, or its object.
 use Rattle.std.proofs.Common.{◌≡◌, ℕ, true, [], Some, refl, sym, ap, subst, ◌∙◌}
 use Rattle.std.specs.Prelude.{slice_get}
-use Rattle.fr_base.specs.declared.place.Lval.{Lval}
-use Rattle.fr_base.specs.declared.instruction.Instr.{Instr}
-use Rattle.global_addr.specs.Words.{server_of, next_word}
-use Rattle.heap_partition.specs.declared.value.BoxPtr.{BoxPtr}
-use Rattle.mut_borrow.specs.declared.mutable.MutRef.{MutRef}
-use Rattle.journal.specs.declared.act.Act.TheVariants as act
-use Rattle.thread_state.specs.View.{ThreadState}
-use Rattle.thread_state.specs.declared.phase.Phase.TheVariants as phase
-use Rattle.thread_state.specs.declared.value.Value.TheVariants as value
-use Rattle.server_msgs.specs.declared.message.Message.TheVariants as message
-use Rattle.server_model.specs.declared.event.What.TheVariants.{Step}
-use Rattle.server_model.specs.Servers.{Server, Cluster, server_at}
-use Rattle.server_model.specs.Work.{Hand, thread_in}
-use Rattle.server_model.specs.Prepare.{box_of, ask_copy, ask_object}
-use Rattle.server_model.specs.Events.{can_step, has_phase, enabled, wait_step}
-use Rattle.heap_law.specs.Things.{at_slot}
-use Rattle.heap_law.specs.Follow.{Standing, locate}
-use Rattle.heap_law.specs.Sight.{sight}
-use Rattle.heap_law.specs.Words.{IsStale}
-use Rattle.type_law.specs.ClusterTypes.{IsCoherent}
-use Rattle.event_law.specs.Laws.{FewEvents}
-use Rattle.local_law.proofs.Mail.{Mailed, mail_sent}
-use Rattle.local_law.proofs.Messages.{Light}
-use Rattle.read_law.specs.Reading.{Reads, LiesUnder}
-use Rattle.read_law.proofs.FreshReads.{read_are_fresh}
-use Rattle.read_law.proofs.Homes.{read_lie_there}
-use Rattle.result_law.proofs.Known.{Steps, standing, paths, goes}
-use Rattle.stay_law.proofs.Sites.{HandAlike}
-use Rattle.stay_law.proofs.Steps.{TakesNoneHere}
-use Rattle.prepare_law.proofs.Hands.{Walks, calm_waits}
-use Rattle.carry_law.proofs.Hands.{places, each_together, puts_alike}
-use Rattle.word_law.proofs.Tints.{SlotPut}
-use Rattle.copy_law.proofs.Clean.{Leaves, all_goes}
+use Rattle.clean_law.specs.Below.fr_base.declared.place.Lval.{Lval}
+use Rattle.clean_law.specs.Below.fr_base.declared.instruction.Instr.{Instr}
+use Rattle.clean_law.specs.Below.global_addr.Words.{server_of, next_word}
+use Rattle.clean_law.specs.Below.heap_partition.declared.value.BoxPtr.{BoxPtr}
+use Rattle.clean_law.specs.Below.mut_borrow.declared.mutable.MutRef.{MutRef}
+use Rattle.clean_law.specs.Below.journal.declared.act.Act.TheVariants as act
+use Rattle.clean_law.specs.Below.thread_state.View.{ThreadState}
+use Rattle.clean_law.specs.Below.thread_state.declared.phase.Phase.TheVariants as phase
+use Rattle.clean_law.specs.Below.thread_state.declared.value.Value.TheVariants as value
+use Rattle.clean_law.specs.Below.server_msgs.declared.message.Message.TheVariants as message
+use Rattle.clean_law.specs.Below.server_model.declared.event.What.TheVariants.{Step}
+use Rattle.clean_law.specs.Below.server_model.Servers.{Server, Cluster, server_at}
+use Rattle.clean_law.specs.Below.server_model.Work.{Hand, thread_in}
+use Rattle.clean_law.specs.Below.server_model.Prepare.{box_of, ask_copy, ask_object}
+use Rattle.clean_law.specs.Below.server_model.Events.{can_step, has_phase, enabled, wait_step}
+use Rattle.clean_law.specs.Below.heap_law.Things.{at_slot}
+use Rattle.clean_law.specs.Below.heap_law.Follow.{Standing, locate}
+use Rattle.clean_law.specs.Below.heap_law.Sight.{sight}
+use Rattle.clean_law.specs.Below.heap_law.Words.{IsStale}
+use Rattle.clean_law.specs.Below.type_law.ClusterTypes.{IsCoherent}
+use Rattle.clean_law.specs.Below.event_law.Laws.{FewEvents}
+use Rattle.borrow_law.proofs.Below.local_law.Mail.{Mailed, mail_sent}
+use Rattle.borrow_law.proofs.Below.local_law.Messages.{Light}
+use Rattle.borrow_law.specs.Below.read_law.Reading.{Reads, LiesUnder}
+use Rattle.borrow_law.proofs.Below.read_law.FreshReads.{read_are_fresh}
+use Rattle.borrow_law.proofs.Below.read_law.Homes.{read_lie_there}
+use Rattle.clean_law.proofs.Below.result_law.Known.{Steps, standing, paths, goes}
+use Rattle.borrow_law.proofs.Below.stay_law.Sites.{HandAlike}
+use Rattle.borrow_law.proofs.Below.stay_law.Steps.{TakesNoneHere}
+use Rattle.borrow_law.proofs.Below.prepare_law.Hands.{Walks, calm_waits}
+use Rattle.borrow_law.proofs.Below.carry_law.Hands.{places, each_together, puts_alike}
+use Rattle.borrow_law.proofs.Below.word_law.Tints.{SlotPut}
+use Rattle.clean_law.proofs.Below.copy_law.Clean.{Leaves, all_goes}
 use Rattle.clean_law.proofs.Asked.{asking}
 use Rattle.clean_law.proofs.Kept.{has_none}
 use Rattle.clean_law.proofs.CleanReads.{clean_there}

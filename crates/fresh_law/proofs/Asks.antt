@@ -1,21 +1,21 @@
 -- A delivery asks for no copy: each that is asked for afterwards was asked for before.
 use Rattle.std.proofs.Common.{◌≡◌, ℕ, List, [], ◌∷◌, refl, sym, ◌∙◌, arith}
-use Rattle.journal.specs.View.{EntryView}
-use Rattle.heap_partition.specs.declared.value.Cell.{Cell}
-use Rattle.server_msgs.specs.declared.message.Message.{Message}
-use Rattle.server_msgs.specs.declared.message.Message.TheVariants as message
-use Rattle.server_model.specs.declared.event.Event.{Event}
-use Rattle.server_model.specs.declared.event.What.TheVariants.{Step, Deliver}
-use Rattle.server_model.specs.Servers.{Cluster}
-use Rattle.server_model.specs.Clusters.{apply}
-use Rattle.heap_law.specs.Names.{tot}
-use Rattle.heap_law.specs.Things.{Thing, sent, things_of}
-use Rattle.heap_law.specs.Coherent.{IsSound}
-use Rattle.event_law.specs.Laws.{Gives, FewEvents}
-use Rattle.event_law.proofs.Results.{weaker}
-use Rattle.local_law.proofs.Messages.{on_sent}
-use Rattle.value_law.proofs.Sums.{copy_of}
-use Rattle.copy_law.proofs.Comes.{copies_come}
+use Rattle.clean_law.specs.Below.journal.View.{EntryView}
+use Rattle.clean_law.specs.Below.heap_partition.declared.value.Cell.{Cell}
+use Rattle.clean_law.specs.Below.server_msgs.declared.message.Message.{Message}
+use Rattle.clean_law.specs.Below.server_msgs.declared.message.Message.TheVariants as message
+use Rattle.clean_law.specs.Below.server_model.declared.event.Event.{Event}
+use Rattle.clean_law.specs.Below.server_model.declared.event.What.TheVariants.{Step, Deliver}
+use Rattle.clean_law.specs.Below.server_model.Servers.{Cluster}
+use Rattle.clean_law.specs.Below.server_model.Clusters.{apply}
+use Rattle.clean_law.specs.Below.heap_law.Names.{tot}
+use Rattle.clean_law.specs.Below.heap_law.Things.{Thing, sent, things_of}
+use Rattle.clean_law.specs.Below.heap_law.Coherent.{IsSound}
+use Rattle.clean_law.specs.Below.event_law.Laws.{Gives, FewEvents}
+use Rattle.clean_law.proofs.Below.event_law.Results.{weaker}
+use Rattle.borrow_law.proofs.Below.local_law.Messages.{on_sent}
+use Rattle.borrow_law.proofs.Below.value_law.Sums.{copy_of}
+use Rattle.clean_law.proofs.Below.copy_law.Comes.{copies_come}
 use Rattle.clean_law.proofs.Asked.{asking}
 
 abbrev no_copy : ℕ → Cell → ℕ

@@ -1,26 +1,26 @@
 -- Where a cell comes to which no place leads, or goes, changed references stay.
 use Rattle.std.proofs.Common.{◌≡◌, true, [], Option, Some, None, refl, sym, ap, subst, ◌∙◌}
-use Rattle.fr_base.specs.declared.name.ObjNo.{ObjNo}
-use Rattle.mut_borrow.specs.declared.mutable.MutRef.{MutRef}
-use Rattle.server_model.specs.Servers.{Cluster}
-use Rattle.thread_state.specs.declared.value.Value.TheVariants as value
-use Rattle.heap_law.specs.Names.{Among}
-use Rattle.heap_law.specs.Things.{Location, in_cell, things_of}
-use Rattle.heap_law.specs.Follow.{Ground, cell_of, value_of, value_in}
-use Rattle.heap_law.specs.Stale.{is_among, Reference, references, holder_of, with_place, lent_places, one_star_less, changed_above, stale_above, taken_above}
-use Rattle.heap_law.specs.Sight.{sight}
-use Rattle.heap_law.specs.Placing.{other_first}
-use Rattle.heap_law.specs.Coherent.{Holds, first_at_holder}
-use Rattle.heap_law.specs.Words.{IsStale}
-use Rattle.heap_law.proofs.Words.{none_at}
-use Rattle.path_law.proofs.Contained.{reference_there}
-use Rattle.word_law.specs.Reworded.{HasPlaces}
-use Rattle.word_law.specs.Unmoved.{seen_at, Taking, takings}
-use Rattle.word_law.proofs.Standing.{borrow_stands}
-use Rattle.word_law.proofs.Takings.{reference_at, lents_are, lent_listed, lent_told}
-use Rattle.word_law.proofs.Grounds.{of_borrows}
-use Rattle.carry_law.proofs.Carrying.{held_somewhere}
-use Rattle.copy_law.proofs.Clean.{ChangedGo}
+use Rattle.clean_law.specs.Below.fr_base.declared.name.ObjNo.{ObjNo}
+use Rattle.clean_law.specs.Below.mut_borrow.declared.mutable.MutRef.{MutRef}
+use Rattle.clean_law.specs.Below.server_model.Servers.{Cluster}
+use Rattle.clean_law.specs.Below.thread_state.declared.value.Value.TheVariants as value
+use Rattle.clean_law.specs.Below.heap_law.Names.{Among}
+use Rattle.clean_law.specs.Below.heap_law.Things.{Location, in_cell, things_of}
+use Rattle.clean_law.specs.Below.heap_law.Follow.{Ground, cell_of, value_of, value_in}
+use Rattle.clean_law.specs.Below.heap_law.Stale.{is_among, Reference, references, holder_of, with_place, lent_places, one_star_less, changed_above, stale_above, taken_above}
+use Rattle.clean_law.specs.Below.heap_law.Sight.{sight}
+use Rattle.clean_law.specs.Below.heap_law.Placing.{other_first}
+use Rattle.clean_law.specs.Below.heap_law.Coherent.{Holds, first_at_holder}
+use Rattle.clean_law.specs.Below.heap_law.Words.{IsStale}
+use Rattle.clean_law.proofs.Below.heap_law.Words.{none_at}
+use Rattle.clean_law.proofs.Below.path_law.Contained.{reference_there}
+use Rattle.borrow_law.specs.Below.word_law.Reworded.{HasPlaces}
+use Rattle.borrow_law.specs.Below.word_law.Unmoved.{seen_at, Taking, takings}
+use Rattle.borrow_law.proofs.Below.word_law.Standing.{borrow_stands}
+use Rattle.borrow_law.proofs.Below.word_law.Takings.{reference_at, lents_are, lent_listed, lent_told}
+use Rattle.borrow_law.proofs.Below.word_law.Grounds.{of_borrows}
+use Rattle.borrow_law.proofs.Below.carry_law.Carrying.{held_somewhere}
+use Rattle.clean_law.proofs.Below.copy_law.Clean.{ChangedGo}
 
 -- elsewhere words see the same, holders are where they were, and threads have taken from the same places
 pub record SameBeside (k z : Cluster) (o : ObjNo) : Type 0 where
@@ -34,7 +34,7 @@ pub record SameBeside (k z : Cluster) (o : ObjNo) : Type 0 where
 no_cell_reference : (g : Ground) (o : ObjNo) (r : MutRef) → value_in g (in_cell o) ≡ Some (value.Mut r) → ⊥
 no_cell_reference g o r e = by (cell_of g.cells o) e
   where
-    by : (c : Option Rattle.heap_partition.specs.declared.value.Cell.Cell) → value_of c ≡ Some (value.Mut r) → ⊥
+    by : (c : Option Rattle.clean_law.specs.Below.heap_partition.declared.value.Cell.Cell) → value_of c ≡ Some (value.Mut r) → ⊥
     by None f = absurd cc
     by (Some c) f = absurd cc
 

@@ -1,65 +1,65 @@
 -- A hand that makes an object: it has a word that wasn't issued, and all else is what it was.
 use Rattle.std.proofs.Common.{◌≡◌, ◌⊎◌, inl, inr, ⊎_elim, ℕ, ◌+◌, true, false, List, [], ◌∷◌, ◌++◌, Some, None, refl, sym, ap, subst, ◌∙◌, arith}
 use Rattle.std.specs.Prelude.{slice_get, length}
-use Rattle.fr_base.specs.declared.name.ObjNo.{ObjNo}
-use Rattle.heap_partition.specs.declared.value.BoxPtr.{BoxPtr}
-use Rattle.heap_partition.specs.declared.value.Cell.{Cell}
-use Rattle.heap_partition.specs.declared.value.Owned.{Owned}
-use Rattle.heap_partition.specs.declared.value.Owned.TheVariants as owned
-use Rattle.colour_retire.specs.Colours.{picked}
-use Rattle.owner_box.specs.View.{PartitionState}
-use Rattle.owner_box.specs.Partition.{new_word, made}
-use Rattle.thread_state.specs.View.{ThreadState, is_over}
-use Rattle.thread_state.specs.declared.value.Value.{Value}
-use Rattle.thread_state.specs.declared.value.Value.TheVariants as value
-use Rattle.journal.specs.declared.act.Act.TheVariants as act
-use Rattle.server_model.specs.Servers.{Rest, Server, Cluster, server_at}
-use Rattle.server_model.specs.Work.{Hand, last_of, front_of, thread_in, without_thread, put_back, note, with_partition}
-use Rattle.server_model.specs.NewWords.{NewWord, can_grow, issue_placed}
-use Rattle.server_model.specs.Commit.{push_box, make_box}
-use Rattle.heap_law.specs.Names.{Among, tot}
-use Rattle.heap_law.specs.Things.{at_temp, in_hand, Thing, holds, lies, flies, things_at, standing_things, thread_things, things_of}
-use Rattle.heap_law.specs.Follow.{cells_in}
-use Rattle.heap_law.specs.Sight.{issued, sight}
-use Rattle.heap_law.specs.Weights.{cells}
-use Rattle.heap_law.specs.Words.{HasWords}
-use Rattle.heap_law.specs.Coherent.{Holds, first_at_holder, IsSound}
-use Rattle.type_law.specs.ClusterTypes.{IsCoherent}
-use Rattle.event_law.specs.Laws.{Gives, FewEvents}
-use Rattle.event_law.proofs.Trades.{tot-append}
-use Rattle.event_law.proofs.Results.{over_gives, test_gives}
-use Rattle.event_law.proofs.Values.{last_split}
-use Rattle.event_law.proofs.Bags.{all_standing, body_things, rest_things, server_same}
-use Rattle.event_law.proofs.Events.{tot-server}
-use Rattle.word_law.specs.Reworded.{HasPlaces}
-use Rattle.word_law.specs.Unmoved.{pointing, LeavesWords}
-use Rattle.word_law.specs.WordsAfter.{KeepsWords}
-use Rattle.word_law.proofs.Put.{Split, put_split}
-use Rattle.word_law.proofs.Slots.{thread_cells}
-use Rattle.stay_law.proofs.Alike.{Alike, itself, turned, chain, beside, joined, in_front, goes}
-use Rattle.stay_law.proofs.Servers.{held, held_if}
-use Rattle.stay_law.proofs.Threads.{slots_of, temps_of, thread_alike}
-use Rattle.stay_law.proofs.Sites.{ends_alike, replaced}
-use Rattle.stay_law.proofs.Steps.{TakesNoneHere}
-use Rattle.carry_law.specs.Carried.{Carried}
-use Rattle.carry_law.specs.Made.{Made}
-use Rattle.carry_law.proofs.Making.{made_keeps}
-use Rattle.carry_law.proofs.Replaced.{places_on}
-use Rattle.carry_law.proofs.Passing.{slot, temp, nowhere, Passes, is_carried, is_quiet}
-use Rattle.carry_law.proofs.Places.{temp_to_gift, gift_to_temp}
-use Rattle.carry_law.proofs.Hands.{RootedIn, put, with_hand, places, stands_here, h0, its_number, first_ok, before, site_of, first_seen, first_leaves, first_rooted}
+use Rattle.clean_law.specs.Below.fr_base.declared.name.ObjNo.{ObjNo}
+use Rattle.clean_law.specs.Below.heap_partition.declared.value.BoxPtr.{BoxPtr}
+use Rattle.clean_law.specs.Below.heap_partition.declared.value.Cell.{Cell}
+use Rattle.clean_law.specs.Below.heap_partition.declared.value.Owned.{Owned}
+use Rattle.clean_law.specs.Below.heap_partition.declared.value.Owned.TheVariants as owned
+use Rattle.clean_law.specs.Below.colour_retire.Colours.{picked}
+use Rattle.clean_law.specs.Below.owner_box.View.{PartitionState}
+use Rattle.clean_law.specs.Below.owner_box.Partition.{new_word, made}
+use Rattle.clean_law.specs.Below.thread_state.View.{ThreadState, is_over}
+use Rattle.clean_law.specs.Below.thread_state.declared.value.Value.{Value}
+use Rattle.clean_law.specs.Below.thread_state.declared.value.Value.TheVariants as value
+use Rattle.clean_law.specs.Below.journal.declared.act.Act.TheVariants as act
+use Rattle.clean_law.specs.Below.server_model.Servers.{Rest, Server, Cluster, server_at}
+use Rattle.clean_law.specs.Below.server_model.Work.{Hand, last_of, front_of, thread_in, without_thread, put_back, note, with_partition}
+use Rattle.clean_law.specs.Below.server_model.NewWords.{NewWord, can_grow, issue_placed}
+use Rattle.clean_law.specs.Below.server_model.Commit.{push_box, make_box}
+use Rattle.clean_law.specs.Below.heap_law.Names.{Among, tot}
+use Rattle.clean_law.specs.Below.heap_law.Things.{at_temp, in_hand, Thing, holds, lies, flies, things_at, standing_things, thread_things, things_of}
+use Rattle.clean_law.specs.Below.heap_law.Follow.{cells_in}
+use Rattle.clean_law.specs.Below.heap_law.Sight.{issued, sight}
+use Rattle.clean_law.specs.Below.heap_law.Weights.{cells}
+use Rattle.clean_law.specs.Below.heap_law.Words.{HasWords}
+use Rattle.clean_law.specs.Below.heap_law.Coherent.{Holds, first_at_holder, IsSound}
+use Rattle.clean_law.specs.Below.type_law.ClusterTypes.{IsCoherent}
+use Rattle.clean_law.specs.Below.event_law.Laws.{Gives, FewEvents}
+use Rattle.clean_law.proofs.Below.event_law.Trades.{tot-append}
+use Rattle.clean_law.proofs.Below.event_law.Results.{over_gives, test_gives}
+use Rattle.clean_law.proofs.Below.event_law.Values.{last_split}
+use Rattle.clean_law.proofs.Below.event_law.Bags.{all_standing, body_things, rest_things, server_same}
+use Rattle.clean_law.proofs.Below.event_law.Events.{tot-server}
+use Rattle.borrow_law.specs.Below.word_law.Reworded.{HasPlaces}
+use Rattle.borrow_law.specs.Below.word_law.Unmoved.{pointing, LeavesWords}
+use Rattle.borrow_law.specs.Below.word_law.WordsAfter.{KeepsWords}
+use Rattle.borrow_law.proofs.Below.word_law.Put.{Split, put_split}
+use Rattle.borrow_law.proofs.Below.word_law.Slots.{thread_cells}
+use Rattle.borrow_law.proofs.Below.stay_law.Alike.{Alike, itself, turned, chain, beside, joined, in_front, goes}
+use Rattle.borrow_law.proofs.Below.stay_law.Servers.{held, held_if}
+use Rattle.borrow_law.proofs.Below.stay_law.Threads.{slots_of, temps_of, thread_alike}
+use Rattle.borrow_law.proofs.Below.stay_law.Sites.{ends_alike, replaced}
+use Rattle.borrow_law.proofs.Below.stay_law.Steps.{TakesNoneHere}
+use Rattle.borrow_law.specs.Below.carry_law.Carried.{Carried}
+use Rattle.borrow_law.specs.Below.carry_law.Made.{Made}
+use Rattle.borrow_law.proofs.Below.carry_law.Making.{made_keeps}
+use Rattle.borrow_law.proofs.Below.carry_law.Replaced.{places_on}
+use Rattle.borrow_law.proofs.Below.carry_law.Passing.{slot, temp, nowhere, Passes, is_carried, is_quiet}
+use Rattle.borrow_law.proofs.Below.carry_law.Places.{temp_to_gift, gift_to_temp}
+use Rattle.borrow_law.proofs.Below.carry_law.Hands.{RootedIn, put, with_hand, places, stands_here, h0, its_number, first_ok, before, site_of, first_seen, first_leaves, first_rooted}
 use Rattle.borrow_law.proofs.Below.made_law.Unnamed.{NonePoints, no_value, none_points, none_untouched, none_carried}
 use Rattle.borrow_law.proofs.Below.made_law.Partition.{body_comes}
 use Rattle.borrow_law.proofs.Below.made_law.NewCell.{is_made}
 use Rattle.borrow_law.proofs.Below.made_law.Servers.{vacant_there, NextWord, next_word_is}
-use Rattle.heap_law.specs.Sight.{is_object_among}
-use Rattle.heap_law.proofs.Words.{none_at}
-use Rattle.stay_law.proofs.Steps.{hand_itself}
-use Rattle.carry_law.proofs.Hands.{moved_goes, seen, each_together}
-use Rattle.carry_law.proofs.Replaced.{cells_same}
+use Rattle.clean_law.specs.Below.heap_law.Sight.{is_object_among}
+use Rattle.clean_law.proofs.Below.heap_law.Words.{none_at}
+use Rattle.borrow_law.proofs.Below.stay_law.Steps.{hand_itself}
+use Rattle.borrow_law.proofs.Below.carry_law.Hands.{moved_goes, seen, each_together}
+use Rattle.borrow_law.proofs.Below.carry_law.Replaced.{cells_same}
 use Rattle.borrow_law.proofs.Below.made_law.Unnamed.{cell_weighs}
 use Rattle.borrow_law.proofs.Below.made_law.Boxing.{none_named as none_named_so}
-use Rattle.copy_law.proofs.Clean.{Leaves, all_goes, cell_thing, cells_on}
+use Rattle.clean_law.proofs.Below.copy_law.Clean.{Leaves, all_goes, cell_thing, cells_on}
 use Rattle.clean_law.proofs.Changed.{all_chain}
 use Rattle.clean_law.proofs.Worded.{objects_differ}
 use Rattle.fresh_law.proofs.Turned.{Same, Hidden, new_word as is_new_word, Turned, turned_on, dirty_kept}

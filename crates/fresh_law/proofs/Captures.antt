@@ -1,46 +1,46 @@
 -- What a new thread captures leaves words, cells and changed references, value by value: what moves goes as a gift, what is copied as a temporary value.
 use Rattle.std.proofs.Common.{◌≡◌, ◌⊎◌, inl, inr, ℕ, zero, suc, ◌+◌, Bool, true, false, if◌then◌else◌, List, [], ◌∷◌, ◌++◌, length, Option, Some, None, IsSome, refl, sym, ap, subst, ◌∙◌, arith}
 use Rattle.std.specs.Prelude.{slice_get, slice_set}
-use Rattle.fr_base.specs.declared.instruction.Instr.{Instr}
-use Rattle.fr_base.specs.declared.name.ObjNo.{ObjNo}
-use Rattle.heap_partition.specs.declared.value.Owned.{Owned}
-use Rattle.heap_partition.specs.declared.value.Owned.TheVariants as owned
-use Rattle.mut_borrow.specs.declared.mutable.MutRef.{MutRef}
-use Rattle.mut_borrow.specs.declared.shared.SharedRef.{SharedRef}
-use Rattle.thread_state.specs.View.{ThreadState}
-use Rattle.thread_state.specs.declared.value.Value.{Value}
-use Rattle.thread_state.specs.declared.value.Value.TheVariants as value
-use Rattle.server_model.specs.Servers.{Rest, Server, Cluster, server_at}
-use Rattle.server_model.specs.Work.{then_some}
-use Rattle.server_model.specs.Places.{owns_nothing}
-use Rattle.server_model.specs.Start.{captured, left_after, capture_from}
-use Rattle.heap_law.specs.Names.{Among, tot}
-use Rattle.heap_law.specs.Things.{Location, in_slot, at_slot, at_temp, Thing, holds, as_gift, shares, stands, things_at, slot_things, temp_things, gift_things, walk_things, standing_things, thread_things, things_of}
-use Rattle.heap_law.specs.Follow.{value_in}
-use Rattle.heap_law.specs.Sight.{sight}
-use Rattle.heap_law.specs.Weights.{cells, owners, is_thread}
-use Rattle.heap_law.specs.Coherent.{Holds, first_at_holder, IsSound}
-use Rattle.heap_law.proofs.Sums.{tot-append}
-use Rattle.path_law.proofs.Origins.{among_first, among_second}
-use Rattle.word_law.specs.Reworded.{HasPlaces}
-use Rattle.word_law.specs.Unmoved.{pointing, taking_by}
-use Rattle.word_law.proofs.Put.{Split}
-use Rattle.word_law.proofs.Standing.{standing_among}
-use Rattle.event_law.proofs.Bags.{all_standing}
-use Rattle.stay_law.proofs.Alike.{ShowsAs, Alike, Within, Seen, seen_itself, within_both, within_first, itself, turned, chain, beside, in_front, joined, alone}
-use Rattle.stay_law.proofs.Servers.{held, held_if}
-use Rattle.stay_law.proofs.Threads.{slots_of, temps_of, thread_alike}
-use Rattle.stay_law.proofs.Steps.{IsUnseen, owned_unseen, last_points}
-use Rattle.stay_law.proofs.Seen.{seen_alike}
-use Rattle.carry_law.specs.Carried.{Carried}
-use Rattle.carry_law.proofs.Replaced.{tail_of, places_on}
-use Rattle.carry_law.proofs.Passing.{Here, slot, temp, nowhere, located, Passes, is_carried, is_quiet, here_a}
-use Rattle.carry_law.proofs.Places.{end_is, end_none, end_things, end_sum, slot_emptied, gift_to_slot, temp_to_slot}
-use Rattle.refs_law.specs.Unpassed.{IsUnpassed}
-use Rattle.refs_law.proofs.QuietSlots.{unpassed_quiet, unpassed_steady, blind_steady, unpassed_on}
-use Rattle.refs_law.proofs.Beside.{with_threads, one_changes, unpassed_over}
-use Rattle.refs_law.proofs.CaptureSteps.{places_same, threads_alike}
-use Rattle.carry_law.proofs.Replaced.{cells_same}
+use Rattle.clean_law.specs.Below.fr_base.declared.instruction.Instr.{Instr}
+use Rattle.clean_law.specs.Below.fr_base.declared.name.ObjNo.{ObjNo}
+use Rattle.clean_law.specs.Below.heap_partition.declared.value.Owned.{Owned}
+use Rattle.clean_law.specs.Below.heap_partition.declared.value.Owned.TheVariants as owned
+use Rattle.clean_law.specs.Below.mut_borrow.declared.mutable.MutRef.{MutRef}
+use Rattle.clean_law.specs.Below.mut_borrow.declared.shared.SharedRef.{SharedRef}
+use Rattle.clean_law.specs.Below.thread_state.View.{ThreadState}
+use Rattle.clean_law.specs.Below.thread_state.declared.value.Value.{Value}
+use Rattle.clean_law.specs.Below.thread_state.declared.value.Value.TheVariants as value
+use Rattle.clean_law.specs.Below.server_model.Servers.{Rest, Server, Cluster, server_at}
+use Rattle.clean_law.specs.Below.server_model.Work.{then_some}
+use Rattle.clean_law.specs.Below.server_model.Places.{owns_nothing}
+use Rattle.clean_law.specs.Below.server_model.Start.{captured, left_after, capture_from}
+use Rattle.clean_law.specs.Below.heap_law.Names.{Among, tot}
+use Rattle.clean_law.specs.Below.heap_law.Things.{Location, in_slot, at_slot, at_temp, Thing, holds, as_gift, shares, stands, things_at, slot_things, temp_things, gift_things, walk_things, standing_things, thread_things, things_of}
+use Rattle.clean_law.specs.Below.heap_law.Follow.{value_in}
+use Rattle.clean_law.specs.Below.heap_law.Sight.{sight}
+use Rattle.clean_law.specs.Below.heap_law.Weights.{cells, owners, is_thread}
+use Rattle.clean_law.specs.Below.heap_law.Coherent.{Holds, first_at_holder, IsSound}
+use Rattle.clean_law.proofs.Below.heap_law.Sums.{tot-append}
+use Rattle.clean_law.proofs.Below.path_law.Origins.{among_first, among_second}
+use Rattle.borrow_law.specs.Below.word_law.Reworded.{HasPlaces}
+use Rattle.borrow_law.specs.Below.word_law.Unmoved.{pointing, taking_by}
+use Rattle.borrow_law.proofs.Below.word_law.Put.{Split}
+use Rattle.borrow_law.proofs.Below.word_law.Standing.{standing_among}
+use Rattle.clean_law.proofs.Below.event_law.Bags.{all_standing}
+use Rattle.borrow_law.proofs.Below.stay_law.Alike.{ShowsAs, Alike, Within, Seen, seen_itself, within_both, within_first, itself, turned, chain, beside, in_front, joined, alone}
+use Rattle.borrow_law.proofs.Below.stay_law.Servers.{held, held_if}
+use Rattle.borrow_law.proofs.Below.stay_law.Threads.{slots_of, temps_of, thread_alike}
+use Rattle.borrow_law.proofs.Below.stay_law.Steps.{IsUnseen, owned_unseen, last_points}
+use Rattle.borrow_law.proofs.Below.stay_law.Seen.{seen_alike}
+use Rattle.borrow_law.specs.Below.carry_law.Carried.{Carried}
+use Rattle.borrow_law.proofs.Below.carry_law.Replaced.{tail_of, places_on}
+use Rattle.borrow_law.proofs.Below.carry_law.Passing.{Here, slot, temp, nowhere, located, Passes, is_carried, is_quiet, here_a}
+use Rattle.borrow_law.proofs.Below.carry_law.Places.{end_is, end_none, end_things, end_sum, slot_emptied, gift_to_slot, temp_to_slot}
+use Rattle.clean_law.specs.Below.refs_law.Unpassed.{IsUnpassed}
+use Rattle.clean_law.proofs.Below.refs_law.QuietSlots.{unpassed_quiet, unpassed_steady, blind_steady, unpassed_on}
+use Rattle.clean_law.proofs.Below.refs_law.Beside.{with_threads, one_changes, unpassed_over}
+use Rattle.clean_law.proofs.Below.refs_law.CaptureSteps.{places_same, threads_alike}
+use Rattle.borrow_law.proofs.Below.carry_law.Replaced.{cells_same}
 use Rattle.fresh_law.proofs.StartWays.{Kept, kept_alike, kept_carried}
 
 some_value : {u z : Value} → Some u ≡ Some z → u ≡ z

@@ -1,32 +1,32 @@
 -- A dirty reference gets a word that wasn't issued, wherever its object lies then: the object has that word and isn't changed through it any more, and all else is what it was.
 use Rattle.std.proofs.Common.{◌≡◌, inl, ⊎_elim, ℕ, true, false, Option, Some, None, refl, sym, ap, ap₂, subst, ◌∙◌}
-use Rattle.fr_base.specs.declared.name.ObjNo.{ObjNo}
-use Rattle.heap_partition.specs.declared.value.Cell.{Cell}
-use Rattle.heap_partition.specs.declared.value.Owned.{Owned}
-use Rattle.server_model.specs.Places.{took}
-use Rattle.mut_borrow.specs.declared.mutable.MutRef.{MutRef}
-use Rattle.thread_state.specs.declared.value.Value.TheVariants as value
-use Rattle.server_model.specs.Servers.{Cluster}
-use Rattle.heap_law.specs.Names.{Among}
-use Rattle.heap_law.specs.Things.{Location, in_cell, things_of}
-use Rattle.heap_law.specs.Follow.{cell_of, cells_in, value_in, value_of}
-use Rattle.heap_law.specs.Stale.{Reference, references, holder_of, is_held_at}
-use Rattle.heap_law.specs.Sight.{Pointer, taken_pointers, sight}
-use Rattle.heap_law.specs.Words.{IsStale, HasWords}
-use Rattle.heap_law.specs.Placing.{standing_in}
-use Rattle.heap_law.specs.Dirty.{DirtyAlone}
-use Rattle.heap_law.specs.Coherent.{Holds, IsSound, first_at_holder}
-use Rattle.path_law.proofs.Origins.{among_first}
-use Rattle.path_law.proofs.Contained.{reference_there}
-use Rattle.path_law.proofs.FreshPaths.{same_is}
-use Rattle.word_law.specs.Reworded.{HasPlaces, Reworded}
-use Rattle.word_law.specs.WordsAfter.{Rewrites, WordsAfter}
-use Rattle.word_law.proofs.Standing.{CellOf, cell_among, cell_found, borrow_stands, told_standing}
-use Rattle.word_law.proofs.Grounds.{of_borrows, still_stale}
-use Rattle.word_law.proofs.Only.{are_only}
-use Rattle.word_law.proofs.Words.{words_go_on, changed_rewords}
-use Rattle.prepare_law.proofs.Along.{dirty_changed}
-use Rattle.copy_law.proofs.Clean.{Found, Leaves, cell_thing, thing_cell}
+use Rattle.clean_law.specs.Below.fr_base.declared.name.ObjNo.{ObjNo}
+use Rattle.clean_law.specs.Below.heap_partition.declared.value.Cell.{Cell}
+use Rattle.clean_law.specs.Below.heap_partition.declared.value.Owned.{Owned}
+use Rattle.clean_law.specs.Below.server_model.Places.{took}
+use Rattle.clean_law.specs.Below.mut_borrow.declared.mutable.MutRef.{MutRef}
+use Rattle.clean_law.specs.Below.thread_state.declared.value.Value.TheVariants as value
+use Rattle.clean_law.specs.Below.server_model.Servers.{Cluster}
+use Rattle.clean_law.specs.Below.heap_law.Names.{Among}
+use Rattle.clean_law.specs.Below.heap_law.Things.{Location, in_cell, things_of}
+use Rattle.clean_law.specs.Below.heap_law.Follow.{cell_of, cells_in, value_in, value_of}
+use Rattle.clean_law.specs.Below.heap_law.Stale.{Reference, references, holder_of, is_held_at}
+use Rattle.clean_law.specs.Below.heap_law.Sight.{Pointer, taken_pointers, sight}
+use Rattle.clean_law.specs.Below.heap_law.Words.{IsStale, HasWords}
+use Rattle.clean_law.specs.Below.heap_law.Placing.{standing_in}
+use Rattle.clean_law.specs.Below.heap_law.Dirty.{DirtyAlone}
+use Rattle.clean_law.specs.Below.heap_law.Coherent.{Holds, IsSound, first_at_holder}
+use Rattle.clean_law.proofs.Below.path_law.Origins.{among_first}
+use Rattle.clean_law.proofs.Below.path_law.Contained.{reference_there}
+use Rattle.clean_law.proofs.Below.path_law.FreshPaths.{same_is}
+use Rattle.borrow_law.specs.Below.word_law.Reworded.{HasPlaces, Reworded}
+use Rattle.borrow_law.specs.Below.word_law.WordsAfter.{Rewrites, WordsAfter}
+use Rattle.borrow_law.proofs.Below.word_law.Standing.{CellOf, cell_among, cell_found, borrow_stands, told_standing}
+use Rattle.borrow_law.proofs.Below.word_law.Grounds.{of_borrows, still_stale}
+use Rattle.borrow_law.proofs.Below.word_law.Only.{are_only}
+use Rattle.borrow_law.proofs.Below.word_law.Words.{words_go_on, changed_rewords}
+use Rattle.borrow_law.proofs.Below.prepare_law.Along.{dirty_changed}
+use Rattle.clean_law.proofs.Below.copy_law.Clean.{Found, Leaves, cell_thing, thing_cell}
 use Rattle.clean_law.proofs.Worded.{Worded}
 
 -- CELLS BY THEIR VALUES

@@ -1,44 +1,44 @@
 -- Copies are right after the delivery of a `drop`: no place leads to the object that goes, so nobody has asked for a copy of it.
 use Rattle.std.proofs.Common.{◌≡◌, ℕ, List, [], ◌∷◌, ◌++◌, Option, Some, None, option_map, refl, sym, ap, subst, arith, ◌∙◌, inl, inr, ⊎_elim}
 use Rattle.std.specs.Prelude.{slice_get, length, take, drop as drop_first}
-use Rattle.fr_base.specs.declared.name.ObjNo.{ObjNo}
-use Rattle.heap_partition.specs.declared.value.Cell.{Cell}
-use Rattle.journal.specs.View.{EntryView}
-use Rattle.server_msgs.specs.declared.message.Message.TheVariants as message
-use Rattle.server_model.specs.declared.event.Event.{Event}
-use Rattle.server_model.specs.declared.event.What.TheVariants.{Deliver}
-use Rattle.server_model.specs.Servers.{Server, Cluster, server_at}
-use Rattle.server_model.specs.Work.{then_some}
-use Rattle.server_model.specs.Events.{enabled, does}
-use Rattle.server_model.specs.Clusters.{with_server, hand_over_newer, done_at, apply}
-use Rattle.heap_law.specs.Names.{Among, tot}
-use Rattle.heap_law.specs.Things.{Thing, holds, in_hand, lies, sent, server_things, servers_things, things_of}
-use Rattle.heap_law.specs.Coherent.{IsSound}
-use Rattle.heap_law.specs.Weights.{cells}
-use Rattle.type_law.specs.ClusterTypes.{IsCoherent}
-use Rattle.word_law.specs.Reworded.{HasPlaces}
-use Rattle.word_law.specs.Unmoved.{LeavesWords}
-use Rattle.event_law.specs.Laws.{Gives, GoTo, FewEvents}
-use Rattle.event_law.proofs.Results.{test_gives, both_give}
-use Rattle.event_law.proofs.Events.{tot-server}
-use Rattle.event_law.proofs.Applied.{go_with}
-use Rattle.event_law.proofs.Sending.{each_event_sends}
-use Rattle.stay_law.proofs.Alike.{Alike, itself, turned as turned_round, chain}
-use Rattle.stay_law.proofs.Sites.{servers_alike, replaced, handed_over}
-use Rattle.carry_law.proofs.Hands.{rooted}
+use Rattle.clean_law.specs.Below.fr_base.declared.name.ObjNo.{ObjNo}
+use Rattle.clean_law.specs.Below.heap_partition.declared.value.Cell.{Cell}
+use Rattle.clean_law.specs.Below.journal.View.{EntryView}
+use Rattle.clean_law.specs.Below.server_msgs.declared.message.Message.TheVariants as message
+use Rattle.clean_law.specs.Below.server_model.declared.event.Event.{Event}
+use Rattle.clean_law.specs.Below.server_model.declared.event.What.TheVariants.{Deliver}
+use Rattle.clean_law.specs.Below.server_model.Servers.{Server, Cluster, server_at}
+use Rattle.clean_law.specs.Below.server_model.Work.{then_some}
+use Rattle.clean_law.specs.Below.server_model.Events.{enabled, does}
+use Rattle.clean_law.specs.Below.server_model.Clusters.{with_server, hand_over_newer, done_at, apply}
+use Rattle.clean_law.specs.Below.heap_law.Names.{Among, tot}
+use Rattle.clean_law.specs.Below.heap_law.Things.{Thing, holds, in_hand, lies, sent, server_things, servers_things, things_of}
+use Rattle.clean_law.specs.Below.heap_law.Coherent.{IsSound}
+use Rattle.clean_law.specs.Below.heap_law.Weights.{cells}
+use Rattle.clean_law.specs.Below.type_law.ClusterTypes.{IsCoherent}
+use Rattle.borrow_law.specs.Below.word_law.Reworded.{HasPlaces}
+use Rattle.borrow_law.specs.Below.word_law.Unmoved.{LeavesWords}
+use Rattle.clean_law.specs.Below.event_law.Laws.{Gives, GoTo, FewEvents}
+use Rattle.clean_law.proofs.Below.event_law.Results.{test_gives, both_give}
+use Rattle.clean_law.proofs.Below.event_law.Events.{tot-server}
+use Rattle.clean_law.proofs.Below.event_law.Applied.{go_with}
+use Rattle.clean_law.proofs.Below.event_law.Sending.{each_event_sends}
+use Rattle.borrow_law.proofs.Below.stay_law.Alike.{Alike, itself, turned as turned_round, chain}
+use Rattle.borrow_law.proofs.Below.stay_law.Sites.{servers_alike, replaced, handed_over}
+use Rattle.borrow_law.proofs.Below.carry_law.Hands.{rooted}
 use Rattle.free_law.proofs.Going.{freed_leaves}
 use Rattle.free_law.proofs.Lists.{NoneLeads, is_freed}
 use Rattle.free_law.proofs.Unled.{none_leads}
-use Rattle.heap_law.specs.Follow.{cells_in}
-use Rattle.heap_law.specs.Sight.{sight}
-use Rattle.heap_law.specs.Words.{HasWords}
-use Rattle.heap_law.proofs.Words.{none_at}
-use Rattle.path_law.specs.HeapStore.{HasPaths}
-use Rattle.path_law.proofs.Alike.{coherent_has_paths}
+use Rattle.clean_law.specs.Below.heap_law.Follow.{cells_in}
+use Rattle.clean_law.specs.Below.heap_law.Sight.{sight}
+use Rattle.clean_law.specs.Below.heap_law.Words.{HasWords}
+use Rattle.clean_law.proofs.Below.heap_law.Words.{none_at}
+use Rattle.clean_law.specs.Below.path_law.HeapStore.{HasPaths}
+use Rattle.clean_law.proofs.Below.path_law.Alike.{coherent_has_paths}
 use Rattle.borrow_law.proofs.Below.made_law.Unnamed.{cell_weighs}
 use Rattle.free_law.specs.Freed.{Freed}
 use Rattle.free_law.proofs.Drops.{Goes, server_goes, message_there}
-use Rattle.copy_law.proofs.Clean.{cell_thing, cells_on}
+use Rattle.clean_law.proofs.Below.copy_law.Clean.{cell_thing, cells_on}
 use Rattle.clean_law.proofs.Kept.{places_before, places_after}
 use Rattle.clean_law.proofs.Worded.{objects_differ}
 use Rattle.fresh_law.specs.Fresh.{DeliveredDropsKeepCopies}

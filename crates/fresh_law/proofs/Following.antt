@@ -2,47 +2,47 @@
 use Rattle.std.proofs.Common.{◌≡◌, ℕ, ◌≤◌, true, false, [], ◌++◌, Some, refl, sym, subst, ◌∙◌, arith}
 use Rattle.std.specs.Bool.{⊤}
 use Rattle.std.specs.Prelude.{slice_get}
-use Rattle.fr_base.specs.declared.place.Lval.{Lval}
-use Rattle.fr_base.specs.declared.instruction.Instr.{Instr}
-use Rattle.fr_base.specs.declared.instruction.Instr.TheVariants as instr
-use Rattle.fr_code.specs.CodeTypes.{Entry, Table, InstrTypes, i_copy, i_dup, i_lock, i_borrow, i_borrow_mut}
-use Rattle.global_addr.specs.Words.{server_of}
-use Rattle.heap_partition.specs.declared.value.BoxPtr.{BoxPtr}
-use Rattle.journal.specs.declared.act.Act.TheVariants as act
-use Rattle.thread_state.specs.View.{ThreadState}
-use Rattle.thread_state.specs.declared.phase.Phase.TheVariants as phase
-use Rattle.server_msgs.specs.declared.message.Message.TheVariants as message
-use Rattle.server_model.specs.declared.event.What.TheVariants.{Step}
-use Rattle.server_model.specs.Servers.{Server, Cluster, server_at}
-use Rattle.server_model.specs.Work.{Hand, thread_in, without_thread}
-use Rattle.server_model.specs.Places.{in_slot}
-use Rattle.server_model.specs.Prepare.{Prepared, ready, requested, nothing, ReadTo, ask_copy, ask_object, prepare, read_stars}
-use Rattle.server_model.specs.Events.{enabled, begin_work}
-use Rattle.heap_law.specs.Things.{servers_things}
-use Rattle.type_law.specs.ClusterTypes.{IsCoherent}
-use Rattle.event_law.specs.Laws.{FewEvents}
-use Rattle.event_law.proofs.RulesKeep.{sums_kept}
-use Rattle.event_law.proofs.Bags.{all_standing}
-use Rattle.event_law.proofs.Events.{others_of}
-use Rattle.event_law.proofs.Prepares.{PreparedOk, prepares}
-use Rattle.local_law.proofs.Small.{Made}
-use Rattle.result_law.proofs.Reading.{Reading}
-use Rattle.result_law.proofs.Starred.{bound, Fine}
-use Rattle.stay_law.proofs.Sites.{HandAlike}
-use Rattle.stay_law.proofs.Steps.{TakesNoneHere, hand_chain, untaken_here}
-use Rattle.carry_law.proofs.Hands.{Ok, seen, put, each_together, first_ok, moved_goes}
-use Rattle.copy_law.proofs.Clean.{Leaves, all_goes}
+use Rattle.clean_law.specs.Below.fr_base.declared.place.Lval.{Lval}
+use Rattle.clean_law.specs.Below.fr_base.declared.instruction.Instr.{Instr}
+use Rattle.clean_law.specs.Below.fr_base.declared.instruction.Instr.TheVariants as instr
+use Rattle.clean_law.specs.Below.fr_code.CodeTypes.{Entry, Table, InstrTypes, i_copy, i_dup, i_lock, i_borrow, i_borrow_mut}
+use Rattle.clean_law.specs.Below.global_addr.Words.{server_of}
+use Rattle.clean_law.specs.Below.heap_partition.declared.value.BoxPtr.{BoxPtr}
+use Rattle.clean_law.specs.Below.journal.declared.act.Act.TheVariants as act
+use Rattle.clean_law.specs.Below.thread_state.View.{ThreadState}
+use Rattle.clean_law.specs.Below.thread_state.declared.phase.Phase.TheVariants as phase
+use Rattle.clean_law.specs.Below.server_msgs.declared.message.Message.TheVariants as message
+use Rattle.clean_law.specs.Below.server_model.declared.event.What.TheVariants.{Step}
+use Rattle.clean_law.specs.Below.server_model.Servers.{Server, Cluster, server_at}
+use Rattle.clean_law.specs.Below.server_model.Work.{Hand, thread_in, without_thread}
+use Rattle.clean_law.specs.Below.server_model.Places.{in_slot}
+use Rattle.clean_law.specs.Below.server_model.Prepare.{Prepared, ready, requested, nothing, ReadTo, ask_copy, ask_object, prepare, read_stars}
+use Rattle.clean_law.specs.Below.server_model.Events.{enabled, begin_work}
+use Rattle.clean_law.specs.Below.heap_law.Things.{servers_things}
+use Rattle.clean_law.specs.Below.type_law.ClusterTypes.{IsCoherent}
+use Rattle.clean_law.specs.Below.event_law.Laws.{FewEvents}
+use Rattle.clean_law.proofs.Below.event_law.RulesKeep.{sums_kept}
+use Rattle.clean_law.proofs.Below.event_law.Bags.{all_standing}
+use Rattle.clean_law.proofs.Below.event_law.Events.{others_of}
+use Rattle.clean_law.proofs.Below.event_law.Prepares.{PreparedOk, prepares}
+use Rattle.borrow_law.proofs.Below.local_law.Small.{Made}
+use Rattle.clean_law.proofs.Below.result_law.Reading.{Reading}
+use Rattle.clean_law.proofs.Below.result_law.Starred.{bound, Fine}
+use Rattle.borrow_law.proofs.Below.stay_law.Sites.{HandAlike}
+use Rattle.borrow_law.proofs.Below.stay_law.Steps.{TakesNoneHere, hand_chain, untaken_here}
+use Rattle.borrow_law.proofs.Below.carry_law.Hands.{Ok, seen, put, each_together, first_ok, moved_goes}
+use Rattle.clean_law.proofs.Below.copy_law.Clean.{Leaves, all_goes}
 use Rattle.clean_law.proofs.ReadHands.{IsCalm, calm_start, calm_ready, read_takes, read_alike}
 use Rattle.clean_law.proofs.ReadAsks.{AsksSo, Known, stars_ask}
-use Rattle.result_law.proofs.Followed.{Place}
-use Rattle.fr_base.specs.declared.instruction.Operand.{Operand}
-use Rattle.read_law.specs.Reading.{MayRead, Reads, copies, shares, lends, dups, locks}
-use Rattle.read_law.proofs.ReadPlaces.{may_read_so}
-use Rattle.result_law.proofs.Known.{Steps, standing, paths, goes, entry, typed, types}
-use Rattle.result_law.proofs.Readers.{IsFree, stars_fine, to_entry}
-use Rattle.prepare_law.proofs.Hands.{State, Walks, first_hand, unseen}
-use Rattle.local_law.proofs.Mail.{Mail, Mailed}
-use Rattle.local_law.proofs.Messages.{Light}
+use Rattle.clean_law.proofs.Below.result_law.Followed.{Place}
+use Rattle.clean_law.specs.Below.fr_base.declared.instruction.Operand.{Operand}
+use Rattle.borrow_law.specs.Below.read_law.Reading.{MayRead, Reads, copies, shares, lends, dups, locks}
+use Rattle.borrow_law.proofs.Below.read_law.ReadPlaces.{may_read_so}
+use Rattle.clean_law.proofs.Below.result_law.Known.{Steps, standing, paths, goes, entry, typed, types}
+use Rattle.clean_law.proofs.Below.result_law.Readers.{IsFree, stars_fine, to_entry}
+use Rattle.borrow_law.proofs.Below.prepare_law.Hands.{State, Walks, first_hand, unseen}
+use Rattle.borrow_law.proofs.Below.local_law.Mail.{Mail, Mailed}
+use Rattle.borrow_law.proofs.Below.local_law.Messages.{Light}
 use Rattle.clean_law.proofs.Asked.{asking}
 use Rattle.clean_law.proofs.ReadCommits.{asks_so}
 use Rattle.fresh_law.proofs.Askers.{reads_within}

@@ -1,23 +1,23 @@
 -- What becomes of objects at a server becomes of them once messages are handed over.
 use Rattle.std.proofs.Common.{◌≡◌, ℕ, true, Option, Some, None, refl, sym, subst}
 use Rattle.std.specs.Prelude.{option_map, length, take, drop as drop_first}
-use Rattle.journal.specs.View.{EntryView}
-use Rattle.server_model.specs.declared.event.What.TheVariants.{Step}
-use Rattle.server_model.specs.Servers.{Server, Cluster, server_at}
-use Rattle.server_model.specs.Work.{then_some}
-use Rattle.server_model.specs.Events.{enabled, does}
-use Rattle.server_model.specs.Clusters.{with_server, hand_over_newer, done_at, apply}
-use Rattle.heap_law.specs.Things.{things_of}
-use Rattle.heap_law.specs.Coherent.{IsSound}
-use Rattle.word_law.specs.Reworded.{HasPlaces}
-use Rattle.event_law.specs.Laws.{Gives, GoTo, FewEvents}
-use Rattle.event_law.proofs.Results.{test_gives, both_give}
-use Rattle.event_law.proofs.Applied.{go_with}
-use Rattle.event_law.proofs.Sending.{each_event_sends}
-use Rattle.stay_law.proofs.Alike.{Alike}
-use Rattle.stay_law.proofs.Sites.{handed_over}
-use Rattle.carry_law.proofs.Hands.{ThereBy}
-use Rattle.copy_law.proofs.Clean.{all_goes}
+use Rattle.clean_law.specs.Below.journal.View.{EntryView}
+use Rattle.clean_law.specs.Below.server_model.declared.event.What.TheVariants.{Step}
+use Rattle.clean_law.specs.Below.server_model.Servers.{Server, Cluster, server_at}
+use Rattle.clean_law.specs.Below.server_model.Work.{then_some}
+use Rattle.clean_law.specs.Below.server_model.Events.{enabled, does}
+use Rattle.clean_law.specs.Below.server_model.Clusters.{with_server, hand_over_newer, done_at, apply}
+use Rattle.clean_law.specs.Below.heap_law.Things.{things_of}
+use Rattle.clean_law.specs.Below.heap_law.Coherent.{IsSound}
+use Rattle.borrow_law.specs.Below.word_law.Reworded.{HasPlaces}
+use Rattle.clean_law.specs.Below.event_law.Laws.{Gives, GoTo, FewEvents}
+use Rattle.clean_law.proofs.Below.event_law.Results.{test_gives, both_give}
+use Rattle.clean_law.proofs.Below.event_law.Applied.{go_with}
+use Rattle.clean_law.proofs.Below.event_law.Sending.{each_event_sends}
+use Rattle.borrow_law.proofs.Below.stay_law.Alike.{Alike}
+use Rattle.borrow_law.proofs.Below.stay_law.Sites.{handed_over}
+use Rattle.borrow_law.proofs.Below.carry_law.Hands.{ThereBy}
+use Rattle.clean_law.proofs.Below.copy_law.Clean.{all_goes}
 use Rattle.clean_law.proofs.Kept.{places_after}
 use Rattle.fresh_law.proofs.Turned.{Turned, turned_on}
 

@@ -1,37 +1,37 @@
 -- What a mutable borrow leaves of objects, where it is done: with each reference that it makes each object is what it was.
 use Rattle.std.proofs.Common.{◌≡◌, ℕ, suc, List, [], ◌++◌, Option, Some, None, option_map, refl, sym, subst}
 use Rattle.std.specs.Prelude.{slice_get}
-use Rattle.fr_base.specs.declared.place.Lval.{Lval}
-use Rattle.fr_base.specs.declared.instruction.Instr.{Instr}
-use Rattle.thread_state.specs.View.{ThreadState}
-use Rattle.thread_state.specs.declared.value.Value.{Value}
-use Rattle.server_model.specs.Servers.{Server, Cluster, server_at}
-use Rattle.server_model.specs.Work.{Hand, push_temp, thread_in, without_thread, then_some}
-use Rattle.server_model.specs.Places.{Spot, value_at}
-use Rattle.server_model.specs.Commit.{go_on, goes_on, mutable_from, commit, borrow_mut, borrow_mut_from}
-use Rattle.server_model.specs.Events.{Stepped, committed}
-use Rattle.heap_law.specs.Things.{Thing, servers_things}
-use Rattle.heap_law.specs.Sight.{sight}
-use Rattle.type_law.specs.ClusterTypes.{IsCoherent}
-use Rattle.word_law.specs.Reworded.{HasPlaces}
-use Rattle.event_law.specs.Laws.{Gives, FewEvents}
-use Rattle.event_law.proofs.Results.{both_give}
-use Rattle.event_law.proofs.Bags.{all_standing}
-use Rattle.event_law.proofs.Events.{others_of}
-use Rattle.stay_law.proofs.Sites.{HandAlike}
-use Rattle.prepare_law.proofs.Hands.{Ok, put, places}
-use Rattle.event_law.proofs.RulesKeep.{sums_kept}
-use Rattle.event_law.proofs.AllSteps.{commits}
-use Rattle.event_law.proofs.Commits.{CommittedOk}
-use Rattle.event_law.proofs.Steps.{SteppedOk, committed_keeps}
-use Rattle.stay_law.proofs.Alike.{turned as turned_round}
+use Rattle.clean_law.specs.Below.fr_base.declared.place.Lval.{Lval}
+use Rattle.clean_law.specs.Below.fr_base.declared.instruction.Instr.{Instr}
+use Rattle.clean_law.specs.Below.thread_state.View.{ThreadState}
+use Rattle.clean_law.specs.Below.thread_state.declared.value.Value.{Value}
+use Rattle.clean_law.specs.Below.server_model.Servers.{Server, Cluster, server_at}
+use Rattle.clean_law.specs.Below.server_model.Work.{Hand, push_temp, thread_in, without_thread, then_some}
+use Rattle.clean_law.specs.Below.server_model.Places.{Spot, value_at}
+use Rattle.clean_law.specs.Below.server_model.Commit.{go_on, goes_on, mutable_from, commit, borrow_mut, borrow_mut_from}
+use Rattle.clean_law.specs.Below.server_model.Events.{Stepped, committed}
+use Rattle.clean_law.specs.Below.heap_law.Things.{Thing, servers_things}
+use Rattle.clean_law.specs.Below.heap_law.Sight.{sight}
+use Rattle.clean_law.specs.Below.type_law.ClusterTypes.{IsCoherent}
+use Rattle.borrow_law.specs.Below.word_law.Reworded.{HasPlaces}
+use Rattle.clean_law.specs.Below.event_law.Laws.{Gives, FewEvents}
+use Rattle.clean_law.proofs.Below.event_law.Results.{both_give}
+use Rattle.clean_law.proofs.Below.event_law.Bags.{all_standing}
+use Rattle.clean_law.proofs.Below.event_law.Events.{others_of}
+use Rattle.borrow_law.proofs.Below.stay_law.Sites.{HandAlike}
+use Rattle.borrow_law.proofs.Below.prepare_law.Hands.{Ok, put, places}
+use Rattle.clean_law.proofs.Below.event_law.RulesKeep.{sums_kept}
+use Rattle.clean_law.proofs.Below.event_law.AllSteps.{commits}
+use Rattle.clean_law.proofs.Below.event_law.Commits.{CommittedOk}
+use Rattle.clean_law.proofs.Below.event_law.Steps.{SteppedOk, committed_keeps}
+use Rattle.borrow_law.proofs.Below.stay_law.Alike.{turned as turned_round}
 use Rattle.borrow_law.proofs.Pushed.{hands_alike}
-use Rattle.fr_base.specs.declared.instruction.Instr.TheVariants as instr
-use Rattle.server_model.specs.Servers.{Rest}
-use Rattle.heap_law.specs.Words.{HasWords}
-use Rattle.local_law.proofs.Mail.{Mailed}
-use Rattle.local_law.proofs.Messages.{Light}
-use Rattle.copy_law.proofs.Clean.{all_goes}
+use Rattle.clean_law.specs.Below.fr_base.declared.instruction.Instr.TheVariants as instr
+use Rattle.clean_law.specs.Below.server_model.Servers.{Rest}
+use Rattle.clean_law.specs.Below.heap_law.Words.{HasWords}
+use Rattle.borrow_law.proofs.Below.local_law.Mail.{Mailed}
+use Rattle.borrow_law.proofs.Below.local_law.Messages.{Light}
+use Rattle.clean_law.proofs.Below.copy_law.Clean.{all_goes}
 use Rattle.clean_law.proofs.Asked.{asking, ready_asks}
 use Rattle.fresh_law.proofs.Turned.{Turned, turned_on, none_or_idle}
 use Rattle.fresh_law.proofs.Outcome.{Left, Sends, turned}

@@ -1,26 +1,26 @@
 -- A mutable reference more leaves each object changed through a reference where it was: where it is made from a dirty one, that is stale from then on.
 use Rattle.std.proofs.Common.{◌≡◌, ◌⊎◌, inl, inr, ⊎_elim, ℕ, ◌==◌, true, false, Some, refl, sym, ap, subst, ◌∙◌}
-use Rattle.fr_base.specs.declared.name.ObjNo.{ObjNo}
-use Rattle.mut_borrow.specs.declared.mutable.MutRef.{MutRef}
-use Rattle.thread_state.specs.declared.value.Value.TheVariants as value
-use Rattle.server_model.specs.Servers.{Cluster}
-use Rattle.heap_law.specs.Names.{Among, same_object}
-use Rattle.heap_law.specs.Things.{Location, at_temp, things_of}
-use Rattle.heap_law.specs.Follow.{cells_in}
-use Rattle.heap_law.specs.Stale.{Reference, references, holder_of, taken_above}
-use Rattle.heap_law.specs.Sight.{is_object_among, sight}
-use Rattle.heap_law.specs.Words.{IsStale, HasWords}
-use Rattle.heap_law.specs.Placing.{is_first}
-use Rattle.heap_law.specs.Coherent.{IsSound}
-use Rattle.heap_law.proofs.Names.{and_right}
-use Rattle.heap_law.proofs.Words.{named, told as told_stale}
-use Rattle.path_law.proofs.Contained.{reference_there}
-use Rattle.word_law.specs.Reworded.{HasPlaces}
-use Rattle.word_law.specs.Unmoved.{LeavesWords, WordsStay}
-use Rattle.word_law.proofs.Standing.{borrow_stands}
-use Rattle.word_law.proofs.Grounds.{same_place}
+use Rattle.clean_law.specs.Below.fr_base.declared.name.ObjNo.{ObjNo}
+use Rattle.clean_law.specs.Below.mut_borrow.declared.mutable.MutRef.{MutRef}
+use Rattle.clean_law.specs.Below.thread_state.declared.value.Value.TheVariants as value
+use Rattle.clean_law.specs.Below.server_model.Servers.{Cluster}
+use Rattle.clean_law.specs.Below.heap_law.Names.{Among, same_object}
+use Rattle.clean_law.specs.Below.heap_law.Things.{Location, at_temp, things_of}
+use Rattle.clean_law.specs.Below.heap_law.Follow.{cells_in}
+use Rattle.clean_law.specs.Below.heap_law.Stale.{Reference, references, holder_of, taken_above}
+use Rattle.clean_law.specs.Below.heap_law.Sight.{is_object_among, sight}
+use Rattle.clean_law.specs.Below.heap_law.Words.{IsStale, HasWords}
+use Rattle.clean_law.specs.Below.heap_law.Placing.{is_first}
+use Rattle.clean_law.specs.Below.heap_law.Coherent.{IsSound}
+use Rattle.clean_law.proofs.Below.heap_law.Names.{and_right}
+use Rattle.clean_law.proofs.Below.heap_law.Words.{named, told as told_stale}
+use Rattle.clean_law.proofs.Below.path_law.Contained.{reference_there}
+use Rattle.borrow_law.specs.Below.word_law.Reworded.{HasPlaces}
+use Rattle.borrow_law.specs.Below.word_law.Unmoved.{LeavesWords, WordsStay}
+use Rattle.borrow_law.proofs.Below.word_law.Standing.{borrow_stands}
+use Rattle.borrow_law.proofs.Below.word_law.Grounds.{same_place}
 use Rattle.borrow_law.proofs.LentOne.{LentOne, MadeHere, MadeOfTaken, lent_one_stays, on_reference, new_reference, IsNew, back_reference, on_stale, awake, back_stale, is_from, was_lent}
-use Rattle.copy_law.proofs.Clean.{Leaves}
+use Rattle.clean_law.proofs.Below.copy_law.Clean.{Leaves}
 use Rattle.clean_law.proofs.Kept.{places_before}
 use Rattle.clean_law.proofs.CleanReads.{DirtyOne, dirty_one}
 use Rattle.clean_law.proofs.Worded.{dirty_found, same_truth}

@@ -1,45 +1,45 @@
 -- Copies are right after the delivery of a `move`: the object is under way with the word that it had.
 use Rattle.std.proofs.Common.{◌≡◌, inl, ⊎_elim, ℕ, zero, suc, ◌+◌, ◌&&◌, Bool, true, false, List, [], ◌∷◌, ◌++◌, Option, Some, None, option_map, refl, sym, ap, subst, ◌∙◌, arith}
 use Rattle.std.specs.Prelude.{slice_get, slice_set, length, take, drop as drop_first}
-use Rattle.fr_base.specs.declared.instruction.Instr.{Instr}
-use Rattle.fr_base.specs.declared.name.ObjNo.{ObjNo}
-use Rattle.global_addr.specs.Words.{address_of}
-use Rattle.heap_partition.specs.declared.value.Cell.{Cell}
-use Rattle.owner_box.specs.Partition.{freed}
-use Rattle.journal.specs.View.{EntryView}
-use Rattle.journal.specs.declared.act.Act.TheVariants as act
-use Rattle.server_msgs.specs.declared.message.Message.TheVariants as message
-use Rattle.server_model.specs.declared.event.Event.{Event}
-use Rattle.server_model.specs.declared.event.What.TheVariants.{Deliver}
-use Rattle.server_model.specs.Servers.{Rest, Server, Cluster, server_at}
-use Rattle.server_model.specs.Work.{Work, Site, look, look_object, receive, then_some, sent_from, send, note, with_partition}
-use Rattle.server_model.specs.Events.{enabled, does, left_by, received, deliver, deliver_message}
-use Rattle.server_model.specs.Clusters.{with_server, hand_over_newer, done_at, apply}
-use Rattle.heap_law.specs.Names.{Among, other}
-use Rattle.heap_law.specs.Things.{Thing, lies, flies, sent, things_at, cell_things, copy_things, mutex_things, task_things, waiting_things, leaving_things, message_things, server_things, servers_things, things_of}
-use Rattle.heap_law.specs.Sight.{Pointer, is_word, word, sight}
-use Rattle.heap_law.specs.Words.{IsStale, Fresh}
-use Rattle.heap_law.specs.Requests.{not_there}
-use Rattle.heap_law.specs.Coherent.{IsSound}
-use Rattle.heap_law.proofs.Names.{same_number}
-use Rattle.heap_law.proofs.Words.{words_law}
-use Rattle.word_law.specs.Reworded.{HasPlaces}
-use Rattle.word_law.specs.OneMore.{Beside}
-use Rattle.word_law.proofs.OneMore.{one_more_stays}
-use Rattle.event_law.specs.Laws.{Gives, GoTo, FewEvents}
-use Rattle.event_law.proofs.Results.{over_gives, test_gives, both_give}
-use Rattle.event_law.proofs.Bags.{all_standing, body_things, sent_number}
-use Rattle.event_law.proofs.Cells.{looked}
-use Rattle.event_law.proofs.ObjectMessages.{looked_object}
-use Rattle.event_law.proofs.MutexResults.{has}
-use Rattle.event_law.proofs.Applied.{go_with}
-use Rattle.event_law.proofs.Sending.{each_event_sends}
-use Rattle.stay_law.proofs.Alike.{Alike, itself, turned, chain, beside, in_front, blank, goes}
-use Rattle.stay_law.proofs.Servers.{server_body, receives, sends}
-use Rattle.stay_law.proofs.Sites.{ends_alike, servers_alike, replaced, handed_over}
-use Rattle.carry_law.proofs.Far.{leaves_old}
-use Rattle.carry_law.proofs.Leaving.{none_blank, all_cells, one_cell, free_blank}
-use Rattle.copy_law.proofs.Clean.{Leaves as StayAll, cells_on}
+use Rattle.clean_law.specs.Below.fr_base.declared.instruction.Instr.{Instr}
+use Rattle.clean_law.specs.Below.fr_base.declared.name.ObjNo.{ObjNo}
+use Rattle.clean_law.specs.Below.global_addr.Words.{address_of}
+use Rattle.clean_law.specs.Below.heap_partition.declared.value.Cell.{Cell}
+use Rattle.clean_law.specs.Below.owner_box.Partition.{freed}
+use Rattle.clean_law.specs.Below.journal.View.{EntryView}
+use Rattle.clean_law.specs.Below.journal.declared.act.Act.TheVariants as act
+use Rattle.clean_law.specs.Below.server_msgs.declared.message.Message.TheVariants as message
+use Rattle.clean_law.specs.Below.server_model.declared.event.Event.{Event}
+use Rattle.clean_law.specs.Below.server_model.declared.event.What.TheVariants.{Deliver}
+use Rattle.clean_law.specs.Below.server_model.Servers.{Rest, Server, Cluster, server_at}
+use Rattle.clean_law.specs.Below.server_model.Work.{Work, Site, look, look_object, receive, then_some, sent_from, send, note, with_partition}
+use Rattle.clean_law.specs.Below.server_model.Events.{enabled, does, left_by, received, deliver, deliver_message}
+use Rattle.clean_law.specs.Below.server_model.Clusters.{with_server, hand_over_newer, done_at, apply}
+use Rattle.clean_law.specs.Below.heap_law.Names.{Among, other}
+use Rattle.clean_law.specs.Below.heap_law.Things.{Thing, lies, flies, sent, things_at, cell_things, copy_things, mutex_things, task_things, waiting_things, leaving_things, message_things, server_things, servers_things, things_of}
+use Rattle.clean_law.specs.Below.heap_law.Sight.{Pointer, is_word, word, sight}
+use Rattle.clean_law.specs.Below.heap_law.Words.{IsStale, Fresh}
+use Rattle.clean_law.specs.Below.heap_law.Requests.{not_there}
+use Rattle.clean_law.specs.Below.heap_law.Coherent.{IsSound}
+use Rattle.clean_law.proofs.Below.heap_law.Names.{same_number}
+use Rattle.clean_law.proofs.Below.heap_law.Words.{words_law}
+use Rattle.borrow_law.specs.Below.word_law.Reworded.{HasPlaces}
+use Rattle.borrow_law.specs.Below.word_law.OneMore.{Beside}
+use Rattle.borrow_law.proofs.Below.word_law.OneMore.{one_more_stays}
+use Rattle.clean_law.specs.Below.event_law.Laws.{Gives, GoTo, FewEvents}
+use Rattle.clean_law.proofs.Below.event_law.Results.{over_gives, test_gives, both_give}
+use Rattle.clean_law.proofs.Below.event_law.Bags.{all_standing, body_things, sent_number}
+use Rattle.clean_law.proofs.Below.event_law.Cells.{looked}
+use Rattle.clean_law.proofs.Below.event_law.ObjectMessages.{looked_object}
+use Rattle.clean_law.proofs.Below.event_law.MutexResults.{has}
+use Rattle.clean_law.proofs.Below.event_law.Applied.{go_with}
+use Rattle.clean_law.proofs.Below.event_law.Sending.{each_event_sends}
+use Rattle.borrow_law.proofs.Below.stay_law.Alike.{Alike, itself, turned, chain, beside, in_front, blank, goes}
+use Rattle.borrow_law.proofs.Below.stay_law.Servers.{server_body, receives, sends}
+use Rattle.borrow_law.proofs.Below.stay_law.Sites.{ends_alike, servers_alike, replaced, handed_over}
+use Rattle.borrow_law.proofs.Below.carry_law.Far.{leaves_old}
+use Rattle.borrow_law.proofs.Below.carry_law.Leaving.{none_blank, all_cells, one_cell, free_blank}
+use Rattle.clean_law.proofs.Below.copy_law.Clean.{Leaves as StayAll, cells_on}
 use Rattle.clean_law.proofs.Changed.{SameSeen, changed_where, turned_seen}
 use Rattle.clean_law.proofs.Kept.{has_none, none_before, places_before, places_after, kept_where}
 use Rattle.fresh_law.specs.Fresh.{DeliveredMovesKeepCopies}

@@ -1,24 +1,24 @@
 -- Copies are right after a mutable borrow, done or not, whether its object was taken or not.
 use Rattle.std.proofs.Common.{◌≡◌, ℕ, zero, suc, Bool, true, false, Option, Some, refl, sym, ap, subst, ◌∙◌}
 use Rattle.std.specs.Prelude.{slice_get}
-use Rattle.fr_base.specs.declared.place.Lval.{Lval}
-use Rattle.thread_state.specs.View.{ThreadState}
-use Rattle.thread_state.specs.declared.phase.Phase.{Phase}
-use Rattle.server_model.specs.declared.event.What.TheVariants.{Step}
-use Rattle.server_model.specs.Servers.{Server, Cluster, server_at}
-use Rattle.server_model.specs.Work.{thread_in}
-use Rattle.heap_law.specs.Names.{other}
-use Rattle.heap_law.specs.Things.{Location, at_slot}
-use Rattle.heap_law.specs.Follow.{locate, Standing, place_at}
-use Rattle.heap_law.specs.Sight.{sight}
-use Rattle.type_law.specs.ClusterTypes.{IsCoherent}
-use Rattle.event_law.specs.Laws.{FewEvents}
-use Rattle.stay_law.specs.Laws.{mutable}
-use Rattle.prepare_law.proofs.Asking.{found_number}
-use Rattle.heap_law.specs.Requests.{lies_here, taken_there, taken_phase, lent_place}
-use Rattle.event_law.proofs.GiftsTaken.{none_here}
-use Rattle.fr_base.specs.declared.instruction.Instr.TheVariants as instr
-use Rattle.thread_state.specs.declared.phase.Phase.TheVariants as phase
+use Rattle.clean_law.specs.Below.fr_base.declared.place.Lval.{Lval}
+use Rattle.clean_law.specs.Below.thread_state.View.{ThreadState}
+use Rattle.clean_law.specs.Below.thread_state.declared.phase.Phase.{Phase}
+use Rattle.clean_law.specs.Below.server_model.declared.event.What.TheVariants.{Step}
+use Rattle.clean_law.specs.Below.server_model.Servers.{Server, Cluster, server_at}
+use Rattle.clean_law.specs.Below.server_model.Work.{thread_in}
+use Rattle.clean_law.specs.Below.heap_law.Names.{other}
+use Rattle.clean_law.specs.Below.heap_law.Things.{Location, at_slot}
+use Rattle.clean_law.specs.Below.heap_law.Follow.{locate, Standing, place_at}
+use Rattle.clean_law.specs.Below.heap_law.Sight.{sight}
+use Rattle.clean_law.specs.Below.type_law.ClusterTypes.{IsCoherent}
+use Rattle.clean_law.specs.Below.event_law.Laws.{FewEvents}
+use Rattle.borrow_law.specs.Below.stay_law.Laws.{mutable}
+use Rattle.borrow_law.proofs.Below.prepare_law.Asking.{found_number}
+use Rattle.clean_law.specs.Below.heap_law.Requests.{lies_here, taken_there, taken_phase, lent_place}
+use Rattle.clean_law.proofs.Below.event_law.GiftsTaken.{none_here}
+use Rattle.clean_law.specs.Below.fr_base.declared.instruction.Instr.TheVariants as instr
+use Rattle.clean_law.specs.Below.thread_state.declared.phase.Phase.TheVariants as phase
 use Rattle.clean_law.proofs.ReferenceCopies.{variable_borrows_keep}
 use Rattle.fresh_law.specs.Fresh.{LeavesRight, MutableBorrowsKeepCopies}
 use Rattle.fresh_law.proofs.Outcome.{right_by}

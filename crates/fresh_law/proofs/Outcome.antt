@@ -1,28 +1,28 @@
 -- What becomes of a step, by its hand: all stays, one object gets a word under which a copy of it may be asked for, or objects turn. Copies are right after each of these.
 use Rattle.std.proofs.Common.{◌≡◌, ℕ, Bool, true, false, Option, Some, None, option_map, refl, sym, subst, ◌∙◌}
 use Rattle.std.specs.Prelude.{slice_get}
-use Rattle.fr_base.specs.declared.name.ObjNo.{ObjNo}
-use Rattle.fr_base.specs.declared.instruction.Instr.{Instr}
-use Rattle.heap_partition.specs.declared.value.Cell.{Cell}
-use Rattle.thread_state.specs.View.{ThreadState}
-use Rattle.server_model.specs.declared.event.Event.{Event}
-use Rattle.server_model.specs.declared.event.What.TheVariants.{Step}
-use Rattle.server_model.specs.Servers.{Server, Cluster, server_at}
-use Rattle.server_model.specs.Work.{Hand, thread_in, then_some}
-use Rattle.server_model.specs.Events.{enabled, begin_work, Stepped, step, step_in, stepped, does}
-use Rattle.heap_law.specs.Names.{Among}
-use Rattle.heap_law.specs.Things.{things_of}
-use Rattle.heap_law.specs.Follow.{cells_in}
-use Rattle.heap_law.specs.Sight.{is_object_among, sight, issued}
-use Rattle.heap_law.specs.Words.{HasWords}
-use Rattle.heap_law.specs.Coherent.{IsSound}
-use Rattle.word_law.specs.Reworded.{HasPlaces}
-use Rattle.event_law.specs.Laws.{Gives, FewEvents}
-use Rattle.event_law.proofs.Results.{over_gives}
-use Rattle.local_law.proofs.Mail.{Mailed}
-use Rattle.local_law.proofs.Messages.{Light}
-use Rattle.carry_law.proofs.Hands.{ThereBy, put, left_by}
-use Rattle.copy_law.proofs.Clean.{Leaves, all_goes}
+use Rattle.clean_law.specs.Below.fr_base.declared.name.ObjNo.{ObjNo}
+use Rattle.clean_law.specs.Below.fr_base.declared.instruction.Instr.{Instr}
+use Rattle.clean_law.specs.Below.heap_partition.declared.value.Cell.{Cell}
+use Rattle.clean_law.specs.Below.thread_state.View.{ThreadState}
+use Rattle.clean_law.specs.Below.server_model.declared.event.Event.{Event}
+use Rattle.clean_law.specs.Below.server_model.declared.event.What.TheVariants.{Step}
+use Rattle.clean_law.specs.Below.server_model.Servers.{Server, Cluster, server_at}
+use Rattle.clean_law.specs.Below.server_model.Work.{Hand, thread_in, then_some}
+use Rattle.clean_law.specs.Below.server_model.Events.{enabled, begin_work, Stepped, step, step_in, stepped, does}
+use Rattle.clean_law.specs.Below.heap_law.Names.{Among}
+use Rattle.clean_law.specs.Below.heap_law.Things.{things_of}
+use Rattle.clean_law.specs.Below.heap_law.Follow.{cells_in}
+use Rattle.clean_law.specs.Below.heap_law.Sight.{is_object_among, sight, issued}
+use Rattle.clean_law.specs.Below.heap_law.Words.{HasWords}
+use Rattle.clean_law.specs.Below.heap_law.Coherent.{IsSound}
+use Rattle.borrow_law.specs.Below.word_law.Reworded.{HasPlaces}
+use Rattle.clean_law.specs.Below.event_law.Laws.{Gives, FewEvents}
+use Rattle.clean_law.proofs.Below.event_law.Results.{over_gives}
+use Rattle.borrow_law.proofs.Below.local_law.Mail.{Mailed}
+use Rattle.borrow_law.proofs.Below.local_law.Messages.{Light}
+use Rattle.borrow_law.proofs.Below.carry_law.Hands.{ThereBy, put, left_by}
+use Rattle.clean_law.proofs.Below.copy_law.Clean.{Leaves, all_goes}
 use Rattle.clean_law.proofs.Asked.{asking}
 use Rattle.clean_law.proofs.Kept.{has_none, none_before, kept_where, step_asks}
 use Rattle.clean_law.proofs.Worded.{Worded, worded_on, has_none_but}

@@ -1,82 +1,82 @@
 -- Copies are right after a shared borrow through stars, done or not.
 use Rattle.std.proofs.Common.{◌≡◌, ◌⊎◌, inl, inr, ⊎_elim, ℕ, zero, suc, ◌+◌, ◌==◌, Bool, true, false, if◌then◌else◌, List, [], ◌++◌, Option, Some, None, option_map, refl, sym, ap, subst, ◌∙◌}
 use Rattle.std.specs.Prelude.{⊤, slice_get, nat_lt}
-use Rattle.fr_base.specs.declared.place.Lval.{Lval}
-use Rattle.fr_base.specs.declared.instruction.Instr.{Instr}
-use Rattle.fr_base.specs.declared.instruction.Instr.TheVariants as instr
-use Rattle.global_addr.specs.Words.{colour_of, server_of, next_word}
-use Rattle.heap_partition.specs.declared.value.Cell.{Cell}
-use Rattle.heap_partition.specs.declared.value.Owned.{Owned}
-use Rattle.heap_partition.specs.declared.value.Owned.TheVariants as owned
-use Rattle.mut_borrow.specs.Refs.{cleaned_answer}
-use Rattle.mut_borrow.specs.declared.mutable.MutRef.{MutRef}
-use Rattle.mut_borrow.specs.declared.mutable.Cleaned.TheVariants as cleaned
-use Rattle.mut_borrow.specs.declared.shared.SharedRef.{SharedRef}
-use Rattle.thread_state.specs.View.{ThreadState}
-use Rattle.thread_state.specs.declared.phase.Phase.TheVariants as phase
-use Rattle.thread_state.specs.declared.value.Value.{Value}
-use Rattle.thread_state.specs.declared.value.Value.TheVariants as value
-use Rattle.server_model.specs.declared.event.What.TheVariants.{Step}
-use Rattle.server_model.specs.Servers.{Server, Cluster, server_at}
-use Rattle.server_model.specs.Work.{Hand, push_temp, thread_in, without_thread, then_some}
-use Rattle.server_model.specs.NewWords.{NewWord, issue_tint, issue_renewal}
-use Rattle.server_model.specs.Places.{Spot, in_slot, in_cell, in_copy, cell_at, value_at, value_in as cell_value, pointer_of, load_at, took, put_word}
-use Rattle.server_model.specs.Prepare.{Prepared, ready, requested, nothing, and_then, ready_at, ask_object, box_of, cleaned_by, clean_value, read_stars, read_pointer}
-use Rattle.server_model.specs.Commit.{goes_on, shared_from, borrow, borrow_from, commit}
-use Rattle.server_model.specs.Events.{enabled, begin_work, Stepped, committed, prepared, step}
-use Rattle.heap_law.specs.Things.{Location, at_slot, Thing, servers_things}
-use Rattle.heap_law.specs.Follow.{Ground, value_in, locate}
-use Rattle.heap_law.specs.Sight.{sight}
-use Rattle.heap_law.specs.Words.{IsStale}
-use Rattle.type_law.specs.ClusterTypes.{IsCoherent}
-use Rattle.path_law.proofs.Sole.{some_is}
-use Rattle.word_law.specs.Reworded.{HasPlaces}
-use Rattle.word_law.specs.OneMore.{IsClean, Beside}
-use Rattle.word_law.proofs.OneMore.{one_more_stays}
-use Rattle.word_law.proofs.Slots.{set_same}
-use Rattle.word_law.proofs.Tints.{word_put}
-use Rattle.event_law.specs.Laws.{Gives, FewEvents}
-use Rattle.event_law.proofs.Results.{weaker, both_give}
-use Rattle.event_law.proofs.RulesKeep.{sums_kept}
-use Rattle.event_law.proofs.Bags.{all_standing}
-use Rattle.event_law.proofs.Events.{others_of}
-use Rattle.event_law.proofs.AllSteps.{commits}
-use Rattle.event_law.proofs.Steps.{SteppedOk, committed_keeps}
-use Rattle.read_law.specs.Reading.{Reads, LiesUnder, shares as shares_it}
-use Rattle.stay_law.proofs.Sites.{HandAlike}
-use Rattle.stay_law.proofs.Steps.{TakesNoneHere, shared_slot_unseen, hand_itself, pushes, goes_over}
-use Rattle.stay_law.specs.Laws.{shared}
-use Rattle.prepare_law.proofs.Stars.{Spotted, a_slot, a_cell, a_copy, asks_object, walks_loaded}
+use Rattle.clean_law.specs.Below.fr_base.declared.place.Lval.{Lval}
+use Rattle.clean_law.specs.Below.fr_base.declared.instruction.Instr.{Instr}
+use Rattle.clean_law.specs.Below.fr_base.declared.instruction.Instr.TheVariants as instr
+use Rattle.clean_law.specs.Below.global_addr.Words.{colour_of, server_of, next_word}
+use Rattle.clean_law.specs.Below.heap_partition.declared.value.Cell.{Cell}
+use Rattle.clean_law.specs.Below.heap_partition.declared.value.Owned.{Owned}
+use Rattle.clean_law.specs.Below.heap_partition.declared.value.Owned.TheVariants as owned
+use Rattle.clean_law.specs.Below.mut_borrow.Refs.{cleaned_answer}
+use Rattle.clean_law.specs.Below.mut_borrow.declared.mutable.MutRef.{MutRef}
+use Rattle.clean_law.specs.Below.mut_borrow.declared.mutable.Cleaned.TheVariants as cleaned
+use Rattle.clean_law.specs.Below.mut_borrow.declared.shared.SharedRef.{SharedRef}
+use Rattle.clean_law.specs.Below.thread_state.View.{ThreadState}
+use Rattle.clean_law.specs.Below.thread_state.declared.phase.Phase.TheVariants as phase
+use Rattle.clean_law.specs.Below.thread_state.declared.value.Value.{Value}
+use Rattle.clean_law.specs.Below.thread_state.declared.value.Value.TheVariants as value
+use Rattle.clean_law.specs.Below.server_model.declared.event.What.TheVariants.{Step}
+use Rattle.clean_law.specs.Below.server_model.Servers.{Server, Cluster, server_at}
+use Rattle.clean_law.specs.Below.server_model.Work.{Hand, push_temp, thread_in, without_thread, then_some}
+use Rattle.clean_law.specs.Below.server_model.NewWords.{NewWord, issue_tint, issue_renewal}
+use Rattle.clean_law.specs.Below.server_model.Places.{Spot, in_slot, in_cell, in_copy, cell_at, value_at, value_in as cell_value, pointer_of, load_at, took, put_word}
+use Rattle.clean_law.specs.Below.server_model.Prepare.{Prepared, ready, requested, nothing, and_then, ready_at, ask_object, box_of, cleaned_by, clean_value, read_stars, read_pointer}
+use Rattle.clean_law.specs.Below.server_model.Commit.{goes_on, shared_from, borrow, borrow_from, commit}
+use Rattle.clean_law.specs.Below.server_model.Events.{enabled, begin_work, Stepped, committed, prepared, step}
+use Rattle.clean_law.specs.Below.heap_law.Things.{Location, at_slot, Thing, servers_things}
+use Rattle.clean_law.specs.Below.heap_law.Follow.{Ground, value_in, locate}
+use Rattle.clean_law.specs.Below.heap_law.Sight.{sight}
+use Rattle.clean_law.specs.Below.heap_law.Words.{IsStale}
+use Rattle.clean_law.specs.Below.type_law.ClusterTypes.{IsCoherent}
+use Rattle.clean_law.proofs.Below.path_law.Sole.{some_is}
+use Rattle.borrow_law.specs.Below.word_law.Reworded.{HasPlaces}
+use Rattle.borrow_law.specs.Below.word_law.OneMore.{IsClean, Beside}
+use Rattle.borrow_law.proofs.Below.word_law.OneMore.{one_more_stays}
+use Rattle.borrow_law.proofs.Below.word_law.Slots.{set_same}
+use Rattle.borrow_law.proofs.Below.word_law.Tints.{word_put}
+use Rattle.clean_law.specs.Below.event_law.Laws.{Gives, FewEvents}
+use Rattle.clean_law.proofs.Below.event_law.Results.{weaker, both_give}
+use Rattle.clean_law.proofs.Below.event_law.RulesKeep.{sums_kept}
+use Rattle.clean_law.proofs.Below.event_law.Bags.{all_standing}
+use Rattle.clean_law.proofs.Below.event_law.Events.{others_of}
+use Rattle.clean_law.proofs.Below.event_law.AllSteps.{commits}
+use Rattle.clean_law.proofs.Below.event_law.Steps.{SteppedOk, committed_keeps}
+use Rattle.borrow_law.specs.Below.read_law.Reading.{Reads, LiesUnder, shares as shares_it}
+use Rattle.borrow_law.proofs.Below.stay_law.Sites.{HandAlike}
+use Rattle.borrow_law.proofs.Below.stay_law.Steps.{TakesNoneHere, shared_slot_unseen, hand_itself, pushes, goes_over}
+use Rattle.borrow_law.specs.Below.stay_law.Laws.{shared}
+use Rattle.borrow_law.proofs.Below.prepare_law.Stars.{Spotted, a_slot, a_cell, a_copy, asks_object, walks_loaded}
 use Rattle.borrow_law.proofs.OneShare.{shared_pointer, share_more}
 use Rattle.borrow_law.proofs.Sources as sources
 use Rattle.borrow_law.proofs.Sources.{no_value}
 use Rattle.borrow_law.proofs.Pushed.{May, to_slot, to_object, may, coming, shared_on_top, hands_alike}
-use Rattle.journal.specs.declared.act.Act.TheVariants as act
-use Rattle.server_msgs.specs.declared.message.Message.TheVariants as message
-use Rattle.server_model.specs.Servers.{Rest}
-use Rattle.server_model.specs.Prepare.{ask_object}
-use Rattle.server_model.specs.Events.{wait_step}
-use Rattle.heap_partition.specs.declared.value.BoxPtr.{BoxPtr}
-use Rattle.owner_box.specs.Partition.{renewed}
-use Rattle.heap_law.specs.Names.{Among}
-use Rattle.heap_law.specs.Sight.{is_object_among, issued}
-use Rattle.heap_law.specs.Words.{HasWords}
-use Rattle.heap_law.specs.Follow.{cells_in}
-use Rattle.heap_law.specs.Things.{things_of}
-use Rattle.fr_base.specs.declared.name.ObjNo.{ObjNo}
-use Rattle.heap_partition.specs.declared.value.Cell.{Cell}
-use Rattle.global_addr.specs.Words.{server_of}
-use Rattle.local_law.proofs.Mail.{Mailed, mail_sent}
-use Rattle.local_law.proofs.Messages.{Light}
-use Rattle.word_law.specs.OneMore.{OneMore}
-use Rattle.stay_law.proofs.Alike.{Alike, turned as turned_round, chain}
-use Rattle.prepare_law.specs.Requests.{WordsHold}
-use Rattle.prepare_law.proofs.Hands.{Ok, State, Walks, put, places, cleans_at}
-use Rattle.prepare_law.proofs.Untaken.{not_taken}
-use Rattle.prepare_law.proofs.Asking.{found_number}
-use Rattle.carry_law.proofs.Hands.{each_together, puts_alike}
+use Rattle.clean_law.specs.Below.journal.declared.act.Act.TheVariants as act
+use Rattle.clean_law.specs.Below.server_msgs.declared.message.Message.TheVariants as message
+use Rattle.clean_law.specs.Below.server_model.Servers.{Rest}
+use Rattle.clean_law.specs.Below.server_model.Prepare.{ask_object}
+use Rattle.clean_law.specs.Below.server_model.Events.{wait_step}
+use Rattle.clean_law.specs.Below.heap_partition.declared.value.BoxPtr.{BoxPtr}
+use Rattle.clean_law.specs.Below.owner_box.Partition.{renewed}
+use Rattle.clean_law.specs.Below.heap_law.Names.{Among}
+use Rattle.clean_law.specs.Below.heap_law.Sight.{is_object_among, issued}
+use Rattle.clean_law.specs.Below.heap_law.Words.{HasWords}
+use Rattle.clean_law.specs.Below.heap_law.Follow.{cells_in}
+use Rattle.clean_law.specs.Below.heap_law.Things.{things_of}
+use Rattle.clean_law.specs.Below.fr_base.declared.name.ObjNo.{ObjNo}
+use Rattle.clean_law.specs.Below.heap_partition.declared.value.Cell.{Cell}
+use Rattle.clean_law.specs.Below.global_addr.Words.{server_of}
+use Rattle.borrow_law.proofs.Below.local_law.Mail.{Mailed, mail_sent}
+use Rattle.borrow_law.proofs.Below.local_law.Messages.{Light}
+use Rattle.borrow_law.specs.Below.word_law.OneMore.{OneMore}
+use Rattle.borrow_law.proofs.Below.stay_law.Alike.{Alike, turned as turned_round, chain}
+use Rattle.borrow_law.specs.Below.prepare_law.Requests.{WordsHold}
+use Rattle.borrow_law.proofs.Below.prepare_law.Hands.{Ok, State, Walks, put, places, cleans_at}
+use Rattle.borrow_law.proofs.Below.prepare_law.Untaken.{not_taken}
+use Rattle.borrow_law.proofs.Below.prepare_law.Asking.{found_number}
+use Rattle.borrow_law.proofs.Below.carry_law.Hands.{each_together, puts_alike}
 use Rattle.borrow_law.proofs.Renews.{renewed_so}
-use Rattle.copy_law.proofs.Clean.{Leaves, all_goes, cells_on}
+use Rattle.clean_law.proofs.Below.copy_law.Clean.{Leaves, all_goes, cells_on}
 use Rattle.clean_law.proofs.Asked.{asking, ready_asks}
 use Rattle.clean_law.proofs.Changed.{SameSeen, changed_where, turned_seen, all_chain}
 use Rattle.clean_law.proofs.Kept.{has_none}
@@ -84,10 +84,10 @@ use Rattle.clean_law.proofs.ReadCommits.{asks_so}
 use Rattle.clean_law.proofs.ReadAsks.{AsksSo}
 use Rattle.clean_law.proofs.Worded.{Worded, worded_on, has_none_but}
 use Rattle.clean_law.proofs.ReferenceCopies.{variable_borrows_keep}
-use Rattle.stay_law.specs.Laws.{shared}
-use Rattle.result_law.proofs.Starred.{Fine as Read_so}
-use Rattle.event_law.proofs.Prepares.{PreparedOk}
-use Rattle.local_law.proofs.Small.{Made}
+use Rattle.borrow_law.specs.Below.stay_law.Laws.{shared}
+use Rattle.clean_law.proofs.Below.result_law.Starred.{Fine as Read_so}
+use Rattle.clean_law.proofs.Below.event_law.Prepares.{PreparedOk}
+use Rattle.borrow_law.proofs.Below.local_law.Small.{Made}
 use Rattle.clean_law.proofs.ReadHands.{IsCalm}
 use Rattle.std.specs.Bool.{⊤}
 use Rattle.fresh_law.specs.Fresh.{SharedBorrowsKeepCopies, LeavesRight}

@@ -2,51 +2,51 @@
 use Rattle.std.proofs.Common.{◌≡◌, inl, ⊎_elim, ℕ, ◌+◌, ◌==◌, ◌&&◌, nat_lt, Bool, true, false, if◌then◌else◌, ◌∷◌, ◌++◌, Some, None, refl, sym, ap, ap₂, subst, ◌∙◌, arith}
 use Rattle.std.specs.Prelude.{slice_get, length}
 use Rattle.std.proofs.lemmas.Bool.Decides.{nat_tests}
-use Rattle.global_addr.specs.Words.{word_of, colour_of, server_of, address_of, next_word}
-use Rattle.heap_partition.specs.declared.value.Cell.{Cell}
-use Rattle.colour_retire.specs.Colours.{picked}
-use Rattle.owner_box.specs.View.{PartitionState}
-use Rattle.owner_box.specs.Partition.{next_place, freed, renewed, new_word}
-use Rattle.mut_borrow.specs.declared.mutable.MutRef.{MutRef}
-use Rattle.journal.specs.declared.act.Act.TheVariants as act
-use Rattle.thread_state.specs.View.{ThreadState}
-use Rattle.thread_state.specs.declared.value.Value.TheVariants as value
-use Rattle.server_model.specs.Servers.{Server, Cluster, server_at}
-use Rattle.server_model.specs.Work.{Hand, leads_here, note, with_partition, thread_in, without_thread}
-use Rattle.server_model.specs.NewWords.{NewWord, can_grow, is_last, issue_tint, issue_renewal}
-use Rattle.server_model.specs.Places.{in_slot, took, put_word}
-use Rattle.server_model.specs.Prepare.{box_of}
-use Rattle.heap_law.specs.Names.{Among}
-use Rattle.heap_law.specs.Things.{Location, at_slot, lies, servers_things, things_of}
-use Rattle.heap_law.specs.Follow.{cells_in, value_in}
-use Rattle.heap_law.specs.Stale.{holder_of}
-use Rattle.heap_law.specs.Sight.{pointers_in, taken_pointers, is_object_among, sight, issued}
-use Rattle.heap_law.specs.Words.{IsStale, HasWords, LeadsTo}
-use Rattle.heap_law.proofs.Names.{and_left, and_right}
-use Rattle.type_law.specs.ClusterTypes.{IsCoherent}
-use Rattle.path_law.proofs.Origins.{among_first}
-use Rattle.path_law.proofs.Contained.{reference_there}
-use Rattle.word_law.specs.Reworded.{HasPlaces, LiesThere, Reworded}
-use Rattle.word_law.specs.PutBack.{LeadsHome}
-use Rattle.word_law.proofs.Standing.{lying, told}
-use Rattle.word_law.proofs.Grounds.{of_borrows}
-use Rattle.word_law.proofs.Slots.{set_same}
-use Rattle.word_law.proofs.Tints.{SlotPut, slot_put, slot_stands, tint_rewords}
-use Rattle.word_law.proofs.NewWord.{is_new}
-use Rattle.word_law.proofs.Past.{first_issued}
-use Rattle.event_law.specs.Laws.{FewEvents}
-use Rattle.event_law.proofs.Results.{given_by}
-use Rattle.event_law.proofs.RulesKeep.{sums_kept}
-use Rattle.event_law.proofs.Bags.{all_standing}
-use Rattle.event_law.proofs.Events.{others_of}
-use Rattle.event_law.proofs.Objects.{length_set}
-use Rattle.event_law.proofs.NewWords.{puts_word, hand_renews}
-use Rattle.read_law.specs.Reading.{LiesUnder}
-use Rattle.read_law.proofs.Lookups.{one_state}
-use Rattle.prepare_law.proofs.Hands.{Ok, put, places, stands, Walks}
+use Rattle.clean_law.specs.Below.global_addr.Words.{word_of, colour_of, server_of, address_of, next_word}
+use Rattle.clean_law.specs.Below.heap_partition.declared.value.Cell.{Cell}
+use Rattle.clean_law.specs.Below.colour_retire.Colours.{picked}
+use Rattle.clean_law.specs.Below.owner_box.View.{PartitionState}
+use Rattle.clean_law.specs.Below.owner_box.Partition.{next_place, freed, renewed, new_word}
+use Rattle.clean_law.specs.Below.mut_borrow.declared.mutable.MutRef.{MutRef}
+use Rattle.clean_law.specs.Below.journal.declared.act.Act.TheVariants as act
+use Rattle.clean_law.specs.Below.thread_state.View.{ThreadState}
+use Rattle.clean_law.specs.Below.thread_state.declared.value.Value.TheVariants as value
+use Rattle.clean_law.specs.Below.server_model.Servers.{Server, Cluster, server_at}
+use Rattle.clean_law.specs.Below.server_model.Work.{Hand, leads_here, note, with_partition, thread_in, without_thread}
+use Rattle.clean_law.specs.Below.server_model.NewWords.{NewWord, can_grow, is_last, issue_tint, issue_renewal}
+use Rattle.clean_law.specs.Below.server_model.Places.{in_slot, took, put_word}
+use Rattle.clean_law.specs.Below.server_model.Prepare.{box_of}
+use Rattle.clean_law.specs.Below.heap_law.Names.{Among}
+use Rattle.clean_law.specs.Below.heap_law.Things.{Location, at_slot, lies, servers_things, things_of}
+use Rattle.clean_law.specs.Below.heap_law.Follow.{cells_in, value_in}
+use Rattle.clean_law.specs.Below.heap_law.Stale.{holder_of}
+use Rattle.clean_law.specs.Below.heap_law.Sight.{pointers_in, taken_pointers, is_object_among, sight, issued}
+use Rattle.clean_law.specs.Below.heap_law.Words.{IsStale, HasWords, LeadsTo}
+use Rattle.clean_law.proofs.Below.heap_law.Names.{and_left, and_right}
+use Rattle.clean_law.specs.Below.type_law.ClusterTypes.{IsCoherent}
+use Rattle.clean_law.proofs.Below.path_law.Origins.{among_first}
+use Rattle.clean_law.proofs.Below.path_law.Contained.{reference_there}
+use Rattle.borrow_law.specs.Below.word_law.Reworded.{HasPlaces, LiesThere, Reworded}
+use Rattle.borrow_law.specs.Below.word_law.PutBack.{LeadsHome}
+use Rattle.borrow_law.proofs.Below.word_law.Standing.{lying, told}
+use Rattle.borrow_law.proofs.Below.word_law.Grounds.{of_borrows}
+use Rattle.borrow_law.proofs.Below.word_law.Slots.{set_same}
+use Rattle.borrow_law.proofs.Below.word_law.Tints.{SlotPut, slot_put, slot_stands, tint_rewords}
+use Rattle.borrow_law.proofs.Below.word_law.NewWord.{is_new}
+use Rattle.borrow_law.proofs.Below.word_law.Past.{first_issued}
+use Rattle.clean_law.specs.Below.event_law.Laws.{FewEvents}
+use Rattle.clean_law.proofs.Below.event_law.Results.{given_by}
+use Rattle.clean_law.proofs.Below.event_law.RulesKeep.{sums_kept}
+use Rattle.clean_law.proofs.Below.event_law.Bags.{all_standing}
+use Rattle.clean_law.proofs.Below.event_law.Events.{others_of}
+use Rattle.clean_law.proofs.Below.event_law.Objects.{length_set}
+use Rattle.clean_law.proofs.Below.event_law.NewWords.{puts_word, hand_renews}
+use Rattle.borrow_law.specs.Below.read_law.Reading.{LiesUnder}
+use Rattle.borrow_law.proofs.Below.read_law.Lookups.{one_state}
+use Rattle.borrow_law.proofs.Below.prepare_law.Hands.{Ok, put, places, stands, Walks}
 use Rattle.borrow_law.proofs.Below.made_law.Servers.{NextWord, next_word_is}
 use Rattle.borrow_law.proofs.Renews.{renewed_so}
-use Rattle.copy_law.proofs.Clean.{Leaves, thing_cell}
+use Rattle.clean_law.proofs.Below.copy_law.Clean.{Leaves, thing_cell}
 use Rattle.clean_law.proofs.Worded.{Worded, dirty_found}
 use Rattle.fresh_law.proofs.Cleaned.{cleaned}
 

@@ -1,15 +1,15 @@
 -- Clusters on the way of a start, to which words, cells and changed references stay.
 use Rattle.std.proofs.Common.{◌≡◌, Option, refl}
-use Rattle.server_model.specs.Servers.{Cluster}
-use Rattle.heap_law.specs.Things.{Location, things_of}
-use Rattle.heap_law.specs.Follow.{cells_in}
-use Rattle.heap_law.specs.Coherent.{Holds, IsSound, first_at_holder}
-use Rattle.word_law.specs.Reworded.{HasPlaces}
-use Rattle.stay_law.proofs.Alike.{Alike}
-use Rattle.stay_law.proofs.Seen.{seen_alike}
-use Rattle.carry_law.specs.Carried.{Carried}
-use Rattle.refs_law.proofs.Beside.{Reached, reached_itself, reached_same, reached_carried}
-use Rattle.copy_law.proofs.Clean.{KeepsClean, clean_goes}
+use Rattle.clean_law.specs.Below.server_model.Servers.{Cluster}
+use Rattle.clean_law.specs.Below.heap_law.Things.{Location, things_of}
+use Rattle.clean_law.specs.Below.heap_law.Follow.{cells_in}
+use Rattle.clean_law.specs.Below.heap_law.Coherent.{Holds, IsSound, first_at_holder}
+use Rattle.borrow_law.specs.Below.word_law.Reworded.{HasPlaces}
+use Rattle.borrow_law.proofs.Below.stay_law.Alike.{Alike}
+use Rattle.borrow_law.proofs.Below.stay_law.Seen.{seen_alike}
+use Rattle.borrow_law.specs.Below.carry_law.Carried.{Carried}
+use Rattle.clean_law.proofs.Below.refs_law.Beside.{Reached, reached_itself, reached_same, reached_carried}
+use Rattle.clean_law.proofs.Below.copy_law.Clean.{KeepsClean, clean_goes}
 use Rattle.clean_law.proofs.Changed.{clean_chain}
 
 -- words stay to it, and cells and changed references too

@@ -2,87 +2,87 @@
 use Rattle.std.proofs.Common.{◌≡◌, ◌⊎◌, inl, inr, ℕ, suc, ◌==◌, Bool, true, false, if◌then◌else◌, List, [], ◌++◌, Option, Some, None, refl, sym, ap, ap₂, subst, ◌∙◌, ◌≢◌, ⊎_elim, ◌∷◌, arith, ◌+◌}
 use Rattle.std.specs.Prelude.{⊤, slice_get, length}
 use Rattle.std.proofs.lemmas.Bool.{eq-eqb}
-use Rattle.fr_base.specs.declared.place.Lval.{Lval}
-use Rattle.fr_base.specs.declared.instruction.Instr.{Instr}
-use Rattle.heap_partition.specs.declared.value.BoxPtr.{BoxPtr}
-use Rattle.heap_partition.specs.declared.value.Owned.{Owned}
-use Rattle.mut_borrow.specs.declared.mutable.MutRef.{MutRef}
-use Rattle.place_walk.specs.declared.hop.Hop.{Hop}
-use Rattle.place_walk.specs.Hops.{write_hop}
-use Rattle.thread_state.specs.View.{ThreadState}
-use Rattle.thread_state.specs.declared.value.Value.{Value}
-use Rattle.server_model.specs.declared.event.Event.{Event}
-use Rattle.server_model.specs.declared.event.What.TheVariants.{Step}
-use Rattle.server_model.specs.Servers.{Server, Cluster, server_at}
-use Rattle.server_model.specs.Work.{Hand, push_temp, thread_in, without_thread}
-use Rattle.server_model.specs.Places.{Spot, in_slot, value_at, load_at, pointer_of, took}
-use Rattle.server_model.specs.Prepare.{Prepared, ready, requested, nothing, LendTo, and_then, ask_object, request_by, read_stars, is_taken, lend_by, lend_value, lend_pointer, ReadTo}
-use Rattle.server_model.specs.Commit.{go_on, goes_on, lent_word, mutable_from, commit, settle}
-use Rattle.server_model.specs.Events.{enabled, begin_work, Stepped, done_step, committed, prepared, step}
-use Rattle.heap_law.specs.Names.{Among, one, other}
-use Rattle.heap_law.specs.Things.{Location, Thing, servers_things, at_slot, in_cell, stands, things_of}
-use Rattle.heap_law.specs.Follow.{Ground, locate, Standing, value_behind, leads, place_at}
-use Rattle.heap_law.specs.Sight.{sight, taken_object, issued}
-use Rattle.heap_law.specs.Placing.{is_first, phase_word, words}
-use Rattle.heap_law.proofs.Words.{none_at}
-use Rattle.type_law.specs.ClusterTypes.{IsCoherent}
-use Rattle.path_law.proofs.Sole.{some_is}
-use Rattle.word_law.specs.Reworded.{HasPlaces}
-use Rattle.word_law.specs.Unmoved.{Taking, taking_by, taking_of}
-use Rattle.word_law.proofs.Follows.{seen_places_lead}
-use Rattle.word_law.proofs.Standing.{pointer_at}
-use Rattle.event_law.specs.Laws.{Gives, FewEvents}
-use Rattle.event_law.proofs.Results.{over_gives}
-use Rattle.event_law.proofs.Bags.{all_standing}
-use Rattle.event_law.proofs.Events.{others_of}
-use Rattle.read_law.specs.Reading.{Reads, lends}
-use Rattle.still_law.proofs.Prepares.{Fine as Shown}
-use Rattle.still_law.proofs.Readied.{Readied}
-use Rattle.stay_law.proofs.Sites.{HandAlike}
-use Rattle.stay_law.proofs.Steps.{settles}
-use Rattle.turn_law.proofs.ReadWalk.{value_loaded}
-use Rattle.turn_law.proofs.StarLines.{shows}
-use Rattle.prepare_law.proofs.Hands.{Ok, Walks, put, places}
-use Rattle.prepare_law.proofs.Stars.{Spotted, walks_loaded}
+use Rattle.clean_law.specs.Below.fr_base.declared.place.Lval.{Lval}
+use Rattle.clean_law.specs.Below.fr_base.declared.instruction.Instr.{Instr}
+use Rattle.clean_law.specs.Below.heap_partition.declared.value.BoxPtr.{BoxPtr}
+use Rattle.clean_law.specs.Below.heap_partition.declared.value.Owned.{Owned}
+use Rattle.clean_law.specs.Below.mut_borrow.declared.mutable.MutRef.{MutRef}
+use Rattle.clean_law.specs.Below.place_walk.declared.hop.Hop.{Hop}
+use Rattle.clean_law.specs.Below.place_walk.Hops.{write_hop}
+use Rattle.clean_law.specs.Below.thread_state.View.{ThreadState}
+use Rattle.clean_law.specs.Below.thread_state.declared.value.Value.{Value}
+use Rattle.clean_law.specs.Below.server_model.declared.event.Event.{Event}
+use Rattle.clean_law.specs.Below.server_model.declared.event.What.TheVariants.{Step}
+use Rattle.clean_law.specs.Below.server_model.Servers.{Server, Cluster, server_at}
+use Rattle.clean_law.specs.Below.server_model.Work.{Hand, push_temp, thread_in, without_thread}
+use Rattle.clean_law.specs.Below.server_model.Places.{Spot, in_slot, value_at, load_at, pointer_of, took}
+use Rattle.clean_law.specs.Below.server_model.Prepare.{Prepared, ready, requested, nothing, LendTo, and_then, ask_object, request_by, read_stars, is_taken, lend_by, lend_value, lend_pointer, ReadTo}
+use Rattle.clean_law.specs.Below.server_model.Commit.{go_on, goes_on, lent_word, mutable_from, commit, settle}
+use Rattle.clean_law.specs.Below.server_model.Events.{enabled, begin_work, Stepped, done_step, committed, prepared, step}
+use Rattle.clean_law.specs.Below.heap_law.Names.{Among, one, other}
+use Rattle.clean_law.specs.Below.heap_law.Things.{Location, Thing, servers_things, at_slot, in_cell, stands, things_of}
+use Rattle.clean_law.specs.Below.heap_law.Follow.{Ground, locate, Standing, value_behind, leads, place_at}
+use Rattle.clean_law.specs.Below.heap_law.Sight.{sight, taken_object, issued}
+use Rattle.clean_law.specs.Below.heap_law.Placing.{is_first, phase_word, words}
+use Rattle.clean_law.proofs.Below.heap_law.Words.{none_at}
+use Rattle.clean_law.specs.Below.type_law.ClusterTypes.{IsCoherent}
+use Rattle.clean_law.proofs.Below.path_law.Sole.{some_is}
+use Rattle.borrow_law.specs.Below.word_law.Reworded.{HasPlaces}
+use Rattle.borrow_law.specs.Below.word_law.Unmoved.{Taking, taking_by, taking_of}
+use Rattle.borrow_law.proofs.Below.word_law.Follows.{seen_places_lead}
+use Rattle.borrow_law.proofs.Below.word_law.Standing.{pointer_at}
+use Rattle.clean_law.specs.Below.event_law.Laws.{Gives, FewEvents}
+use Rattle.clean_law.proofs.Below.event_law.Results.{over_gives}
+use Rattle.clean_law.proofs.Below.event_law.Bags.{all_standing}
+use Rattle.clean_law.proofs.Below.event_law.Events.{others_of}
+use Rattle.borrow_law.specs.Below.read_law.Reading.{Reads, lends}
+use Rattle.free_law.proofs.Below.still_law.Prepares.{Fine as Shown}
+use Rattle.free_law.proofs.Below.still_law.Readied.{Readied}
+use Rattle.borrow_law.proofs.Below.stay_law.Sites.{HandAlike}
+use Rattle.borrow_law.proofs.Below.stay_law.Steps.{settles}
+use Rattle.borrow_law.proofs.Below.turn_law.ReadWalk.{value_loaded}
+use Rattle.borrow_law.proofs.Below.turn_law.StarLines.{shows}
+use Rattle.borrow_law.proofs.Below.prepare_law.Hands.{Ok, Walks, put, places}
+use Rattle.borrow_law.proofs.Below.prepare_law.Stars.{Spotted, walks_loaded}
 use Rattle.borrow_law.proofs.LentOne.{LentOne}
 use Rattle.borrow_law.proofs.OnTop.{lent_on_top, takings_were, takings_but, taking_there}
-use Rattle.heap_law.specs.Requests.{has_word, last_hop, taken_again, old_word, lies_here, taken_there, taken_phase, lent_place}
-use Rattle.heap_law.specs.Stale.{one_star_less}
-use Rattle.event_law.proofs.GiftsTaken.{none_here}
-use Rattle.carry_law.proofs.Far.{thread_thing}
+use Rattle.clean_law.specs.Below.heap_law.Requests.{has_word, last_hop, taken_again, old_word, lies_here, taken_there, taken_phase, lent_place}
+use Rattle.clean_law.specs.Below.heap_law.Stale.{one_star_less}
+use Rattle.clean_law.proofs.Below.event_law.GiftsTaken.{none_here}
+use Rattle.borrow_law.proofs.Below.carry_law.Far.{thread_thing}
 use Rattle.borrow_law.proofs.Below.ask_law.Unasked.{Unasked}
 use Rattle.borrow_law.proofs.AtHand.{unasked}
-use Rattle.event_law.proofs.RulesKeep.{sums_kept}
-use Rattle.fr_base.specs.declared.step.Fresh.TheVariants as fresh
-use Rattle.fr_base.specs.declared.instruction.Instr.TheVariants as instr
-use Rattle.heap_partition.specs.declared.value.Owned.TheVariants as owned
-use Rattle.place_walk.specs.declared.hop.Hop.TheVariants as hop
-use Rattle.thread_state.specs.declared.phase.Phase.TheVariants as phase
-use Rattle.thread_state.specs.declared.value.Value.TheVariants as value
+use Rattle.clean_law.proofs.Below.event_law.RulesKeep.{sums_kept}
+use Rattle.clean_law.specs.Below.fr_base.declared.step.Fresh.TheVariants as fresh
+use Rattle.clean_law.specs.Below.fr_base.declared.instruction.Instr.TheVariants as instr
+use Rattle.clean_law.specs.Below.heap_partition.declared.value.Owned.TheVariants as owned
+use Rattle.clean_law.specs.Below.place_walk.declared.hop.Hop.TheVariants as hop
+use Rattle.clean_law.specs.Below.thread_state.declared.phase.Phase.TheVariants as phase
+use Rattle.clean_law.specs.Below.thread_state.declared.value.Value.TheVariants as value
 use Rattle.borrow_law.proofs.Sources as sources
 use Rattle.borrow_law.proofs.Made.{Lendable, slot, box, reference, lendable}
 use Rattle.borrow_law.proofs.Lends.{points_somewhere, own_no_mut, its_first}
-use Rattle.server_model.specs.Servers.{Rest}
-use Rattle.heap_law.specs.Words.{HasWords}
-use Rattle.local_law.proofs.Mail.{Mailed}
-use Rattle.local_law.proofs.Messages.{Light}
-use Rattle.copy_law.proofs.Clean.{Leaves, all_goes}
+use Rattle.clean_law.specs.Below.server_model.Servers.{Rest}
+use Rattle.clean_law.specs.Below.heap_law.Words.{HasWords}
+use Rattle.borrow_law.proofs.Below.local_law.Mail.{Mailed}
+use Rattle.borrow_law.proofs.Below.local_law.Messages.{Light}
+use Rattle.clean_law.proofs.Below.copy_law.Clean.{Leaves, all_goes}
 use Rattle.clean_law.proofs.Asked.{asking}
 use Rattle.fresh_law.proofs.Outcome.{Left}
-use Rattle.word_law.proofs.Put.{put_split}
-use Rattle.carry_law.proofs.Replaced.{cells_same}
-use Rattle.carry_law.proofs.Hands.{each_together, stands_here}
+use Rattle.borrow_law.proofs.Below.word_law.Put.{put_split}
+use Rattle.borrow_law.proofs.Below.carry_law.Replaced.{cells_same}
+use Rattle.borrow_law.proofs.Below.carry_law.Hands.{each_together, stands_here}
 use Rattle.clean_law.proofs.ReadHands.{IsCalm, calm_start, calm_ready, read_alike}
-use Rattle.result_law.proofs.Starred.{Fine as Read_so, bound}
-use Rattle.result_law.proofs.Readers.{stars_fine}
-use Rattle.event_law.proofs.Prepares.{PreparedOk, prepares}
-use Rattle.local_law.proofs.Small.{Made as MadeSo}
-use Rattle.heap_law.specs.Follow.{cells_in}
+use Rattle.clean_law.proofs.Below.result_law.Starred.{Fine as Read_so, bound}
+use Rattle.clean_law.proofs.Below.result_law.Readers.{stars_fine}
+use Rattle.clean_law.proofs.Below.event_law.Prepares.{PreparedOk, prepares}
+use Rattle.borrow_law.proofs.Below.local_law.Small.{Made as MadeSo}
+use Rattle.clean_law.specs.Below.heap_law.Follow.{cells_in}
 use Rattle.fresh_law.proofs.LentMarks.{lent_turned}
-use Rattle.result_law.proofs.Known.{Steps}
-use Rattle.result_law.proofs.Reading.{Reading}
-use Rattle.local_law.proofs.Mail.{Mail}
-use Rattle.carry_law.proofs.Hands.{moved_goes, seen, first_ok}
+use Rattle.clean_law.proofs.Below.result_law.Known.{Steps}
+use Rattle.clean_law.proofs.Below.result_law.Reading.{Reading}
+use Rattle.borrow_law.proofs.Below.local_law.Mail.{Mail}
+use Rattle.borrow_law.proofs.Below.carry_law.Hands.{moved_goes, seen, first_ok}
 use Rattle.borrow_law.proofs.AtHand as at_hand
 use Rattle.fresh_law.proofs.Lending as making
 

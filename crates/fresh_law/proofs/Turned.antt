@@ -1,33 +1,33 @@
 -- What becomes of clean cells where each object is what it was, or hidden: under a word that wasn't issued, or changed through a reference, and no copy of it was asked for.
 use Rattle.std.proofs.Common.{◌≡◌, ◌⊎◌, inl, inr, ⊎_elim, ℕ, zero, suc, ◌≤◌, ◌+◌, ◌==◌, true, false, List, Option, Some, None, is_some, refl, sym, ap, subst, ◌∙◌, arith}
 use Rattle.std.proofs.lemmas.Bool.{eqb-true, eq-eqb}
-use Rattle.fr_base.specs.declared.name.ObjNo.{ObjNo}
-use Rattle.heap_partition.specs.declared.value.Cell.{Cell}
-use Rattle.journal.specs.View.{EntryView}
-use Rattle.server_msgs.specs.declared.message.Message.{Message}
-use Rattle.server_msgs.specs.declared.message.Message.TheVariants as message
-use Rattle.server_model.specs.declared.event.Event.{Event}
-use Rattle.server_model.specs.Servers.{Cluster}
-use Rattle.server_model.specs.Clusters.{apply}
-use Rattle.heap_law.specs.Names.{tot, one, other, some, Among}
-use Rattle.heap_law.specs.Things.{Thing, sent, things_of}
-use Rattle.heap_law.specs.Follow.{cells_in}
-use Rattle.heap_law.specs.Stale.{Reference, holder_of}
-use Rattle.heap_law.specs.Sight.{is_word, is_object_among, sight, word, issued}
-use Rattle.heap_law.specs.Words.{HasWords}
-use Rattle.heap_law.specs.Placing.{clean_cell, unclean, unclean_request}
-use Rattle.heap_law.specs.Coherent.{IsSound, Holds, copies_agree}
-use Rattle.heap_law.proofs.Words.{none_at, none_all, told as told_stale}
-use Rattle.path_law.proofs.Contained.{reference_there}
-use Rattle.word_law.specs.Reworded.{HasPlaces}
-use Rattle.word_law.proofs.Standing.{borrow_stands}
-use Rattle.event_law.specs.Laws.{Gives, FewEvents}
-use Rattle.event_law.proofs.Results.{both_give}
-use Rattle.local_law.proofs.Messages.{on_sent}
-use Rattle.result_law.proofs.Flights.{has_weight}
-use Rattle.copy_law.specs.Copies.{CellsGoOn, CopiesAreRight}
-use Rattle.copy_law.proofs.Clean.{ChangedGo, Leaves, found_by, told, one_of_word}
-use Rattle.copy_law.proofs.KeptCopies.{come_from_copies}
+use Rattle.clean_law.specs.Below.fr_base.declared.name.ObjNo.{ObjNo}
+use Rattle.clean_law.specs.Below.heap_partition.declared.value.Cell.{Cell}
+use Rattle.clean_law.specs.Below.journal.View.{EntryView}
+use Rattle.clean_law.specs.Below.server_msgs.declared.message.Message.{Message}
+use Rattle.clean_law.specs.Below.server_msgs.declared.message.Message.TheVariants as message
+use Rattle.clean_law.specs.Below.server_model.declared.event.Event.{Event}
+use Rattle.clean_law.specs.Below.server_model.Servers.{Cluster}
+use Rattle.clean_law.specs.Below.server_model.Clusters.{apply}
+use Rattle.clean_law.specs.Below.heap_law.Names.{tot, one, other, some, Among}
+use Rattle.clean_law.specs.Below.heap_law.Things.{Thing, sent, things_of}
+use Rattle.clean_law.specs.Below.heap_law.Follow.{cells_in}
+use Rattle.clean_law.specs.Below.heap_law.Stale.{Reference, holder_of}
+use Rattle.clean_law.specs.Below.heap_law.Sight.{is_word, is_object_among, sight, word, issued}
+use Rattle.clean_law.specs.Below.heap_law.Words.{HasWords}
+use Rattle.clean_law.specs.Below.heap_law.Placing.{clean_cell, unclean, unclean_request}
+use Rattle.clean_law.specs.Below.heap_law.Coherent.{IsSound, Holds, copies_agree}
+use Rattle.clean_law.proofs.Below.heap_law.Words.{none_at, none_all, told as told_stale}
+use Rattle.clean_law.proofs.Below.path_law.Contained.{reference_there}
+use Rattle.borrow_law.specs.Below.word_law.Reworded.{HasPlaces}
+use Rattle.borrow_law.proofs.Below.word_law.Standing.{borrow_stands}
+use Rattle.clean_law.specs.Below.event_law.Laws.{Gives, FewEvents}
+use Rattle.clean_law.proofs.Below.event_law.Results.{both_give}
+use Rattle.borrow_law.proofs.Below.local_law.Messages.{on_sent}
+use Rattle.clean_law.proofs.Below.result_law.Flights.{has_weight}
+use Rattle.clean_law.specs.Below.copy_law.Copies.{CellsGoOn, CopiesAreRight}
+use Rattle.clean_law.proofs.Below.copy_law.Clean.{ChangedGo, Leaves, found_by, told, one_of_word}
+use Rattle.clean_law.proofs.Below.copy_law.KeptCopies.{come_from_copies}
 use Rattle.clean_law.proofs.Asked.{asking}
 use Rattle.clean_law.proofs.Kept.{has_none, none_before}
 use Rattle.clean_law.proofs.CleanReads.{finds_word, dirty_one}

@@ -1,84 +1,84 @@
 -- A mutable borrow of a thread that hasn't taken an object, done or not: each object is what it was, or one gets a word under which a copy of it is asked for.
 use Rattle.std.proofs.Common.{◌≡◌, ◌⊎◌, inl, inr, ℕ, suc, Bool, true, false, if◌then◌else◌, List, [], ◌++◌, Option, Some, None, refl, sym, ap, subst, ◌∙◌, ◌+◌}
 use Rattle.std.specs.Prelude.{⊤, slice_get, length}
-use Rattle.fr_base.specs.declared.place.Lval.{Lval}
-use Rattle.fr_base.specs.declared.instruction.Instr.{Instr}
-use Rattle.heap_partition.specs.declared.value.BoxPtr.{BoxPtr}
-use Rattle.mut_borrow.specs.declared.mutable.MutRef.{MutRef}
-use Rattle.place_walk.specs.declared.hop.Hop.{Hop}
-use Rattle.place_walk.specs.Hops.{write_hop}
-use Rattle.thread_state.specs.View.{ThreadState}
-use Rattle.thread_state.specs.declared.phase.Phase.{Phase}
-use Rattle.thread_state.specs.declared.value.Value.{Value}
-use Rattle.server_model.specs.declared.event.Event.{Event}
-use Rattle.server_model.specs.declared.event.What.TheVariants.{Step}
-use Rattle.server_model.specs.Servers.{Server, Cluster, server_at}
-use Rattle.server_model.specs.Work.{Hand, push_temp, thread_in, without_thread}
-use Rattle.server_model.specs.Places.{Spot, in_slot, value_at, load_at, pointer_of}
-use Rattle.server_model.specs.Prepare.{Prepared, ready, requested, nothing, LendTo, and_then, ask_object, request_by, read_stars, is_taken, lend_by, lend_value, lend_pointer}
-use Rattle.server_model.specs.Commit.{go_on, goes_on, lent_word, mutable_from, commit, settle}
-use Rattle.server_model.specs.Events.{enabled, begin_work, Stepped, done_step, committed, prepared, step}
-use Rattle.heap_law.specs.Names.{Among}
-use Rattle.heap_law.specs.Things.{Location, Thing, servers_things, things_of}
-use Rattle.heap_law.specs.Follow.{Ground, locate}
-use Rattle.heap_law.specs.Sight.{sight}
-use Rattle.heap_law.specs.Placing.{is_first}
-use Rattle.type_law.specs.ClusterTypes.{IsCoherent}
-use Rattle.path_law.proofs.Sole.{some_is}
-use Rattle.word_law.specs.Reworded.{HasPlaces}
-use Rattle.word_law.proofs.Follows.{seen_places_lead}
-use Rattle.word_law.proofs.Standing.{pointer_at}
-use Rattle.event_law.specs.Laws.{Gives, FewEvents}
-use Rattle.event_law.proofs.Results.{weaker, over_gives}
-use Rattle.event_law.proofs.Bags.{all_standing}
-use Rattle.event_law.proofs.Events.{others_of}
-use Rattle.read_law.specs.Reading.{Reads, lends}
-use Rattle.still_law.proofs.Prepares.{Fine as Shown}
-use Rattle.still_law.proofs.Readied.{Readied}
-use Rattle.stay_law.proofs.Sites.{HandAlike}
-use Rattle.stay_law.proofs.Steps.{TakesNoneHere, mut_slot_unseen, pushes, settles, goes_over}
-use Rattle.turn_law.proofs.ReadWalk.{value_loaded}
-use Rattle.turn_law.proofs.StarLines.{shows}
-use Rattle.prepare_law.proofs.Hands.{Ok, State, Walks, put, places}
-use Rattle.prepare_law.proofs.Stars.{Spotted, asks_object, walks_loaded}
+use Rattle.clean_law.specs.Below.fr_base.declared.place.Lval.{Lval}
+use Rattle.clean_law.specs.Below.fr_base.declared.instruction.Instr.{Instr}
+use Rattle.clean_law.specs.Below.heap_partition.declared.value.BoxPtr.{BoxPtr}
+use Rattle.clean_law.specs.Below.mut_borrow.declared.mutable.MutRef.{MutRef}
+use Rattle.clean_law.specs.Below.place_walk.declared.hop.Hop.{Hop}
+use Rattle.clean_law.specs.Below.place_walk.Hops.{write_hop}
+use Rattle.clean_law.specs.Below.thread_state.View.{ThreadState}
+use Rattle.clean_law.specs.Below.thread_state.declared.phase.Phase.{Phase}
+use Rattle.clean_law.specs.Below.thread_state.declared.value.Value.{Value}
+use Rattle.clean_law.specs.Below.server_model.declared.event.Event.{Event}
+use Rattle.clean_law.specs.Below.server_model.declared.event.What.TheVariants.{Step}
+use Rattle.clean_law.specs.Below.server_model.Servers.{Server, Cluster, server_at}
+use Rattle.clean_law.specs.Below.server_model.Work.{Hand, push_temp, thread_in, without_thread}
+use Rattle.clean_law.specs.Below.server_model.Places.{Spot, in_slot, value_at, load_at, pointer_of}
+use Rattle.clean_law.specs.Below.server_model.Prepare.{Prepared, ready, requested, nothing, LendTo, and_then, ask_object, request_by, read_stars, is_taken, lend_by, lend_value, lend_pointer}
+use Rattle.clean_law.specs.Below.server_model.Commit.{go_on, goes_on, lent_word, mutable_from, commit, settle}
+use Rattle.clean_law.specs.Below.server_model.Events.{enabled, begin_work, Stepped, done_step, committed, prepared, step}
+use Rattle.clean_law.specs.Below.heap_law.Names.{Among}
+use Rattle.clean_law.specs.Below.heap_law.Things.{Location, Thing, servers_things, things_of}
+use Rattle.clean_law.specs.Below.heap_law.Follow.{Ground, locate}
+use Rattle.clean_law.specs.Below.heap_law.Sight.{sight}
+use Rattle.clean_law.specs.Below.heap_law.Placing.{is_first}
+use Rattle.clean_law.specs.Below.type_law.ClusterTypes.{IsCoherent}
+use Rattle.clean_law.proofs.Below.path_law.Sole.{some_is}
+use Rattle.borrow_law.specs.Below.word_law.Reworded.{HasPlaces}
+use Rattle.borrow_law.proofs.Below.word_law.Follows.{seen_places_lead}
+use Rattle.borrow_law.proofs.Below.word_law.Standing.{pointer_at}
+use Rattle.clean_law.specs.Below.event_law.Laws.{Gives, FewEvents}
+use Rattle.clean_law.proofs.Below.event_law.Results.{weaker, over_gives}
+use Rattle.clean_law.proofs.Below.event_law.Bags.{all_standing}
+use Rattle.clean_law.proofs.Below.event_law.Events.{others_of}
+use Rattle.borrow_law.specs.Below.read_law.Reading.{Reads, lends}
+use Rattle.free_law.proofs.Below.still_law.Prepares.{Fine as Shown}
+use Rattle.free_law.proofs.Below.still_law.Readied.{Readied}
+use Rattle.borrow_law.proofs.Below.stay_law.Sites.{HandAlike}
+use Rattle.borrow_law.proofs.Below.stay_law.Steps.{TakesNoneHere, mut_slot_unseen, pushes, settles, goes_over}
+use Rattle.borrow_law.proofs.Below.turn_law.ReadWalk.{value_loaded}
+use Rattle.borrow_law.proofs.Below.turn_law.StarLines.{shows}
+use Rattle.borrow_law.proofs.Below.prepare_law.Hands.{Ok, State, Walks, put, places}
+use Rattle.borrow_law.proofs.Below.prepare_law.Stars.{Spotted, asks_object, walks_loaded}
 use Rattle.borrow_law.proofs.LentOne.{LentOne}
 use Rattle.borrow_law.proofs.OnTop.{same_takings, lent_on_top}
-use Rattle.fr_base.specs.declared.step.Fresh.TheVariants as fresh
-use Rattle.fr_base.specs.declared.instruction.Instr.TheVariants as instr
-use Rattle.heap_partition.specs.declared.value.Owned.TheVariants as owned
-use Rattle.place_walk.specs.declared.hop.Hop.TheVariants as hop
-use Rattle.thread_state.specs.declared.phase.Phase.TheVariants as phase
-use Rattle.thread_state.specs.declared.value.Value.TheVariants as value
+use Rattle.clean_law.specs.Below.fr_base.declared.step.Fresh.TheVariants as fresh
+use Rattle.clean_law.specs.Below.fr_base.declared.instruction.Instr.TheVariants as instr
+use Rattle.clean_law.specs.Below.heap_partition.declared.value.Owned.TheVariants as owned
+use Rattle.clean_law.specs.Below.place_walk.declared.hop.Hop.TheVariants as hop
+use Rattle.clean_law.specs.Below.thread_state.declared.phase.Phase.TheVariants as phase
+use Rattle.clean_law.specs.Below.thread_state.declared.value.Value.TheVariants as value
 use Rattle.borrow_law.proofs.Sources as sources
 use Rattle.borrow_law.proofs.Made.{Lendable, slot, box, reference, lendable}
 use Rattle.borrow_law.proofs.Lends.{points_somewhere, own_no_mut, its_first}
-use Rattle.server_model.specs.Servers.{Rest}
-use Rattle.server_model.specs.Events.{wait_step}
-use Rattle.heap_law.specs.Words.{HasWords}
-use Rattle.local_law.proofs.Mail.{Mailed, mail_sent}
-use Rattle.local_law.proofs.Messages.{Light}
-use Rattle.copy_law.proofs.Clean.{Leaves, all_goes}
+use Rattle.clean_law.specs.Below.server_model.Servers.{Rest}
+use Rattle.clean_law.specs.Below.server_model.Events.{wait_step}
+use Rattle.clean_law.specs.Below.heap_law.Words.{HasWords}
+use Rattle.borrow_law.proofs.Below.local_law.Mail.{Mailed, mail_sent}
+use Rattle.borrow_law.proofs.Below.local_law.Messages.{Light}
+use Rattle.clean_law.proofs.Below.copy_law.Clean.{Leaves, all_goes}
 use Rattle.clean_law.proofs.Asked.{asking}
 use Rattle.fresh_law.proofs.Outcome.{Left, stayed}
-use Rattle.word_law.proofs.Put.{put_split}
-use Rattle.carry_law.proofs.Replaced.{cells_same}
-use Rattle.carry_law.proofs.Hands.{each_together, puts_alike, stands_here}
+use Rattle.borrow_law.proofs.Below.word_law.Put.{put_split}
+use Rattle.borrow_law.proofs.Below.carry_law.Replaced.{cells_same}
+use Rattle.borrow_law.proofs.Below.carry_law.Hands.{each_together, puts_alike, stands_here}
 use Rattle.clean_law.proofs.Changed.{all_chain}
 use Rattle.clean_law.proofs.Kept.{has_none}
 use Rattle.clean_law.proofs.ReadCommits.{asks_so}
 use Rattle.clean_law.proofs.ReadAsks.{AsksSo}
 use Rattle.clean_law.proofs.ReadHands.{IsCalm}
-use Rattle.result_law.proofs.Starred.{Fine as Read_so}
-use Rattle.event_law.proofs.Prepares.{PreparedOk}
-use Rattle.local_law.proofs.Small.{Made as MadeSo}
-use Rattle.global_addr.specs.Words.{server_of}
-use Rattle.journal.specs.declared.act.Act.TheVariants as act
-use Rattle.server_msgs.specs.declared.message.Message.TheVariants as message
-use Rattle.heap_law.specs.Follow.{cells_in}
+use Rattle.clean_law.proofs.Below.result_law.Starred.{Fine as Read_so}
+use Rattle.clean_law.proofs.Below.event_law.Prepares.{PreparedOk}
+use Rattle.borrow_law.proofs.Below.local_law.Small.{Made as MadeSo}
+use Rattle.clean_law.specs.Below.global_addr.Words.{server_of}
+use Rattle.clean_law.specs.Below.journal.declared.act.Act.TheVariants as act
+use Rattle.clean_law.specs.Below.server_msgs.declared.message.Message.TheVariants as message
+use Rattle.clean_law.specs.Below.heap_law.Follow.{cells_in}
 use Rattle.fresh_law.proofs.LentMarks.{lent_turned, all_same}
 use Rattle.fresh_law.proofs.Following as following
 use Rattle.fresh_law.proofs.Asking.{asked_left}
-use Rattle.result_law.proofs.Known.{Steps}
+use Rattle.clean_law.proofs.Below.result_law.Known.{Steps}
 use Rattle.fresh_law.proofs.Lending as making
 
 -- of a phase in which no object is taken the reference has its pointer's word

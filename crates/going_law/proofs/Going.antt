@@ -1,11 +1,11 @@
 -- A coherent cluster that is going has a next event with a result, and runs from a start come to such clusters.
 use Rattle.std.proofs.Common.{◌≡◌, List, [], ◌∷◌, length, refl, arith}
-use Rattle.journal.specs.View.{EntryView}
-use Rattle.server_model.specs.declared.event.Event.{Event}
-use Rattle.server_model.specs.Servers.{Cluster, start_of}
-use Rattle.server_model.specs.Clusters.{apply, outboxes}
-use Rattle.event_law.specs.Laws.{Gives}
-use Rattle.event_law.proofs.Results.{then_gives, over_gives, both_give, given_by}
+use Rattle.ending_law.specs.Below.journal.View.{EntryView}
+use Rattle.ending_law.specs.Below.server_model.declared.event.Event.{Event}
+use Rattle.ending_law.specs.Below.server_model.Servers.{Cluster, start_of}
+use Rattle.ending_law.specs.Below.server_model.Clusters.{apply, outboxes}
+use Rattle.ending_law.specs.Below.event_law.Laws.{Gives}
+use Rattle.ending_law.proofs.Below.event_law.Results.{then_gives, over_gives, both_give, given_by}
 use Rattle.enabled_law.proofs.Each.{each_event}
 use Rattle.ending_law.proofs.Going.{going_can}
 use Rattle.ending_law.proofs.Left.{finished_is_empty}

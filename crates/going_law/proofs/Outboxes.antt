@@ -1,12 +1,12 @@
 -- No event leaves a message in an outbox.
 use Rattle.std.proofs.Common.{◌≡◌, ℕ, zero, suc, ◌+◌, ◌==◌, Bool, true, false, if◌then◌else◌, List, [], ◌∷◌, ◌++◌, length, Some, refl, ap, subst, ◌∙◌}
 use Rattle.std.specs.Prelude.{take, drop}
-use Rattle.fr_typing.proofs.PlaceLemmas.{eq_cases}
-use Rattle.fr_base.specs.declared.settings.Options.{Options}
-use Rattle.journal.specs.View.{EntryView}
-use Rattle.server_model.specs.Servers.{Sent, Server, Cluster, server_at, empty_servers, with_main}
-use Rattle.server_model.specs.Clusters.{with_server, with_outbox, accept, accept_at, accept_all, hand_over_newer, outboxes, done_at}
-use Rattle.event_law.proofs.Results.{then_gives, map_gives}
+use Rattle.ending_law.proofs.Below.fr_typing.PlaceLemmas.{eq_cases}
+use Rattle.ending_law.specs.Below.fr_base.declared.settings.Options.{Options}
+use Rattle.ending_law.specs.Below.journal.View.{EntryView}
+use Rattle.ending_law.specs.Below.server_model.Servers.{Sent, Server, Cluster, server_at, empty_servers, with_main}
+use Rattle.ending_law.specs.Below.server_model.Clusters.{with_server, with_outbox, accept, accept_at, accept_all, hand_over_newer, outboxes, done_at}
+use Rattle.ending_law.proofs.Below.event_law.Results.{then_gives, map_gives}
 use Rattle.going_law.specs.Going.{OutboxesStayEmpty}
 
 -- a message that comes leaves outboxes

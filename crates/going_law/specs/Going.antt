@@ -1,18 +1,18 @@
 -- RUNS GO ON (this project's rule): by steps of threads and deliveries, until they are finished or deadlocked.
 use Rattle.std.specs.Prelude.{◌≡◌, ◌+◌, ◌<◌, ◌^◌, true, List, [], length, IsSome}
-use Rattle.fr_base.specs.declared.instruction.Instr.{Instr}
-use Rattle.fr_base.specs.declared.settings.Options.{Options}
-use Rattle.fr_base.specs.declared.step.Ending3.TheVariants.{Going, Finished}
-use Rattle.fr_code.specs.CodeTypes.{Table}
-use Rattle.fr_code.specs.CodeTable.{IsTable}
-use Rattle.journal.specs.View.{EntryView}
-use Rattle.server_model.specs.declared.event.Event.{Event}
-use Rattle.server_model.specs.Servers.{Cluster, start_of}
-use Rattle.server_model.specs.Clusters.{apply, outboxes}
-use Rattle.drive_model.specs.Ending.{ending}
-use Rattle.heap_law.specs.Naming.{options_out}
-use Rattle.type_law.specs.ClusterTypes.{IsCoherent}
-use Rattle.event_law.specs.Laws.{Gives, FewEvents}
+use Rattle.ending_law.specs.Below.fr_base.declared.instruction.Instr.{Instr}
+use Rattle.ending_law.specs.Below.fr_base.declared.settings.Options.{Options}
+use Rattle.ending_law.specs.Below.fr_base.declared.step.Ending3.TheVariants.{Going, Finished}
+use Rattle.ending_law.specs.Below.fr_code.CodeTypes.{Table}
+use Rattle.ending_law.specs.Below.fr_code.CodeTable.{IsTable}
+use Rattle.ending_law.specs.Below.journal.View.{EntryView}
+use Rattle.ending_law.specs.Below.server_model.declared.event.Event.{Event}
+use Rattle.ending_law.specs.Below.server_model.Servers.{Cluster, start_of}
+use Rattle.ending_law.specs.Below.server_model.Clusters.{apply, outboxes}
+use Rattle.ending_law.specs.Below.drive_model.Ending.{ending}
+use Rattle.ending_law.specs.Below.heap_law.Naming.{options_out}
+use Rattle.start_law.specs.Below.type_law.ClusterTypes.{IsCoherent}
+use Rattle.ending_law.specs.Below.event_law.Laws.{Gives, FewEvents}
 use Rattle.ending_law.specs.Going.{goes_on}
 use Rattle.ending_law.specs.Left.{NothingLeft}
 use Rattle.run_law.specs.Runs.{run_of, EachKeepsCoherence}

@@ -1,3 +1,4 @@
+pub mod Below
 pub mod Sums
 mod Starts
 mod ChosenRuns

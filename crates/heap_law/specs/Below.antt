@@ -1,2 +1,19 @@
 -- What this law stands on, passed on to the laws above it, which need not list that then.
+pub use Rattle.coloured_heap.specs as coloured_heap
+pub use Rattle.fr_base.specs as fr_base
+pub use Rattle.fr_code.specs as fr_code
+pub use Rattle.fr_plain.specs as fr_plain
+pub use Rattle.fr_store.specs as fr_store
+pub use Rattle.fr_typing.specs as fr_typing
+pub use Rattle.global_addr.specs as global_addr
+pub use Rattle.heap_partition.specs as heap_partition
+pub use Rattle.join_home.specs as join_home
+pub use Rattle.journal.specs as journal
+pub use Rattle.migration.specs as migration
+pub use Rattle.mut_borrow.specs as mut_borrow
+pub use Rattle.mutex_home.specs as mutex_home
+pub use Rattle.owner_box.specs as owner_box
+pub use Rattle.read_cache.specs as read_cache
 pub use Rattle.server_model.specs as server_model
+pub use Rattle.server_msgs.specs as server_msgs
+pub use Rattle.thread_state.specs as thread_state

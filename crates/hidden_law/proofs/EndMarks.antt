@@ -1,31 +1,31 @@
 -- A mutable reference ends that is clean and isn't stale: the same objects are changed through references as before.
 use Rattle.std.proofs.Common.{◌≡◌, ◌≢◌, ◌⊎◌, inl, inr, ⊎_elim, ℕ, ◌==◌, ◌||◌, not, Bool, true, false, List, [], Some, None, refl, sym, ap, subst, ◌∙◌, arith}
 use Rattle.std.proofs.lemmas.Bool.Decides.{nat_tests}
-use Rattle.fr_base.specs.declared.name.ObjNo.{ObjNo}
-use Rattle.heap_partition.specs.declared.value.Owned.TheVariants as owned
-use Rattle.mut_borrow.specs.declared.mutable.MutRef.{MutRef}
-use Rattle.mut_borrow.specs.Refs.{changed}
-use Rattle.thread_state.specs.declared.value.Value.{Value}
-use Rattle.thread_state.specs.declared.value.Value.TheVariants as value
-use Rattle.server_model.specs.Servers.{Cluster}
-use Rattle.server_model.specs.Places.{took, with_word}
-use Rattle.heap_law.specs.Names.{Among}
-use Rattle.heap_law.specs.Things.{Location, things_of}
-use Rattle.heap_law.specs.Follow.{Ground, value_in}
-use Rattle.heap_law.specs.Stale.{Reference, references, holder_of, is_held_at, is_among, with_place, lent_places, one_star_less, changed_above, stale_above, taken_above}
-use Rattle.heap_law.specs.Sight.{is_object_among, sight}
-use Rattle.heap_law.specs.Words.{IsStale}
-use Rattle.heap_law.specs.Dirty.{DirtyAlone}
-use Rattle.heap_law.proofs.Words.{told as told_stale}
-use Rattle.path_law.proofs.FreshPaths.{held_at}
-use Rattle.path_law.proofs.Sole.{some_is}
-use Rattle.path_law.proofs.Contained.{reference_there, held_there}
-use Rattle.word_law.specs.Reworded.{HasPlaces}
-use Rattle.word_law.specs.Unmoved.{pointing, Taking, takings}
-use Rattle.word_law.proofs.Standing.{borrow_stands}
-use Rattle.word_law.proofs.Takings.{seen_reference, lents_are, lent_listed, lent_told}
-use Rattle.word_law.proofs.Grounds.{same_place, of_borrows}
-use Rattle.move_law.specs.Ended.{GetsBack, as_it_was, its_word, Ended}
+use Rattle.fresh_law.specs.Below.fr_base.declared.name.ObjNo.{ObjNo}
+use Rattle.fresh_law.specs.Below.heap_partition.declared.value.Owned.TheVariants as owned
+use Rattle.fresh_law.specs.Below.mut_borrow.declared.mutable.MutRef.{MutRef}
+use Rattle.fresh_law.specs.Below.mut_borrow.Refs.{changed}
+use Rattle.fresh_law.specs.Below.thread_state.declared.value.Value.{Value}
+use Rattle.fresh_law.specs.Below.thread_state.declared.value.Value.TheVariants as value
+use Rattle.fresh_law.specs.Below.server_model.Servers.{Cluster}
+use Rattle.fresh_law.specs.Below.server_model.Places.{took, with_word}
+use Rattle.fresh_law.specs.Below.heap_law.Names.{Among}
+use Rattle.fresh_law.specs.Below.heap_law.Things.{Location, things_of}
+use Rattle.fresh_law.specs.Below.heap_law.Follow.{Ground, value_in}
+use Rattle.fresh_law.specs.Below.heap_law.Stale.{Reference, references, holder_of, is_held_at, is_among, with_place, lent_places, one_star_less, changed_above, stale_above, taken_above}
+use Rattle.fresh_law.specs.Below.heap_law.Sight.{is_object_among, sight}
+use Rattle.fresh_law.specs.Below.heap_law.Words.{IsStale}
+use Rattle.fresh_law.specs.Below.heap_law.Dirty.{DirtyAlone}
+use Rattle.fresh_law.proofs.Below.heap_law.Words.{told as told_stale}
+use Rattle.fresh_law.proofs.Below.path_law.FreshPaths.{held_at}
+use Rattle.fresh_law.proofs.Below.path_law.Sole.{some_is}
+use Rattle.fresh_law.proofs.Below.path_law.Contained.{reference_there, held_there}
+use Rattle.fresh_law.specs.Below.word_law.Reworded.{HasPlaces}
+use Rattle.fresh_law.specs.Below.word_law.Unmoved.{pointing, Taking, takings}
+use Rattle.fresh_law.proofs.Below.word_law.Standing.{borrow_stands}
+use Rattle.fresh_law.proofs.Below.word_law.Takings.{seen_reference, lents_are, lent_listed, lent_told}
+use Rattle.fresh_law.proofs.Below.word_law.Grounds.{same_place, of_borrows}
+use Rattle.fresh_law.specs.Below.move_law.Ended.{GetsBack, as_it_was, its_word, Ended}
 use Rattle.fresh_law.proofs.Below.copy_law.Clean.{Found}
 use Rattle.fresh_law.proofs.Below.clean_law.CleanReads.{dirty_one}
 use Rattle.fresh_law.proofs.Below.clean_law.Worded.{dirty_found, same_truth}

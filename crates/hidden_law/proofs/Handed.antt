@@ -1,27 +1,27 @@
 -- What becomes of objects at a server becomes of them once messages are handed over; and copies are right after a step whose hand tells it.
 use Rattle.std.proofs.Common.{◌≡◌, ℕ, true, Option, Some, None, refl, sym, subst}
 use Rattle.std.specs.Prelude.{option_map, length, take, drop as drop_first, slice_get}
-use Rattle.fr_base.specs.declared.instruction.Instr.{Instr}
-use Rattle.journal.specs.View.{EntryView}
-use Rattle.thread_state.specs.View.{ThreadState}
-use Rattle.server_model.specs.declared.event.Event.{Event}
-use Rattle.server_model.specs.declared.event.What.TheVariants.{Step}
-use Rattle.server_model.specs.Servers.{Server, Cluster, server_at}
-use Rattle.server_model.specs.Work.{Hand, thread_in, then_some}
-use Rattle.server_model.specs.Events.{enabled, begin_work, Stepped, step, step_in, stepped, does}
-use Rattle.server_model.specs.Clusters.{with_server, hand_over_newer, done_at, apply}
-use Rattle.heap_law.specs.Things.{things_of}
-use Rattle.heap_law.specs.Coherent.{IsSound}
-use Rattle.word_law.specs.Reworded.{HasPlaces}
-use Rattle.event_law.specs.Laws.{Gives, GoTo, FewEvents}
-use Rattle.event_law.proofs.Results.{over_gives, test_gives, both_give}
-use Rattle.event_law.proofs.Applied.{go_with}
-use Rattle.event_law.proofs.Sending.{each_event_sends}
-use Rattle.stay_law.proofs.Alike.{Alike}
-use Rattle.stay_law.proofs.Sites.{handed_over}
-use Rattle.local_law.proofs.Mail.{Mailed}
-use Rattle.local_law.proofs.Messages.{Light}
-use Rattle.carry_law.proofs.Hands.{ThereBy, put}
+use Rattle.fresh_law.specs.Below.fr_base.declared.instruction.Instr.{Instr}
+use Rattle.fresh_law.specs.Below.journal.View.{EntryView}
+use Rattle.fresh_law.specs.Below.thread_state.View.{ThreadState}
+use Rattle.fresh_law.specs.Below.server_model.declared.event.Event.{Event}
+use Rattle.fresh_law.specs.Below.server_model.declared.event.What.TheVariants.{Step}
+use Rattle.fresh_law.specs.Below.server_model.Servers.{Server, Cluster, server_at}
+use Rattle.fresh_law.specs.Below.server_model.Work.{Hand, thread_in, then_some}
+use Rattle.fresh_law.specs.Below.server_model.Events.{enabled, begin_work, Stepped, step, step_in, stepped, does}
+use Rattle.fresh_law.specs.Below.server_model.Clusters.{with_server, hand_over_newer, done_at, apply}
+use Rattle.fresh_law.specs.Below.heap_law.Things.{things_of}
+use Rattle.fresh_law.specs.Below.heap_law.Coherent.{IsSound}
+use Rattle.fresh_law.specs.Below.word_law.Reworded.{HasPlaces}
+use Rattle.fresh_law.specs.Below.event_law.Laws.{Gives, GoTo, FewEvents}
+use Rattle.fresh_law.proofs.Below.event_law.Results.{over_gives, test_gives, both_give}
+use Rattle.fresh_law.proofs.Below.event_law.Applied.{go_with}
+use Rattle.fresh_law.proofs.Below.event_law.Sending.{each_event_sends}
+use Rattle.fresh_law.proofs.Below.stay_law.Alike.{Alike}
+use Rattle.fresh_law.proofs.Below.stay_law.Sites.{handed_over}
+use Rattle.fresh_law.proofs.Below.local_law.Mail.{Mailed}
+use Rattle.fresh_law.proofs.Below.local_law.Messages.{Light}
+use Rattle.fresh_law.proofs.Below.carry_law.Hands.{ThereBy, put}
 use Rattle.fresh_law.proofs.Below.copy_law.Clean.{all_goes}
 use Rattle.fresh_law.proofs.Below.clean_law.Asked.{asking}
 use Rattle.fresh_law.proofs.Below.clean_law.Kept.{places_after, step_asks}

@@ -1,29 +1,29 @@
 -- A pointer gets a word, or a reference its mark: each object stays what it was, or covered.
 use Rattle.std.proofs.Common.{◌≡◌, ◌⊎◌, inl, inr, ⊎_elim, ℕ, true, false, Option, Some, None, refl, sym, ap, ap₂, subst, ◌∙◌}
-use Rattle.fr_base.specs.declared.name.ObjNo.{ObjNo}
-use Rattle.heap_partition.specs.declared.value.BoxPtr.{BoxPtr}
-use Rattle.heap_partition.specs.declared.value.Cell.{Cell}
-use Rattle.heap_partition.specs.declared.value.Owned.{Owned}
-use Rattle.heap_partition.specs.declared.value.Owned.TheVariants as owned
-use Rattle.mut_borrow.specs.declared.mutable.MutRef.{MutRef}
-use Rattle.thread_state.specs.declared.value.Value.{Value}
-use Rattle.thread_state.specs.declared.value.Value.TheVariants as value
-use Rattle.server_model.specs.Servers.{Cluster}
-use Rattle.heap_law.specs.Names.{Among}
-use Rattle.heap_law.specs.Things.{Location, in_cell, things_of}
-use Rattle.heap_law.specs.Follow.{Ground, cell_of, cells_in, value_in, value_of, leads}
-use Rattle.heap_law.specs.Stale.{Reference, references, holder_of}
-use Rattle.heap_law.specs.Sight.{is_object_among, sight, issued}
-use Rattle.heap_law.specs.Words.{IsStale, HasWords}
-use Rattle.heap_law.proofs.Words.{told as told_stale}
-use Rattle.path_law.specs.Pointing.{Above}
-use Rattle.path_law.proofs.Contained.{reference_there}
-use Rattle.path_law.proofs.Sole.{some_is}
-use Rattle.word_law.specs.Reworded.{HasPlaces, Renewed, a_box, a_reference, Reworded}
-use Rattle.word_law.specs.WordsAfter.{Rewrites, WordsAfter}
-use Rattle.word_law.proofs.Standing.{CellOf, cell_among, cell_found, borrow_stands}
-use Rattle.word_law.proofs.Grounds.{same_place, of_borrows, still_stale, newly_stale}
-use Rattle.word_law.proofs.Words.{above_leads, words_go_on}
+use Rattle.fresh_law.specs.Below.fr_base.declared.name.ObjNo.{ObjNo}
+use Rattle.fresh_law.specs.Below.heap_partition.declared.value.BoxPtr.{BoxPtr}
+use Rattle.fresh_law.specs.Below.heap_partition.declared.value.Cell.{Cell}
+use Rattle.fresh_law.specs.Below.heap_partition.declared.value.Owned.{Owned}
+use Rattle.fresh_law.specs.Below.heap_partition.declared.value.Owned.TheVariants as owned
+use Rattle.fresh_law.specs.Below.mut_borrow.declared.mutable.MutRef.{MutRef}
+use Rattle.fresh_law.specs.Below.thread_state.declared.value.Value.{Value}
+use Rattle.fresh_law.specs.Below.thread_state.declared.value.Value.TheVariants as value
+use Rattle.fresh_law.specs.Below.server_model.Servers.{Cluster}
+use Rattle.fresh_law.specs.Below.heap_law.Names.{Among}
+use Rattle.fresh_law.specs.Below.heap_law.Things.{Location, in_cell, things_of}
+use Rattle.fresh_law.specs.Below.heap_law.Follow.{Ground, cell_of, cells_in, value_in, value_of, leads}
+use Rattle.fresh_law.specs.Below.heap_law.Stale.{Reference, references, holder_of}
+use Rattle.fresh_law.specs.Below.heap_law.Sight.{is_object_among, sight, issued}
+use Rattle.fresh_law.specs.Below.heap_law.Words.{IsStale, HasWords}
+use Rattle.fresh_law.proofs.Below.heap_law.Words.{told as told_stale}
+use Rattle.fresh_law.specs.Below.path_law.Pointing.{Above}
+use Rattle.fresh_law.proofs.Below.path_law.Contained.{reference_there}
+use Rattle.fresh_law.proofs.Below.path_law.Sole.{some_is}
+use Rattle.fresh_law.specs.Below.word_law.Reworded.{HasPlaces, Renewed, a_box, a_reference, Reworded}
+use Rattle.fresh_law.specs.Below.word_law.WordsAfter.{Rewrites, WordsAfter}
+use Rattle.fresh_law.proofs.Below.word_law.Standing.{CellOf, cell_among, cell_found, borrow_stands}
+use Rattle.fresh_law.proofs.Below.word_law.Grounds.{same_place, of_borrows, still_stale, newly_stale}
+use Rattle.fresh_law.proofs.Below.word_law.Words.{above_leads, words_go_on}
 use Rattle.fresh_law.proofs.Below.copy_law.Clean.{Found, cell_thing, thing_cell}
 use Rattle.fresh_law.proofs.Below.clean_law.CleanReads.{dirty_one}
 use Rattle.fresh_law.proofs.Below.clean_law.Worded.{dirty_found, same_truth, objects_differ}

@@ -1,24 +1,24 @@
 -- A copy that is there afterwards was there under its word, or asked for: so under a word of which none was, nor asked for, there is none.
 use Rattle.std.proofs.Common.{◌≡◌, ◌⊎◌, ⊎_elim, ℕ, zero, suc, ◌≤◌, ◌+◌, ◌==◌, false, List, [], ◌∷◌, None, refl, ap, ◌∙◌, arith}
 use Rattle.std.proofs.lemmas.Bool.{eq-eqb}
-use Rattle.heap_partition.specs.declared.value.Cell.{Cell}
-use Rattle.journal.specs.View.{EntryView}
-use Rattle.server_msgs.specs.declared.message.Message.{Message}
-use Rattle.server_msgs.specs.declared.message.Message.TheVariants as message
-use Rattle.server_model.specs.Servers.{Cluster}
-use Rattle.server_model.specs.Clusters.{apply}
-use Rattle.heap_law.specs.Names.{tot, one, other, some, Among}
-use Rattle.heap_law.specs.Things.{Thing, copied, sent, things_of}
-use Rattle.heap_law.specs.Sight.{sight, issued}
-use Rattle.heap_law.specs.Weights.{copies}
-use Rattle.heap_law.specs.Placing.{words, clean_cell, other_cell, other_copy}
-use Rattle.heap_law.specs.Coherent.{IsSound, Holds, copies_agree}
-use Rattle.heap_law.proofs.Words.{none_at, none_all}
-use Rattle.event_law.proofs.Results.{weaker}
-use Rattle.event_law.proofs.MutexResults.{has}
-use Rattle.local_law.proofs.Messages.{on_sent}
-use Rattle.result_law.proofs.Flights.{has_weight}
-use Rattle.value_law.proofs.Sums.{copy_of}
+use Rattle.fresh_law.specs.Below.heap_partition.declared.value.Cell.{Cell}
+use Rattle.fresh_law.specs.Below.journal.View.{EntryView}
+use Rattle.fresh_law.specs.Below.server_msgs.declared.message.Message.{Message}
+use Rattle.fresh_law.specs.Below.server_msgs.declared.message.Message.TheVariants as message
+use Rattle.fresh_law.specs.Below.server_model.Servers.{Cluster}
+use Rattle.fresh_law.specs.Below.server_model.Clusters.{apply}
+use Rattle.fresh_law.specs.Below.heap_law.Names.{tot, one, other, some, Among}
+use Rattle.fresh_law.specs.Below.heap_law.Things.{Thing, copied, sent, things_of}
+use Rattle.fresh_law.specs.Below.heap_law.Sight.{sight, issued}
+use Rattle.fresh_law.specs.Below.heap_law.Weights.{copies}
+use Rattle.fresh_law.specs.Below.heap_law.Placing.{words, clean_cell, other_cell, other_copy}
+use Rattle.fresh_law.specs.Below.heap_law.Coherent.{IsSound, Holds, copies_agree}
+use Rattle.fresh_law.proofs.Below.heap_law.Words.{none_at, none_all}
+use Rattle.fresh_law.proofs.Below.event_law.Results.{weaker}
+use Rattle.fresh_law.proofs.Below.event_law.MutexResults.{has}
+use Rattle.fresh_law.proofs.Below.local_law.Messages.{on_sent}
+use Rattle.fresh_law.proofs.Below.result_law.Flights.{has_weight}
+use Rattle.fresh_law.proofs.Below.value_law.Sums.{copy_of}
 use Rattle.fresh_law.proofs.Below.copy_law.Comes.{ServedWeighNothing, copies_come}
 use Rattle.fresh_law.proofs.Below.copy_law.Served.{served_right}
 use Rattle.fresh_law.proofs.Below.clean_law.Asked.{asking}

@@ -1,17 +1,17 @@
 -- WORDS WITHOUT COPIES (this project's rule): what an object may do under a word of which no copy is there, nor asked for.
 use Rattle.std.specs.Prelude.{◌≡◌, ◌⊎◌, ◌==◌, ℕ, false, None}
-use Rattle.journal.specs.View.{EntryView}
-use Rattle.server_msgs.specs.declared.message.Message.{Message}
-use Rattle.server_msgs.specs.declared.message.Message.TheVariants.{Fetch, Fetched}
-use Rattle.server_model.specs.declared.event.Event.{Event}
-use Rattle.server_model.specs.Servers.{Cluster}
-use Rattle.server_model.specs.Clusters.{apply}
-use Rattle.heap_law.specs.Names.{tot, one}
-use Rattle.heap_law.specs.Things.{Thing, copied, sent, things_of}
-use Rattle.heap_law.specs.Sight.{sight, issued}
-use Rattle.heap_law.specs.Placing.{clean_cell}
-use Rattle.heap_law.specs.Coherent.{Holds, IsSound, copies_agree}
-use Rattle.event_law.specs.Laws.{Gives, FewEvents}
+use Rattle.fresh_law.specs.Below.journal.View.{EntryView}
+use Rattle.fresh_law.specs.Below.server_msgs.declared.message.Message.{Message}
+use Rattle.fresh_law.specs.Below.server_msgs.declared.message.Message.TheVariants.{Fetch, Fetched}
+use Rattle.fresh_law.specs.Below.server_model.declared.event.Event.{Event}
+use Rattle.fresh_law.specs.Below.server_model.Servers.{Cluster}
+use Rattle.fresh_law.specs.Below.server_model.Clusters.{apply}
+use Rattle.fresh_law.specs.Below.heap_law.Names.{tot, one}
+use Rattle.fresh_law.specs.Below.heap_law.Things.{Thing, copied, sent, things_of}
+use Rattle.fresh_law.specs.Below.heap_law.Sight.{sight, issued}
+use Rattle.fresh_law.specs.Below.heap_law.Placing.{clean_cell}
+use Rattle.fresh_law.specs.Below.heap_law.Coherent.{Holds, IsSound, copies_agree}
+use Rattle.fresh_law.specs.Below.event_law.Laws.{Gives, FewEvents}
 
 -- a message that asks for a copy under the word, or brings one
 abbrev pub sent_under : ℕ → Message → ℕ

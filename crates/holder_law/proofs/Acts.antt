@@ -2,27 +2,27 @@
 use Rattle.std.proofs.Common.{◌≡◌, ℕ, true, false, List, [], ◌∷◌, reverse, map, length, Option, Some, None, refl, sym, ap, subst, ◌∙◌}
 use Rattle.std.specs.Prelude.{slice_get}
 use Rattle.std.proofs.lemmas.List.{length-reverse, length-map}
-use Rattle.fr_base.specs.declared.instruction.Instr.{Instr}
-use Rattle.fr_base.specs.declared.instruction.Instr.TheVariants as instr
-use Rattle.fr_base.specs.declared.instruction.Operand.{Operand}
-use Rattle.fr_base.specs.declared.instruction.Operand.TheVariants as operand
-use Rattle.fr_plain.specs.declared.value.Value.{Value}
-use Rattle.fr_plain.specs.MachineActs.{Act}
-use Rattle.fr_plain.specs.MachineThreads.{Now, going, constant, temporary, on_value, next, Move, Life, alive, over, owing, loose, ended, life_move}
-use Rattle.fr_plain.specs.PlainState.{place_of, place_in, running, running_in}
-use Rattle.fr_code.specs.Steps.{Place, CodeMove, with_operand, run_instr, over_at, code_move, code_moves}
-use Rattle.fr_code.specs.Machine.{CodeRunning}
-use Rattle.plain_types.specs.Keeps.{OnReferences, rests, on_references, KeepsReferences}
-use Rattle.step_types.specs.Machines.{ReferencesKept}
-use Rattle.fr_store.specs.Typed.{KeyTypes}
-use Rattle.journal.specs.View.{EntryView}
-use Rattle.server_model.specs.Servers.{Cluster}
-use Rattle.heap_law.specs.Follow.{Standing}
-use Rattle.heap_law.specs.OneHeap.{plain_value, running_at}
-use Rattle.path_law.specs.HeapStore.{GoesOn}
-use Rattle.path_law.proofs.Sole.{some_is}
-use Rattle.typed_law.proofs.Following.{HasHeap, is_running}
-use Rattle.state_law.specs.States.{LeavesReferences}
+use Rattle.sorts_law.specs.Below.fr_base.declared.instruction.Instr.{Instr}
+use Rattle.sorts_law.specs.Below.fr_base.declared.instruction.Instr.TheVariants as instr
+use Rattle.sorts_law.specs.Below.fr_base.declared.instruction.Operand.{Operand}
+use Rattle.sorts_law.specs.Below.fr_base.declared.instruction.Operand.TheVariants as operand
+use Rattle.sorts_law.specs.Below.fr_plain.declared.value.Value.{Value}
+use Rattle.sorts_law.specs.Below.fr_plain.MachineActs.{Act}
+use Rattle.sorts_law.specs.Below.fr_plain.MachineThreads.{Now, going, constant, temporary, on_value, next, Move, Life, alive, over, owing, loose, ended, life_move}
+use Rattle.sorts_law.specs.Below.fr_plain.PlainState.{place_of, place_in, running, running_in}
+use Rattle.sorts_law.specs.Below.fr_code.Steps.{Place, CodeMove, with_operand, run_instr, over_at, code_move, code_moves}
+use Rattle.sorts_law.specs.Below.fr_code.Machine.{CodeRunning}
+use Rattle.sorts_law.specs.Below.plain_types.Keeps.{OnReferences, rests, on_references, KeepsReferences}
+use Rattle.sorts_law.specs.Below.step_types.Machines.{ReferencesKept}
+use Rattle.sorts_law.specs.Below.fr_store.Typed.{KeyTypes}
+use Rattle.sorts_law.specs.Below.journal.View.{EntryView}
+use Rattle.sorts_law.specs.Below.server_model.Servers.{Cluster}
+use Rattle.sorts_law.specs.Below.heap_law.Follow.{Standing}
+use Rattle.sorts_law.specs.Below.heap_law.OneHeap.{plain_value, running_at}
+use Rattle.sorts_law.specs.Below.path_law.HeapStore.{GoesOn}
+use Rattle.sorts_law.proofs.Below.path_law.Sole.{some_is}
+use Rattle.sorts_law.proofs.Below.typed_law.Following.{HasHeap, is_running}
+use Rattle.sorts_law.specs.Below.state_law.States.{LeavesReferences}
 use Rattle.holder_law.proofs.Came.{on_of}
 
 -- AN INSTRUCTION

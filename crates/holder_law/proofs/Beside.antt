@@ -2,27 +2,27 @@
 use Rattle.std.proofs.Common.{◌≡◌, ℕ, ◌+◌, ◌==◌, not, Bool, true, false, if◌then◌else◌, List, [], ◌∷◌, length, take, drop, Some, refl, ap, ◌∙◌, arith}
 use Rattle.std.specs.List.{AllByRecursion}
 use Rattle.std.proofs.lemmas.Bool.{eq-eqb}
-use Rattle.thread_state.specs.View.{ThreadState}
-use Rattle.journal.specs.View.{EntryView}
-use Rattle.server_model.specs.declared.event.Event.{Event}
-use Rattle.server_model.specs.Servers.{Server, Cluster, server_at}
-use Rattle.server_model.specs.Work.{thread_in, set_thread, without_thread}
-use Rattle.server_model.specs.Events.{enabled, does}
-use Rattle.server_model.specs.Clusters.{with_server, done_at, apply}
-use Rattle.heap_law.specs.Names.{tot, one, if_so}
-use Rattle.heap_law.specs.Things.{Thing, stands, server_things, servers_things, things_of}
-use Rattle.heap_law.specs.Follow.{Standing, threads_in}
-use Rattle.heap_law.specs.Weights.{is_thread}
-use Rattle.heap_law.specs.Coherent.{IsSound}
-use Rattle.event_law.specs.Laws.{Gives, GoTo, FewEvents}
-use Rattle.event_law.proofs.Results.{then_gives, over_gives, both_give, test_gives}
-use Rattle.event_law.proofs.KnownSound.{on_standing, sum_standing}
-use Rattle.event_law.proofs.Unseen.{Unseen, Unnoted, thread_alone, seen_of}
-use Rattle.event_law.proofs.Bags.{tot-without, thread_number}
-use Rattle.event_law.proofs.Events.{tot-server, others_of}
-use Rattle.event_law.proofs.Applied.{go_with}
-use Rattle.event_law.proofs.Handing.{hand_over_newer_law}
-use Rattle.event_law.proofs.Sending.{each_event_sends}
+use Rattle.sorts_law.specs.Below.thread_state.View.{ThreadState}
+use Rattle.sorts_law.specs.Below.journal.View.{EntryView}
+use Rattle.sorts_law.specs.Below.server_model.declared.event.Event.{Event}
+use Rattle.sorts_law.specs.Below.server_model.Servers.{Server, Cluster, server_at}
+use Rattle.sorts_law.specs.Below.server_model.Work.{thread_in, set_thread, without_thread}
+use Rattle.sorts_law.specs.Below.server_model.Events.{enabled, does}
+use Rattle.sorts_law.specs.Below.server_model.Clusters.{with_server, done_at, apply}
+use Rattle.sorts_law.specs.Below.heap_law.Names.{tot, one, if_so}
+use Rattle.sorts_law.specs.Below.heap_law.Things.{Thing, stands, server_things, servers_things, things_of}
+use Rattle.sorts_law.specs.Below.heap_law.Follow.{Standing, threads_in}
+use Rattle.sorts_law.specs.Below.heap_law.Weights.{is_thread}
+use Rattle.sorts_law.specs.Below.heap_law.Coherent.{IsSound}
+use Rattle.sorts_law.specs.Below.event_law.Laws.{Gives, GoTo, FewEvents}
+use Rattle.sorts_law.proofs.Below.event_law.Results.{then_gives, over_gives, both_give, test_gives}
+use Rattle.sorts_law.proofs.Below.event_law.KnownSound.{on_standing, sum_standing}
+use Rattle.sorts_law.proofs.Below.event_law.Unseen.{Unseen, Unnoted, thread_alone, seen_of}
+use Rattle.sorts_law.proofs.Below.event_law.Bags.{tot-without, thread_number}
+use Rattle.sorts_law.proofs.Below.event_law.Events.{tot-server, others_of}
+use Rattle.sorts_law.proofs.Below.event_law.Applied.{go_with}
+use Rattle.sorts_law.proofs.Below.event_law.Handing.{hand_over_newer_law}
+use Rattle.sorts_law.proofs.Below.event_law.Sending.{each_event_sends}
 
 -- THREADS OF A SERVER
 

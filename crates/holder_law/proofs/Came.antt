@@ -1,10 +1,10 @@
 -- Where the holders in a thread's slots and temporary values came from in the plain step of its instruction.
 use Rattle.std.specs.Prelude.{◌≡◌, ◌≢◌, ◌⊎◌, ℕ, suc, true, List, length, Some}
-use Rattle.fr_base.specs.declared.place.Lval.{Lval}
-use Rattle.fr_base.specs.declared.instruction.Instr.{Instr}
-use Rattle.fr_base.specs.declared.instruction.Instr.TheVariants as instr
-use Rattle.plain_types.specs.Keeps.{OnReferences, rests, binds, takes, lends, puts}
-use Rattle.thread_state.specs.declared.value.Value.{Value}
+use Rattle.sorts_law.specs.Below.fr_base.declared.place.Lval.{Lval}
+use Rattle.sorts_law.specs.Below.fr_base.declared.instruction.Instr.{Instr}
+use Rattle.sorts_law.specs.Below.fr_base.declared.instruction.Instr.TheVariants as instr
+use Rattle.sorts_law.specs.Below.plain_types.Keeps.{OnReferences, rests, binds, takes, lends, puts}
+use Rattle.sorts_law.specs.Below.thread_state.declared.value.Value.{Value}
 use Rattle.holder_law.proofs.Holding.{held, top_held}
 
 -- what an instruction does with mutable references

@@ -1,31 +1,31 @@
 -- Each event leaves the holders of mutable references right, by the exact types afterwards.
 use Rattle.std.proofs.Common.{◌≡◌, ℕ, Bool, true, false, length, List, [], ◌∷◌, Option, Some, None, refl, sym, ap, subst, ◌∙◌, arith}
-use Rattle.fr_base.specs.declared.step.Fresh.{Fresh}
-use Rattle.fr_store.specs.Keys.{Key, slot_k, temp_k}
-use Rattle.fr_store.specs.Typed.{KeyTypes}
-use Rattle.fr_sound.specs.States.{Typing}
-use Rattle.thread_state.specs.View.{is_over}
-use Rattle.thread_state.specs.declared.value.Value.{Value}
-use Rattle.journal.specs.View.{EntryView}
-use Rattle.server_model.specs.declared.event.Event.{Event}
-use Rattle.server_model.specs.Servers.{Cluster}
-use Rattle.server_model.specs.Clusters.{apply}
-use Rattle.heap_law.specs.Names.{tot, Among}
-use Rattle.heap_law.specs.Things.{things_of}
-use Rattle.heap_law.specs.Follow.{Standing, threads_in}
-use Rattle.heap_law.specs.Sight.{sight}
-use Rattle.heap_law.specs.Rooted.{dressed}
-use Rattle.type_law.specs.ClusterTypes.{IsCoherent, astray_of, leads_wrong}
-use Rattle.path_law.proofs.Forms.{none_of}
-use Rattle.event_law.specs.Laws.{Gives, FewEvents}
-use Rattle.event_law.proofs.Results.{both_give}
-use Rattle.event_law.proofs.KnownSound.{on_standing, sum_standing}
-use Rattle.frame_law.specs.Threads.{TypesThreads}
-use Rattle.frame_law.proofs.Undone.{undone_keep}
-use Rattle.typed_law.specs.Counted.{HasNumbers, all_off, off_of, holders_off, sorts_wrong}
-use Rattle.typed_law.proofs.Following.{HasHeap}
-use Rattle.typed_law.proofs.Leads.{each_none, bare}
-use Rattle.state_law.specs.States.{HeapKept}
+use Rattle.sorts_law.specs.Below.fr_base.declared.step.Fresh.{Fresh}
+use Rattle.sorts_law.specs.Below.fr_store.Keys.{Key, slot_k, temp_k}
+use Rattle.sorts_law.specs.Below.fr_store.Typed.{KeyTypes}
+use Rattle.sorts_law.specs.Below.fr_sound.States.{Typing}
+use Rattle.sorts_law.specs.Below.thread_state.View.{is_over}
+use Rattle.sorts_law.specs.Below.thread_state.declared.value.Value.{Value}
+use Rattle.sorts_law.specs.Below.journal.View.{EntryView}
+use Rattle.sorts_law.specs.Below.server_model.declared.event.Event.{Event}
+use Rattle.sorts_law.specs.Below.server_model.Servers.{Cluster}
+use Rattle.sorts_law.specs.Below.server_model.Clusters.{apply}
+use Rattle.sorts_law.specs.Below.heap_law.Names.{tot, Among}
+use Rattle.sorts_law.specs.Below.heap_law.Things.{things_of}
+use Rattle.sorts_law.specs.Below.heap_law.Follow.{Standing, threads_in}
+use Rattle.sorts_law.specs.Below.heap_law.Sight.{sight}
+use Rattle.sorts_law.specs.Below.heap_law.Rooted.{dressed}
+use Rattle.sorts_law.specs.Below.type_law.ClusterTypes.{IsCoherent, astray_of, leads_wrong}
+use Rattle.sorts_law.proofs.Below.path_law.Forms.{none_of}
+use Rattle.sorts_law.specs.Below.event_law.Laws.{Gives, FewEvents}
+use Rattle.sorts_law.proofs.Below.event_law.Results.{both_give}
+use Rattle.sorts_law.proofs.Below.event_law.KnownSound.{on_standing, sum_standing}
+use Rattle.sorts_law.specs.Below.frame_law.Threads.{TypesThreads}
+use Rattle.sorts_law.proofs.Below.frame_law.Undone.{undone_keep}
+use Rattle.sorts_law.specs.Below.typed_law.Counted.{HasNumbers, all_off, off_of, holders_off, sorts_wrong}
+use Rattle.sorts_law.proofs.Below.typed_law.Following.{HasHeap}
+use Rattle.sorts_law.proofs.Below.typed_law.Leads.{each_none, bare}
+use Rattle.sorts_law.specs.Below.state_law.States.{HeapKept}
 use Rattle.sorts_law.proofs.Each.{also, numbers_kept, events_keep_sorts}
 use Rattle.holder_law.specs.Holders.{EventsKeepHolders}
 use Rattle.holder_law.proofs.Traced.{AreRight, leads_right, lent_right, none_off}

@@ -2,12 +2,12 @@
 use Rattle.std.proofs.Common.{◌≡◌, ◌≢◌, ◌⊎◌, inl, inr, ℕ, zero, suc, ◌-◌, List, [], ◌∷◌, ◌++◌, length, map, take, Option, Some, None, refl, sym, ap, subst, ◌∙◌, arith}
 use Rattle.std.specs.Prelude.{slice_get, slice_set}
 use Rattle.std.proofs.lemmas.List.{length-map}
-use Rattle.fr_base.specs.Lists.{last_of}
-use Rattle.fr_base.specs.declared.place.Lval.{Lval}
-use Rattle.thread_state.specs.declared.value.Value.{Value}
-use Rattle.thread_state.specs.declared.value.Value.TheVariants as value
-use Rattle.server_model.specs.Work.{front_of, then_some}
-use Rattle.still_law.specs.Shows.{Frame, mutable_object, moved_out, owning, shared_slot, mutable_slot, shared_object, marking, frame_of}
+use Rattle.sorts_law.specs.Below.fr_base.Lists.{last_of}
+use Rattle.sorts_law.specs.Below.fr_base.declared.place.Lval.{Lval}
+use Rattle.sorts_law.specs.Below.thread_state.declared.value.Value.{Value}
+use Rattle.sorts_law.specs.Below.thread_state.declared.value.Value.TheVariants as value
+use Rattle.sorts_law.specs.Below.server_model.Work.{front_of, then_some}
+use Rattle.sorts_law.specs.Below.still_law.Shows.{Frame, mutable_object, moved_out, owning, shared_slot, mutable_slot, shared_object, marking, frame_of}
 
 -- the holder of a mutable reference to an object
 abbrev pub holder_of : Value → Option Lval

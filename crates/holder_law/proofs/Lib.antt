@@ -1,3 +1,4 @@
+pub mod Below
 pub mod Holding
 pub mod Came
 pub mod Walk

@@ -2,29 +2,29 @@
 use Rattle.std.proofs.Common.{◌≡◌, ℕ, zero, suc, not, ◌&&◌, ◌||◌, Bool, true, false, List, ◌∷◌, Some, refl, sym, ap, subst, ◌∙◌, arith}
 use Rattle.std.specs.Prelude.{slice_get, nat_lt}
 use Rattle.std.proofs.lemmas.Bool.Decides.{nat_tests}
-use Rattle.fr_base.specs.declared.place.Lval.{Lval}
-use Rattle.fr_base.specs.declared.instruction.Instr.{Instr}
-use Rattle.fr_base.specs.declared.instruction.Operand.{Operand}
-use Rattle.fr_typing.specs.Kinds.{Owned as OwnedType, Kind, own, shared, mutable, view, Piece, whole, gone, boxed}
-use Rattle.fr_typing.specs.Places.{Env, Found, found, type_at, is_lent, is_mutable, on_path, is_own_path}
-use Rattle.fr_typing.specs.Checks.{is_int, is_kept_out}
-use Rattle.fr_store.specs.Keys.{slot_k, temp_k}
-use Rattle.fr_store.specs.Store.{Place as StorePlace}
-use Rattle.fr_store.specs.Typed.{refers, KeyTypes}
-use Rattle.fr_store.specs.Below.{RefOf}
-use Rattle.fr_code.specs.CodeTypes.{Entry, Table, wait, Takes, takes_const, takes_unit, takes_pop, InstrTypes, i_let, i_assign, i_copy, i_move, i_borrow, i_borrow_mut, i_box, i_arith, i_print, i_discard, i_drop, i_spawn, i_join, i_mutex, i_dup, i_lock, i_unlock, i_par, i_par_end}
-use Rattle.fr_code.specs.CodeTable.{Leads, to_next, ends, Successors, Row}
-use Rattle.plain_types.specs.Keeps.{OnReferences, rests, takes}
-use Rattle.plain_types.proofs.Envs.{part_type}
-use Rattle.server_model.specs.Servers.{Cluster}
-use Rattle.heap_law.specs.Follow.{Standing}
-use Rattle.heap_law.specs.Sight.{sight}
-use Rattle.type_law.specs.ClusterTypes.{IsCoherent, astray_of, leads_wrong}
-use Rattle.path_law.proofs.Forms.{none_of}
-use Rattle.path_law.proofs.Sole.{some_is}
-use Rattle.path_law.specs.HeapStore.{GoesOn}
-use Rattle.typed_law.proofs.Following.{HasHeap}
-use Rattle.typed_law.proofs.Values.{running}
+use Rattle.sorts_law.specs.Below.fr_base.declared.place.Lval.{Lval}
+use Rattle.sorts_law.specs.Below.fr_base.declared.instruction.Instr.{Instr}
+use Rattle.sorts_law.specs.Below.fr_base.declared.instruction.Operand.{Operand}
+use Rattle.sorts_law.specs.Below.fr_typing.Kinds.{Owned as OwnedType, Kind, own, shared, mutable, view, Piece, whole, gone, boxed}
+use Rattle.sorts_law.specs.Below.fr_typing.Places.{Env, Found, found, type_at, is_lent, is_mutable, on_path, is_own_path}
+use Rattle.sorts_law.specs.Below.fr_typing.Checks.{is_int, is_kept_out}
+use Rattle.sorts_law.specs.Below.fr_store.Keys.{slot_k, temp_k}
+use Rattle.sorts_law.specs.Below.fr_store.Store.{Place as StorePlace}
+use Rattle.sorts_law.specs.Below.fr_store.Typed.{refers, KeyTypes}
+use Rattle.sorts_law.specs.Below.fr_store.Below.{RefOf}
+use Rattle.sorts_law.specs.Below.fr_code.CodeTypes.{Entry, Table, wait, Takes, takes_const, takes_unit, takes_pop, InstrTypes, i_let, i_assign, i_copy, i_move, i_borrow, i_borrow_mut, i_box, i_arith, i_print, i_discard, i_drop, i_spawn, i_join, i_mutex, i_dup, i_lock, i_unlock, i_par, i_par_end}
+use Rattle.sorts_law.specs.Below.fr_code.CodeTable.{Leads, to_next, ends, Successors, Row}
+use Rattle.sorts_law.specs.Below.plain_types.Keeps.{OnReferences, rests, takes}
+use Rattle.sorts_law.proofs.Below.plain_types.Envs.{part_type}
+use Rattle.sorts_law.specs.Below.server_model.Servers.{Cluster}
+use Rattle.sorts_law.specs.Below.heap_law.Follow.{Standing}
+use Rattle.sorts_law.specs.Below.heap_law.Sight.{sight}
+use Rattle.sorts_law.specs.Below.type_law.ClusterTypes.{IsCoherent, astray_of, leads_wrong}
+use Rattle.sorts_law.proofs.Below.path_law.Forms.{none_of}
+use Rattle.sorts_law.proofs.Below.path_law.Sole.{some_is}
+use Rattle.sorts_law.specs.Below.path_law.HeapStore.{GoesOn}
+use Rattle.sorts_law.proofs.Below.typed_law.Following.{HasHeap}
+use Rattle.sorts_law.proofs.Below.typed_law.Values.{running}
 use Rattle.holder_law.proofs.Came.{on_of}
 use Rattle.holder_law.proofs.Traced.{leads_right, Clears, Traces}
 use Rattle.holder_law.proofs.Typed.{what, slot_within, slot_part, temp_top, temp_last, temp_refers}

@@ -2,42 +2,42 @@
 use Rattle.std.proofs.Common.{◌≡◌, ◌≢◌, inl, inr, ℕ, zero, suc, ◌+◌, not, true, false, length, List, [], ◌∷◌, Option, Some, None, refl, sym, ap, subst, ◌∙◌, arith}
 use Rattle.std.specs.Prelude.{slice_get, option_map}
 use Rattle.std.specs.List.{AllByRecursion}
-use Rattle.fr_base.specs.declared.place.Lval.{Lval}
-use Rattle.fr_base.specs.declared.instruction.Instr.{Instr}
-use Rattle.fr_typing.proofs.PlaceLemmas.{eq_cases}
-use Rattle.fr_store.specs.Keys.{Key, slot_k, temp_k}
-use Rattle.fr_store.specs.Store.{Place}
-use Rattle.fr_store.specs.Typed.{refers, KeyTypes}
-use Rattle.plain_types.specs.Keeps.{OnReferences, rests, binds, takes, lends, puts, CameFrom, KeepsReferences}
-use Rattle.thread_state.specs.View.{ThreadState, new_thread}
-use Rattle.thread_state.specs.declared.value.Value.{Value}
-use Rattle.thread_state.specs.declared.value.Value.TheVariants as value
-use Rattle.journal.specs.View.{EntryView}
-use Rattle.server_model.specs.declared.event.Event.{Event}
-use Rattle.server_model.specs.declared.event.What.{What}
-use Rattle.server_model.specs.declared.event.What.TheVariants.{Step, Deliver, Evict, Migrate}
-use Rattle.server_model.specs.Servers.{Server, Cluster, server_at}
-use Rattle.server_model.specs.Start.{next_thread}
-use Rattle.server_model.specs.Work.{Hand, Site, thread_in, then_some, beside_threads}
-use Rattle.server_model.specs.Moving.{migrate}
-use Rattle.server_model.specs.Events.{Stepped, enabled, begin_work, begin_at, left_by, deliver, evict_copy, step, step_in, stepped, does}
-use Rattle.heap_law.specs.Names.{tot, if_so}
-use Rattle.heap_law.specs.Things.{things_of}
-use Rattle.heap_law.specs.Follow.{Standing, threads_in}
-use Rattle.heap_law.specs.Sight.{sight}
-use Rattle.type_law.specs.ClusterTypes.{IsCoherent, astray_of}
-use Rattle.event_law.specs.Laws.{Gives, FewEvents}
-use Rattle.event_law.proofs.Results.{map_gives, over_gives, both_give}
-use Rattle.event_law.proofs.KnownSound.{on_standing}
-use Rattle.event_law.proofs.Bags.{thread_number}
-use Rattle.local_law.proofs.Goes.{Goes, thread_goes}
-use Rattle.local_law.proofs.Mail.{AreCaptured, BeginsBy, Mailed, step_tells}
-use Rattle.local_law.proofs.Threads.{Parcel, Held}
-use Rattle.local_law.proofs.Handed.{Stood, InParcel, from_server, to_server}
-use Rattle.result_law.proofs.Known.{Steps, standing, goes}
-use Rattle.typed_law.proofs.Following.{HasHeap}
-use Rattle.typed_law.proofs.Leads.{each_none}
-use Rattle.state_law.specs.States.{LeavesReferences}
+use Rattle.sorts_law.specs.Below.fr_base.declared.place.Lval.{Lval}
+use Rattle.sorts_law.specs.Below.fr_base.declared.instruction.Instr.{Instr}
+use Rattle.sorts_law.proofs.Below.fr_typing.PlaceLemmas.{eq_cases}
+use Rattle.sorts_law.specs.Below.fr_store.Keys.{Key, slot_k, temp_k}
+use Rattle.sorts_law.specs.Below.fr_store.Store.{Place}
+use Rattle.sorts_law.specs.Below.fr_store.Typed.{refers, KeyTypes}
+use Rattle.sorts_law.specs.Below.plain_types.Keeps.{OnReferences, rests, binds, takes, lends, puts, CameFrom, KeepsReferences}
+use Rattle.sorts_law.specs.Below.thread_state.View.{ThreadState, new_thread}
+use Rattle.sorts_law.specs.Below.thread_state.declared.value.Value.{Value}
+use Rattle.sorts_law.specs.Below.thread_state.declared.value.Value.TheVariants as value
+use Rattle.sorts_law.specs.Below.journal.View.{EntryView}
+use Rattle.sorts_law.specs.Below.server_model.declared.event.Event.{Event}
+use Rattle.sorts_law.specs.Below.server_model.declared.event.What.{What}
+use Rattle.sorts_law.specs.Below.server_model.declared.event.What.TheVariants.{Step, Deliver, Evict, Migrate}
+use Rattle.sorts_law.specs.Below.server_model.Servers.{Server, Cluster, server_at}
+use Rattle.sorts_law.specs.Below.server_model.Start.{next_thread}
+use Rattle.sorts_law.specs.Below.server_model.Work.{Hand, Site, thread_in, then_some, beside_threads}
+use Rattle.sorts_law.specs.Below.server_model.Moving.{migrate}
+use Rattle.sorts_law.specs.Below.server_model.Events.{Stepped, enabled, begin_work, begin_at, left_by, deliver, evict_copy, step, step_in, stepped, does}
+use Rattle.sorts_law.specs.Below.heap_law.Names.{tot, if_so}
+use Rattle.sorts_law.specs.Below.heap_law.Things.{things_of}
+use Rattle.sorts_law.specs.Below.heap_law.Follow.{Standing, threads_in}
+use Rattle.sorts_law.specs.Below.heap_law.Sight.{sight}
+use Rattle.sorts_law.specs.Below.type_law.ClusterTypes.{IsCoherent, astray_of}
+use Rattle.sorts_law.specs.Below.event_law.Laws.{Gives, FewEvents}
+use Rattle.sorts_law.proofs.Below.event_law.Results.{map_gives, over_gives, both_give}
+use Rattle.sorts_law.proofs.Below.event_law.KnownSound.{on_standing}
+use Rattle.sorts_law.proofs.Below.event_law.Bags.{thread_number}
+use Rattle.sorts_law.proofs.Below.local_law.Goes.{Goes, thread_goes}
+use Rattle.sorts_law.proofs.Below.local_law.Mail.{AreCaptured, BeginsBy, Mailed, step_tells}
+use Rattle.sorts_law.proofs.Below.local_law.Threads.{Parcel, Held}
+use Rattle.sorts_law.proofs.Below.local_law.Handed.{Stood, InParcel, from_server, to_server}
+use Rattle.sorts_law.proofs.Below.result_law.Known.{Steps, standing, goes}
+use Rattle.sorts_law.proofs.Below.typed_law.Following.{HasHeap}
+use Rattle.sorts_law.proofs.Below.typed_law.Leads.{each_none}
+use Rattle.sorts_law.specs.Below.state_law.States.{LeavesReferences}
 use Rattle.sorts_law.proofs.Starts.{Light, all_light}
 use Rattle.sorts_law.proofs.Steps.{IsDone, goes_number}
 use Rattle.sorts_law.proofs.Server.{requests}

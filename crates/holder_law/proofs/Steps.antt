@@ -1,28 +1,28 @@
 -- A step that is done leaves its thread mutable references to objects from where the act takes them.
 use Rattle.std.proofs.Common.{◌≡◌, inl, inr, ℕ, true, false, List, [], map, Option, Some, None, refl, sym, ap, subst, ◌∙◌}
 use Rattle.std.specs.Prelude.{option_map}
-use Rattle.fr_base.specs.declared.place.Lval.{Lval}
-use Rattle.fr_base.specs.declared.instruction.Instr.{Instr}
-use Rattle.fr_base.specs.declared.instruction.Instr.TheVariants as instr
-use Rattle.migration.specs.Packing.{unpin_all}
-use Rattle.read_cache.specs.Cache.{Copy}
-use Rattle.thread_state.specs.View.{ThreadState}
-use Rattle.thread_state.specs.declared.value.Value.{Value}
-use Rattle.server_model.specs.Servers.{Server, Cluster}
-use Rattle.server_model.specs.Work.{Hand, with_cache}
-use Rattle.server_model.specs.Places.{Spot, in_slot}
-use Rattle.server_model.specs.Prepare.{Prepared, ready, requested, nothing, read_or_taken, access_of, prepare, read_stars}
-use Rattle.server_model.specs.Commit.{Committed, done, waits, refused, commit}
-use Rattle.server_model.specs.Events.{Stepped, done_step, committed, prepared, step}
-use Rattle.heap_law.specs.Coherent.{IsSound}
-use Rattle.event_law.specs.Laws.{Gives}
-use Rattle.still_law.specs.Shows.{frame_of}
-use Rattle.still_law.proofs.Addresses.{in_place}
-use Rattle.still_law.proofs.Leaving.{others, placed_here}
-use Rattle.still_law.proofs.Readied.{Readied, IsPlaced}
-use Rattle.still_law.proofs.Prepares.{prepare_shows, Fine as Shows}
-use Rattle.plain_types.specs.Keeps.{OnReferences, rests, binds, takes, lends, puts}
-use Rattle.result_law.proofs.Known.{Steps, hand}
+use Rattle.sorts_law.specs.Below.fr_base.declared.place.Lval.{Lval}
+use Rattle.sorts_law.specs.Below.fr_base.declared.instruction.Instr.{Instr}
+use Rattle.sorts_law.specs.Below.fr_base.declared.instruction.Instr.TheVariants as instr
+use Rattle.sorts_law.specs.Below.migration.Packing.{unpin_all}
+use Rattle.sorts_law.specs.Below.read_cache.Cache.{Copy}
+use Rattle.sorts_law.specs.Below.thread_state.View.{ThreadState}
+use Rattle.sorts_law.specs.Below.thread_state.declared.value.Value.{Value}
+use Rattle.sorts_law.specs.Below.server_model.Servers.{Server, Cluster}
+use Rattle.sorts_law.specs.Below.server_model.Work.{Hand, with_cache}
+use Rattle.sorts_law.specs.Below.server_model.Places.{Spot, in_slot}
+use Rattle.sorts_law.specs.Below.server_model.Prepare.{Prepared, ready, requested, nothing, read_or_taken, access_of, prepare, read_stars}
+use Rattle.sorts_law.specs.Below.server_model.Commit.{Committed, done, waits, refused, commit}
+use Rattle.sorts_law.specs.Below.server_model.Events.{Stepped, done_step, committed, prepared, step}
+use Rattle.sorts_law.specs.Below.heap_law.Coherent.{IsSound}
+use Rattle.sorts_law.specs.Below.event_law.Laws.{Gives}
+use Rattle.sorts_law.specs.Below.still_law.Shows.{frame_of}
+use Rattle.sorts_law.proofs.Below.still_law.Addresses.{in_place}
+use Rattle.sorts_law.proofs.Below.still_law.Leaving.{others, placed_here}
+use Rattle.sorts_law.proofs.Below.still_law.Readied.{Readied, IsPlaced}
+use Rattle.sorts_law.proofs.Below.still_law.Prepares.{prepare_shows, Fine as Shows}
+use Rattle.sorts_law.specs.Below.plain_types.Keeps.{OnReferences, rests, binds, takes, lends, puts}
+use Rattle.sorts_law.proofs.Below.result_law.Known.{Steps, hand}
 use Rattle.sorts_law.proofs.Steps.{IsDone}
 use Rattle.holder_law.proofs.Holding.{held, top_held, framed_held, framed_length, framed_top}
 use Rattle.holder_law.proofs.Came.{on_of, SlotCame, TempCame, Came}

@@ -2,18 +2,18 @@
 use Rattle.std.proofs.Common.{◌≡◌, inl, inr, ℕ, zero, suc, ◌+◌, ◌-◌, ◌<◌, ◌==◌, ◌&&◌, Bool, true, false, List, [], ◌∷◌, length, Option, Some, None, refl, sym, ap, subst, ◌∙◌, arith}
 use Rattle.std.proofs.lemmas.Option.{slice_get_within}
 use Rattle.std.proofs.lemmas.Bool.Decides.{nat_tests}
-use Rattle.fr_base.specs.declared.place.Lval.{Lval}
-use Rattle.fr_store.specs.Keys.{Key, slot_k, temp_k, content_k, result_k, hand_k}
-use Rattle.fr_store.specs.Store.{Place}
-use Rattle.fr_store.specs.Typed.{Exact, owns, refers, KeyTypes}
-use Rattle.fr_store.specs.Thread.{place_of}
-use Rattle.plain_types.specs.Keeps.{OnReferences, rests, binds, takes, lends, puts, CameFrom, KeepsReferences}
-use Rattle.thread_state.specs.declared.value.Value.{Value}
-use Rattle.thread_state.specs.declared.value.Value.TheVariants as value
-use Rattle.heap_law.specs.Names.{other, if_so}
-use Rattle.heap_law.specs.Follow.{Ground}
-use Rattle.type_law.specs.ClusterTypes.{is_held_at, astray_from, astray, all_astray}
-use Rattle.typed_law.specs.Counted.{holder_off_from, holder_off, all_off}
+use Rattle.sorts_law.specs.Below.fr_base.declared.place.Lval.{Lval}
+use Rattle.sorts_law.specs.Below.fr_store.Keys.{Key, slot_k, temp_k, content_k, result_k, hand_k}
+use Rattle.sorts_law.specs.Below.fr_store.Store.{Place}
+use Rattle.sorts_law.specs.Below.fr_store.Typed.{Exact, owns, refers, KeyTypes}
+use Rattle.sorts_law.specs.Below.fr_store.Thread.{place_of}
+use Rattle.sorts_law.specs.Below.plain_types.Keeps.{OnReferences, rests, binds, takes, lends, puts, CameFrom, KeepsReferences}
+use Rattle.sorts_law.specs.Below.thread_state.declared.value.Value.{Value}
+use Rattle.sorts_law.specs.Below.thread_state.declared.value.Value.TheVariants as value
+use Rattle.sorts_law.specs.Below.heap_law.Names.{other, if_so}
+use Rattle.sorts_law.specs.Below.heap_law.Follow.{Ground}
+use Rattle.sorts_law.specs.Below.type_law.ClusterTypes.{is_held_at, astray_from, astray, all_astray}
+use Rattle.sorts_law.specs.Below.typed_law.Counted.{holder_off_from, holder_off, all_off}
 use Rattle.holder_law.proofs.Holding.{holder_of, held, top_held, value_held}
 use Rattle.holder_law.proofs.Came.{SlotCame, TempCame, Came}
 

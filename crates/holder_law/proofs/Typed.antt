@@ -3,36 +3,36 @@ use Rattle.std.proofs.Common.{◌≡◌, ◌⊎◌, inl, inr, ℕ, zero, suc, �
 use Rattle.std.specs.Prelude.{slice_get}
 use Rattle.std.proofs.lemmas.List.{length-reverse, length-map}
 use Rattle.std.proofs.lemmas.Option.{slice_get_within}
-use Rattle.fr_base.specs.declared.place.Lval.{Lval}
-use Rattle.fr_typing.specs.Kinds.{Kind, own, shared, mutable, view, Piece, whole, gone, boxed}
-use Rattle.fr_typing.specs.Places.{Slot, Env}
-use Rattle.fr_typing.proofs.PlaceLemmas.{eq_cases}
-use Rattle.fr_store.specs.Keys.{Key, slot_k, temp_k}
-use Rattle.fr_store.specs.Store.{gone_v, ref_v, Store, Place as StorePlace}
-use Rattle.fr_store.specs.Typed.{int_tree, owns, refers, KeyTypes}
-use Rattle.fr_store.specs.Below.{RefOf, ExactOf, SlotsBelow}
-use Rattle.fr_store.specs.Thread.{TempIs}
-use Rattle.fr_store.proofs.Sound.{ref_at}
-use Rattle.fr_sound.specs.States.{env_at, is_hidden, is_held, hand_key, hand_kind, operands, IsThread}
-use Rattle.fr_code.specs.CodeTypes.{Entry}
-use Rattle.thread_state.specs.View.{is_over}
-use Rattle.thread_state.specs.declared.value.Value.{Value}
-use Rattle.thread_state.specs.declared.value.Value.TheVariants as value
-use Rattle.server_model.specs.Servers.{Cluster}
-use Rattle.heap_law.specs.Names.{if_so}
-use Rattle.heap_law.specs.Follow.{Standing}
-use Rattle.heap_law.specs.Sight.{sight}
-use Rattle.heap_law.specs.OneHeap.{plain_value}
-use Rattle.type_law.specs.ClusterTypes.{entry_wrong}
-use Rattle.path_law.specs.HeapStore.{GoesOn}
-use Rattle.path_law.proofs.Alike.{ref_type}
-use Rattle.path_law.proofs.Forms.{none_of}
-use Rattle.path_law.proofs.Shown.{shown_value, at_behind, behind_is}
-use Rattle.typed_law.specs.Counted.{has_sort, slot_sort, slots_unsorted, temps_unsorted, sorts_of, sorts_wrong}
-use Rattle.typed_law.proofs.Following.{HasHeap, heap_of, is_running, slot_none}
-use Rattle.typed_law.proofs.Values.{seen_as, temp_seen, running, held_shown}
-use Rattle.typed_law.proofs.Leads.{from_other}
-use Rattle.typed_law.proofs.Forms.{within_env, newest, older, exact_at}
+use Rattle.sorts_law.specs.Below.fr_base.declared.place.Lval.{Lval}
+use Rattle.sorts_law.specs.Below.fr_typing.Kinds.{Kind, own, shared, mutable, view, Piece, whole, gone, boxed}
+use Rattle.sorts_law.specs.Below.fr_typing.Places.{Slot, Env}
+use Rattle.sorts_law.proofs.Below.fr_typing.PlaceLemmas.{eq_cases}
+use Rattle.sorts_law.specs.Below.fr_store.Keys.{Key, slot_k, temp_k}
+use Rattle.sorts_law.specs.Below.fr_store.Store.{gone_v, ref_v, Store, Place as StorePlace}
+use Rattle.sorts_law.specs.Below.fr_store.Typed.{int_tree, owns, refers, KeyTypes}
+use Rattle.sorts_law.specs.Below.fr_store.Below.{RefOf, ExactOf, SlotsBelow}
+use Rattle.sorts_law.specs.Below.fr_store.Thread.{TempIs}
+use Rattle.sorts_law.proofs.Below.fr_store.Sound.{ref_at}
+use Rattle.sorts_law.specs.Below.fr_sound.States.{env_at, is_hidden, is_held, hand_key, hand_kind, operands, IsThread}
+use Rattle.sorts_law.specs.Below.fr_code.CodeTypes.{Entry}
+use Rattle.sorts_law.specs.Below.thread_state.View.{is_over}
+use Rattle.sorts_law.specs.Below.thread_state.declared.value.Value.{Value}
+use Rattle.sorts_law.specs.Below.thread_state.declared.value.Value.TheVariants as value
+use Rattle.sorts_law.specs.Below.server_model.Servers.{Cluster}
+use Rattle.sorts_law.specs.Below.heap_law.Names.{if_so}
+use Rattle.sorts_law.specs.Below.heap_law.Follow.{Standing}
+use Rattle.sorts_law.specs.Below.heap_law.Sight.{sight}
+use Rattle.sorts_law.specs.Below.heap_law.OneHeap.{plain_value}
+use Rattle.sorts_law.specs.Below.type_law.ClusterTypes.{entry_wrong}
+use Rattle.sorts_law.specs.Below.path_law.HeapStore.{GoesOn}
+use Rattle.sorts_law.proofs.Below.path_law.Alike.{ref_type}
+use Rattle.sorts_law.proofs.Below.path_law.Forms.{none_of}
+use Rattle.sorts_law.proofs.Below.path_law.Shown.{shown_value, at_behind, behind_is}
+use Rattle.sorts_law.specs.Below.typed_law.Counted.{has_sort, slot_sort, slots_unsorted, temps_unsorted, sorts_of, sorts_wrong}
+use Rattle.sorts_law.proofs.Below.typed_law.Following.{HasHeap, heap_of, is_running, slot_none}
+use Rattle.sorts_law.proofs.Below.typed_law.Values.{seen_as, temp_seen, running, held_shown}
+use Rattle.sorts_law.proofs.Below.typed_law.Leads.{from_other}
+use Rattle.sorts_law.proofs.Below.typed_law.Forms.{within_env, newest, older, exact_at}
 use Rattle.holder_law.proofs.Holding.{holder_of, held, value_held}
 
 -- LISTS

@@ -2,42 +2,42 @@
 use Rattle.std.proofs.Common.{◌≡◌, ◌≢◌, ◌⊎◌, inl, inr, ℕ, ℤ, zero, suc, ◌+◌, ◌==◌, Bool, true, false, nat_lt, if◌then◌else◌, List, [], ◌∷◌, ◌++◌, length, Option, Some, None, refl, sym, ap, subst, ◌∙◌, arith}
 use Rattle.std.specs.Bool.{⊤}
 use Rattle.std.specs.Prelude.{slice_get, option_map}
-use Rattle.fr_base.specs.Lists.{last_of}
-use Rattle.fr_base.specs.Rooms.{WithRoom}
-use Rattle.fr_base.specs.declared.name.MutexNo.{MutexNo}
-use Rattle.fr_base.specs.declared.place.Lval.{Lval}
-use Rattle.fr_base.specs.declared.step.Fresh.{Fresh}
-use Rattle.fr_base.specs.declared.instruction.Instr.{Instr}
-use Rattle.fr_base.specs.declared.instruction.Instr.TheVariants as instr
-use Rattle.fr_base.specs.declared.instruction.Operand.{Operand}
-use Rattle.fr_base.specs.declared.instruction.Operand.TheVariants as operand
-use Rattle.fr_plain.specs.Acts.{result_of}
-use Rattle.heap_partition.specs.declared.value.Owned.{Owned}
-use Rattle.heap_partition.specs.declared.value.Owned.TheVariants as owned
-use Rattle.owner_box.specs.Partition.{stored}
-use Rattle.read_cache.specs.Cache.{can_unpin}
-use Rattle.mut_borrow.specs.Refs.{finish_word}
-use Rattle.mut_borrow.specs.declared.shared.SharedRef.{SharedRef}
-use Rattle.mut_borrow.specs.declared.mutable.MutRef.{MutRef}
-use Rattle.mutex_home.specs.Mutexes.{can_make, next_mutex}
-use Rattle.join_home.specs.Tasks.{can_begin, can_begin_pair}
-use Rattle.thread_state.specs.View.{ThreadState}
-use Rattle.thread_state.specs.declared.phase.Phase.{Phase}
-use Rattle.thread_state.specs.declared.phase.Phase.TheVariants as phase
-use Rattle.thread_state.specs.declared.value.Value.{Value}
-use Rattle.thread_state.specs.declared.value.Value.TheVariants as value
-use Rattle.journal.specs.declared.act.Act.TheVariants as act
-use Rattle.server_model.specs.Work.{Hand, Popped, front_of, pop, pop_owned, pop_int, pop_temp, pop_slot, taken_as, owned_of, int_of, task_of, then_some, working, with_partition, label_all, leads_here, push_temp, push_slot}
-use Rattle.server_model.specs.NewWords.{issue_placed}
-use Rattle.server_model.specs.Places.{Spot, in_slot, on_top, in_cell, in_copy, nowhere, cell_at, value_at, load_at, put_slot, owns_nothing, second_of, note_slot, note_write, put_at, written}
-use Rattle.server_model.specs.Drop.{unpin_ref, finished_at, drop_value}
-use Rattle.server_model.specs.Start.{next_thread, captured, left_after, capture_from, capture}
-use Rattle.server_model.specs.Commit.{next_object, push_box, Committed, done, waits, refused, done_where, go_on, goes_on, waiting, let_slot, label_dropped, store_labels, store_at, assign, take_out, read, shared_from, borrow_from, lent_word, lent, mutable_from, borrow_mut_from, begun, spawn_with, take_gift, join, pair_begun, par_with, par_end, end_with, mutex_at, dup, lock, held_of, unlock, commit}
-use Rattle.event_law.specs.Laws.{Gives}
-use Rattle.event_law.proofs.Values.{last_split}
-use Rattle.event_law.proofs.Results.{then_gives, map_gives, over_gives, bind_gives, test_gives, weaker}
-use Rattle.still_law.proofs.Readied.{Kept, Readied, set_ready}
-use Rattle.plain_types.specs.Keeps.{OnReferences, rests, binds, takes, lends, puts}
+use Rattle.sorts_law.specs.Below.fr_base.Lists.{last_of}
+use Rattle.sorts_law.specs.Below.fr_base.Rooms.{WithRoom}
+use Rattle.sorts_law.specs.Below.fr_base.declared.name.MutexNo.{MutexNo}
+use Rattle.sorts_law.specs.Below.fr_base.declared.place.Lval.{Lval}
+use Rattle.sorts_law.specs.Below.fr_base.declared.step.Fresh.{Fresh}
+use Rattle.sorts_law.specs.Below.fr_base.declared.instruction.Instr.{Instr}
+use Rattle.sorts_law.specs.Below.fr_base.declared.instruction.Instr.TheVariants as instr
+use Rattle.sorts_law.specs.Below.fr_base.declared.instruction.Operand.{Operand}
+use Rattle.sorts_law.specs.Below.fr_base.declared.instruction.Operand.TheVariants as operand
+use Rattle.sorts_law.specs.Below.fr_plain.Acts.{result_of}
+use Rattle.sorts_law.specs.Below.heap_partition.declared.value.Owned.{Owned}
+use Rattle.sorts_law.specs.Below.heap_partition.declared.value.Owned.TheVariants as owned
+use Rattle.sorts_law.specs.Below.owner_box.Partition.{stored}
+use Rattle.sorts_law.specs.Below.read_cache.Cache.{can_unpin}
+use Rattle.sorts_law.specs.Below.mut_borrow.Refs.{finish_word}
+use Rattle.sorts_law.specs.Below.mut_borrow.declared.shared.SharedRef.{SharedRef}
+use Rattle.sorts_law.specs.Below.mut_borrow.declared.mutable.MutRef.{MutRef}
+use Rattle.sorts_law.specs.Below.mutex_home.Mutexes.{can_make, next_mutex}
+use Rattle.sorts_law.specs.Below.join_home.Tasks.{can_begin, can_begin_pair}
+use Rattle.sorts_law.specs.Below.thread_state.View.{ThreadState}
+use Rattle.sorts_law.specs.Below.thread_state.declared.phase.Phase.{Phase}
+use Rattle.sorts_law.specs.Below.thread_state.declared.phase.Phase.TheVariants as phase
+use Rattle.sorts_law.specs.Below.thread_state.declared.value.Value.{Value}
+use Rattle.sorts_law.specs.Below.thread_state.declared.value.Value.TheVariants as value
+use Rattle.sorts_law.specs.Below.journal.declared.act.Act.TheVariants as act
+use Rattle.sorts_law.specs.Below.server_model.Work.{Hand, Popped, front_of, pop, pop_owned, pop_int, pop_temp, pop_slot, taken_as, owned_of, int_of, task_of, then_some, working, with_partition, label_all, leads_here, push_temp, push_slot}
+use Rattle.sorts_law.specs.Below.server_model.NewWords.{issue_placed}
+use Rattle.sorts_law.specs.Below.server_model.Places.{Spot, in_slot, on_top, in_cell, in_copy, nowhere, cell_at, value_at, load_at, put_slot, owns_nothing, second_of, note_slot, note_write, put_at, written}
+use Rattle.sorts_law.specs.Below.server_model.Drop.{unpin_ref, finished_at, drop_value}
+use Rattle.sorts_law.specs.Below.server_model.Start.{next_thread, captured, left_after, capture_from, capture}
+use Rattle.sorts_law.specs.Below.server_model.Commit.{next_object, push_box, Committed, done, waits, refused, done_where, go_on, goes_on, waiting, let_slot, label_dropped, store_labels, store_at, assign, take_out, read, shared_from, borrow_from, lent_word, lent, mutable_from, borrow_mut_from, begun, spawn_with, take_gift, join, pair_begun, par_with, par_end, end_with, mutex_at, dup, lock, held_of, unlock, commit}
+use Rattle.sorts_law.specs.Below.event_law.Laws.{Gives}
+use Rattle.sorts_law.proofs.Below.event_law.Values.{last_split}
+use Rattle.sorts_law.proofs.Below.event_law.Results.{then_gives, map_gives, over_gives, bind_gives, test_gives, weaker}
+use Rattle.sorts_law.proofs.Below.still_law.Readied.{Kept, Readied, set_ready}
+use Rattle.sorts_law.specs.Below.plain_types.Keeps.{OnReferences, rests, binds, takes, lends, puts}
 use Rattle.holder_law.proofs.Holding.{holder_of, held, top_held, Fewer, push_held, set_held, set_fewer, push_fewer, front_fewer, framed_held}
 use Rattle.holder_law.proofs.Came.{on_of, SlotCame, TempCame, Came}
 

@@ -1,14 +1,14 @@
 -- HOLDERS OF MUTABLE REFERENCES after each event (this project's rule): what of types the one heap doesn't tell.
 use Rattle.std.specs.Prelude.{◌≡◌}
-use Rattle.journal.specs.View.{EntryView}
-use Rattle.server_model.specs.declared.event.Event.{Event}
-use Rattle.server_model.specs.Servers.{Cluster}
-use Rattle.server_model.specs.Clusters.{apply}
-use Rattle.heap_law.specs.Sight.{sight}
-use Rattle.type_law.specs.ClusterTypes.{IsCoherent}
-use Rattle.event_law.specs.Laws.{Gives, FewEvents}
-use Rattle.typed_law.specs.Counted.{holders_off}
-use Rattle.state_law.specs.States.{HeapKept}
+use Rattle.sorts_law.specs.Below.journal.View.{EntryView}
+use Rattle.sorts_law.specs.Below.server_model.declared.event.Event.{Event}
+use Rattle.sorts_law.specs.Below.server_model.Servers.{Cluster}
+use Rattle.sorts_law.specs.Below.server_model.Clusters.{apply}
+use Rattle.sorts_law.specs.Below.heap_law.Sight.{sight}
+use Rattle.sorts_law.specs.Below.type_law.ClusterTypes.{IsCoherent}
+use Rattle.sorts_law.specs.Below.event_law.Laws.{Gives, FewEvents}
+use Rattle.sorts_law.specs.Below.typed_law.Counted.{holders_off}
+use Rattle.sorts_law.specs.Below.state_law.States.{HeapKept}
 
 -- each event of a coherent cluster, in which few were done, leaves one in which each mutable reference to an object has as its holder the place of its exact type with one
 -- star less, by whatever typing of the one heap in which mutable references have the exact types that they had, from where the act takes them

@@ -2,39 +2,39 @@
 use Rattle.std.proofs.Common.{◌≡◌, ℕ, ◌≤◌, ◌&&◌, Bool, true, false, nat_lt, Option, Some, None, refl, sym, ap, subst, ◌∙◌, arith}
 use Rattle.std.specs.Prelude.{slice_get}
 use Rattle.std.specs.List.{AllByRecursion}
-use Rattle.fr_base.specs.declared.name.ObjNo.{ObjNo}
-use Rattle.global_addr.specs.Words.{colour_of, address_of}
-use Rattle.owner_box.specs.Partition.{freed}
-use Rattle.journal.specs.View.{EntryView}
-use Rattle.server_msgs.specs.declared.message.Message.{Message}
-use Rattle.server_msgs.specs.declared.message.Message.TheVariants as message
-use Rattle.server_model.specs.declared.event.Event.{Event}
-use Rattle.server_model.specs.declared.event.What.TheVariants.{Deliver}
-use Rattle.server_model.specs.Servers.{Server, Cluster, server_at}
-use Rattle.server_model.specs.Work.{Work, Site, then_some, beside_threads}
-use Rattle.server_model.specs.Objects.{deliver_move, deliver_drop}
-use Rattle.server_model.specs.Events.{left_by, received, deliver, deliver_message, does}
-use Rattle.heap_law.specs.Names.{tot, other, some}
-use Rattle.heap_law.specs.Things.{sent, partition_things, things_of}
-use Rattle.heap_law.specs.Weights.{states}
-use Rattle.heap_law.specs.Sight.{is_word, word, sight}
-use Rattle.heap_law.specs.Placing.{words}
-use Rattle.heap_law.specs.Weights.{lies_under}
-use Rattle.heap_law.specs.Requests.{not_there}
-use Rattle.heap_law.specs.Coherent.{IsSound}
-use Rattle.heap_law.proofs.Names.{and_left, same_number}
-use Rattle.heap_law.proofs.Sums.{server_parts}
-use Rattle.event_law.specs.Laws.{Gives, FewEvents}
-use Rattle.event_law.proofs.Results.{over_gives, weaker}
-use Rattle.event_law.proofs.Cells.{looked, not_free}
-use Rattle.event_law.proofs.ObjectMessages.{looked_object}
-use Rattle.event_law.proofs.Events.{tot-server}
-use Rattle.event_law.proofs.MutexResults.{has}
-use Rattle.event_law.proofs.Known.{all_at}
-use Rattle.local_law.proofs.Threads.{remove_all}
-use Rattle.read_law.proofs.Lookups.{one_state}
-use Rattle.value_law.proofs.Fit.{ThreadFits, MessageFits, RestFits}
-use Rattle.value_law.proofs.Sums.{base_of}
+use Rattle.wait_law.specs.Below.fr_base.declared.name.ObjNo.{ObjNo}
+use Rattle.wait_law.specs.Below.global_addr.Words.{colour_of, address_of}
+use Rattle.wait_law.specs.Below.owner_box.Partition.{freed}
+use Rattle.wait_law.specs.Below.journal.View.{EntryView}
+use Rattle.wait_law.specs.Below.server_msgs.declared.message.Message.{Message}
+use Rattle.wait_law.specs.Below.server_msgs.declared.message.Message.TheVariants as message
+use Rattle.wait_law.specs.Below.server_model.declared.event.Event.{Event}
+use Rattle.wait_law.specs.Below.server_model.declared.event.What.TheVariants.{Deliver}
+use Rattle.wait_law.specs.Below.server_model.Servers.{Server, Cluster, server_at}
+use Rattle.wait_law.specs.Below.server_model.Work.{Work, Site, then_some, beside_threads}
+use Rattle.wait_law.specs.Below.server_model.Objects.{deliver_move, deliver_drop}
+use Rattle.wait_law.specs.Below.server_model.Events.{left_by, received, deliver, deliver_message, does}
+use Rattle.wait_law.specs.Below.heap_law.Names.{tot, other, some}
+use Rattle.wait_law.specs.Below.heap_law.Things.{sent, partition_things, things_of}
+use Rattle.wait_law.specs.Below.heap_law.Weights.{states}
+use Rattle.wait_law.specs.Below.heap_law.Sight.{is_word, word, sight}
+use Rattle.wait_law.specs.Below.heap_law.Placing.{words}
+use Rattle.wait_law.specs.Below.heap_law.Weights.{lies_under}
+use Rattle.wait_law.specs.Below.heap_law.Requests.{not_there}
+use Rattle.wait_law.specs.Below.heap_law.Coherent.{IsSound}
+use Rattle.wait_law.proofs.Below.heap_law.Names.{and_left, same_number}
+use Rattle.wait_law.proofs.Below.heap_law.Sums.{server_parts}
+use Rattle.wait_law.specs.Below.event_law.Laws.{Gives, FewEvents}
+use Rattle.wait_law.proofs.Below.event_law.Results.{over_gives, weaker}
+use Rattle.wait_law.proofs.Below.event_law.Cells.{looked, not_free}
+use Rattle.wait_law.proofs.Below.event_law.ObjectMessages.{looked_object}
+use Rattle.wait_law.proofs.Below.event_law.Events.{tot-server}
+use Rattle.wait_law.proofs.Below.event_law.MutexResults.{has}
+use Rattle.wait_law.proofs.Below.event_law.Known.{all_at}
+use Rattle.wait_law.proofs.Below.local_law.Threads.{remove_all}
+use Rattle.wait_law.proofs.Below.read_law.Lookups.{one_state}
+use Rattle.wait_law.proofs.Below.value_law.Fit.{ThreadFits, MessageFits, RestFits}
+use Rattle.wait_law.proofs.Below.value_law.Sums.{base_of}
 use Rattle.issue_law.specs.Issuing.{LandsNone, DeliveriesKeepIssued}
 use Rattle.issue_law.proofs.Words.{only}
 use Rattle.issue_law.proofs.Deliveries.{MovesNone}

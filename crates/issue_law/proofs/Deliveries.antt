@@ -3,49 +3,49 @@ use Rattle.std.proofs.Common.{◌≡◌, ℕ, ◌+◌, ◌==◌, ◌||◌, not, 
 use Rattle.std.specs.Prelude.{option_map}
 use Rattle.std.specs.List.{AllByRecursion}
 use Rattle.std.specs.Bool.{⊤}
-use Rattle.fr_base.specs.Lists.{is_in}
-use Rattle.fr_base.specs.declared.name.MutexNo.{MutexNo}
-use Rattle.fr_base.specs.declared.name.ObjNo.{ObjNo}
-use Rattle.fr_base.specs.declared.instruction.Instr.{Instr}
-use Rattle.fr_base.specs.declared.release.Released.TheVariants as released
-use Rattle.heap_partition.specs.declared.value.Cell.{Cell}
-use Rattle.heap_partition.specs.declared.value.Owned.{Owned}
-use Rattle.heap_partition.specs.declared.value.Owned.TheVariants as owned
-use Rattle.owner_box.specs.View.{PartitionState}
-use Rattle.read_cache.specs.Cache.{users, can_pin, pin, can_fill, fill}
-use Rattle.mutex_home.specs.Mutexes.{Mutexes, ask, give_back, more, less}
-use Rattle.mutex_home.specs.declared.answers.Asked.{Asked}
-use Rattle.mutex_home.specs.declared.answers.Asked.TheVariants as asked
-use Rattle.mutex_home.specs.declared.answers.Back.{Back}
-use Rattle.mutex_home.specs.declared.answers.Back.TheVariants as back
-use Rattle.join_home.specs.Tasks.{Task, TaskState, going, let_go, kept, in_pair, task_in, state_in, state_of, with_state, without_task, over_in, pair_ended, ended_from, ended, asked_from, let_go_from, let_go_of}
-use Rattle.join_home.specs.Tasks as tasks
-use Rattle.join_home.specs.declared.answers.EndedAs.{EndedAs}
-use Rattle.join_home.specs.declared.answers.EndedAs.TheVariants as over
-use Rattle.thread_state.specs.View.{ThreadState, is_over}
-use Rattle.thread_state.specs.declared.phase.Phase.{Phase}
-use Rattle.thread_state.specs.declared.phase.Phase.TheVariants as phase
-use Rattle.server_msgs.specs.declared.message.Message.{Message}
-use Rattle.server_msgs.specs.declared.message.Message.TheVariants as message
-use Rattle.journal.specs.declared.act.Act.TheVariants as act
-use Rattle.server_model.specs.Servers.{Rest}
-use Rattle.server_model.specs.Work.{Work, Hand, Site, note, sent_from, working, with_phase, with_cache, with_mutexes, with_tasks, then_some, put_back, thread_in, at_thread, beside_threads, look_object, used_once}
-use Rattle.server_model.specs.Objects.{deliver_fetch, waits_for_cell, filled, deliver_fetched}
-use Rattle.server_model.specs.Sharing.{given, answer_lock, deliver_lock, waits_for_lock, deliver_granted, answer_back, deliver_unlock, deliver_dup, waits_for_dup, deliver_dupped, give_up_left}
-use Rattle.server_model.specs.Joining.{answer_join, deliver_join, waits_for_join, deliver_joined, got_par, pair_over, end_answer, deliver_finished}
-use Rattle.server_model.specs.Events.{release, deliver_message}
-use Rattle.heap_law.specs.Names.{if_so}
-use Rattle.heap_law.specs.Placing.{phase_word}
-use Rattle.heap_law.specs.Naming.{phase_thread}
-use Rattle.heap_law.specs.Sharing.{phase_mutex}
-use Rattle.heap_law.proofs.Names.{if_none}
-use Rattle.event_law.specs.Laws.{Gives}
-use Rattle.event_law.proofs.Results.{map_gives, over_gives, bind_gives, test_gives, stand_gives, given_by}
-use Rattle.local_law.proofs.Small.{Of}
-use Rattle.local_law.proofs.Threads.{set_all, with_all, found_all}
-use Rattle.value_law.proofs.Fit.{Weights, owned_weight, OwnedFits, body_weight, ThreadFits, MessageFits, StateFits, TaskFits, filled_fit, Base}
-use Rattle.value_law.proofs.Middle.{object_fits}
-use Rattle.value_law.proofs.Deliveries.{HomeFit, AskedFits, asks, BackFits, backs, mores, LeftFits, lesses, joined, lets_go}
+use Rattle.wait_law.specs.Below.fr_base.Lists.{is_in}
+use Rattle.wait_law.specs.Below.fr_base.declared.name.MutexNo.{MutexNo}
+use Rattle.wait_law.specs.Below.fr_base.declared.name.ObjNo.{ObjNo}
+use Rattle.wait_law.specs.Below.fr_base.declared.instruction.Instr.{Instr}
+use Rattle.wait_law.specs.Below.fr_base.declared.release.Released.TheVariants as released
+use Rattle.wait_law.specs.Below.heap_partition.declared.value.Cell.{Cell}
+use Rattle.wait_law.specs.Below.heap_partition.declared.value.Owned.{Owned}
+use Rattle.wait_law.specs.Below.heap_partition.declared.value.Owned.TheVariants as owned
+use Rattle.wait_law.specs.Below.owner_box.View.{PartitionState}
+use Rattle.wait_law.specs.Below.read_cache.Cache.{users, can_pin, pin, can_fill, fill}
+use Rattle.wait_law.specs.Below.mutex_home.Mutexes.{Mutexes, ask, give_back, more, less}
+use Rattle.wait_law.specs.Below.mutex_home.declared.answers.Asked.{Asked}
+use Rattle.wait_law.specs.Below.mutex_home.declared.answers.Asked.TheVariants as asked
+use Rattle.wait_law.specs.Below.mutex_home.declared.answers.Back.{Back}
+use Rattle.wait_law.specs.Below.mutex_home.declared.answers.Back.TheVariants as back
+use Rattle.wait_law.specs.Below.join_home.Tasks.{Task, TaskState, going, let_go, kept, in_pair, task_in, state_in, state_of, with_state, without_task, over_in, pair_ended, ended_from, ended, asked_from, let_go_from, let_go_of}
+use Rattle.wait_law.specs.Below.join_home.Tasks as tasks
+use Rattle.wait_law.specs.Below.join_home.declared.answers.EndedAs.{EndedAs}
+use Rattle.wait_law.specs.Below.join_home.declared.answers.EndedAs.TheVariants as over
+use Rattle.wait_law.specs.Below.thread_state.View.{ThreadState, is_over}
+use Rattle.wait_law.specs.Below.thread_state.declared.phase.Phase.{Phase}
+use Rattle.wait_law.specs.Below.thread_state.declared.phase.Phase.TheVariants as phase
+use Rattle.wait_law.specs.Below.server_msgs.declared.message.Message.{Message}
+use Rattle.wait_law.specs.Below.server_msgs.declared.message.Message.TheVariants as message
+use Rattle.wait_law.specs.Below.journal.declared.act.Act.TheVariants as act
+use Rattle.wait_law.specs.Below.server_model.Servers.{Rest}
+use Rattle.wait_law.specs.Below.server_model.Work.{Work, Hand, Site, note, sent_from, working, with_phase, with_cache, with_mutexes, with_tasks, then_some, put_back, thread_in, at_thread, beside_threads, look_object, used_once}
+use Rattle.wait_law.specs.Below.server_model.Objects.{deliver_fetch, waits_for_cell, filled, deliver_fetched}
+use Rattle.wait_law.specs.Below.server_model.Sharing.{given, answer_lock, deliver_lock, waits_for_lock, deliver_granted, answer_back, deliver_unlock, deliver_dup, waits_for_dup, deliver_dupped, give_up_left}
+use Rattle.wait_law.specs.Below.server_model.Joining.{answer_join, deliver_join, waits_for_join, deliver_joined, got_par, pair_over, end_answer, deliver_finished}
+use Rattle.wait_law.specs.Below.server_model.Events.{release, deliver_message}
+use Rattle.wait_law.specs.Below.heap_law.Names.{if_so}
+use Rattle.wait_law.specs.Below.heap_law.Placing.{phase_word}
+use Rattle.wait_law.specs.Below.heap_law.Naming.{phase_thread}
+use Rattle.wait_law.specs.Below.heap_law.Sharing.{phase_mutex}
+use Rattle.wait_law.proofs.Below.heap_law.Names.{if_none}
+use Rattle.wait_law.specs.Below.event_law.Laws.{Gives}
+use Rattle.wait_law.proofs.Below.event_law.Results.{map_gives, over_gives, bind_gives, test_gives, stand_gives, given_by}
+use Rattle.wait_law.proofs.Below.local_law.Small.{Of}
+use Rattle.wait_law.proofs.Below.local_law.Threads.{set_all, with_all, found_all}
+use Rattle.wait_law.proofs.Below.value_law.Fit.{Weights, owned_weight, OwnedFits, body_weight, ThreadFits, MessageFits, StateFits, TaskFits, filled_fit, Base}
+use Rattle.wait_law.proofs.Below.value_law.Middle.{object_fits}
+use Rattle.wait_law.proofs.Below.value_law.Deliveries.{HomeFit, AskedFits, asks, BackFits, backs, mores, LeftFits, lesses, joined, lets_go}
 use Rattle.issue_law.proofs.Hands.{Kept, F, says_fits, with_copies, gives_up, phased, walked, gifted, used, pinned_word, taken_up}
 
 -- THE END OF A THREAD

@@ -2,25 +2,25 @@
 use Rattle.std.proofs.Common.{◌≡◌, sym, subst, ℕ, Bool, true, false, if◌then◌else◌, List, Option, Some, None, refl}
 use Rattle.std.specs.Prelude.{slice_get, option_map}
 use Rattle.std.specs.List.{AllByRecursion}
-use Rattle.fr_base.specs.declared.instruction.Instr.{Instr}
-use Rattle.fr_base.specs.declared.settings.Options.{Options}
-use Rattle.owner_box.specs.View.{PartitionState}
-use Rattle.read_cache.specs.Cache.{Copy, can_evict, evict, without_copy}
-use Rattle.migration.specs.Packing.{unpin_all, used_words, packed, pack_thread}
-use Rattle.thread_state.specs.View.{ThreadState}
-use Rattle.server_msgs.specs.declared.message.Message.{Message}
-use Rattle.server_msgs.specs.declared.message.Message.TheVariants as message
-use Rattle.journal.specs.View.{EntryView}
-use Rattle.server_model.specs.declared.event.What.TheVariants.{Step, Deliver, Evict, Migrate}
-use Rattle.server_model.specs.Servers.{Server}
-use Rattle.server_model.specs.Work.{Work, Hand, receive, then_some, thread_in, without_thread, beside_threads}
-use Rattle.server_model.specs.Moving.{depart}
-use Rattle.server_model.specs.Events.{Stepped, begin_work, begin_at, left_by, received, deliver_message, evict_copy, step, step_in, stepped, does}
-use Rattle.event_law.specs.Laws.{Gives}
-use Rattle.event_law.proofs.Results.{over_gives, test_gives}
-use Rattle.event_law.proofs.Known.{all_at}
-use Rattle.local_law.proofs.Threads.{set_all, without_all, found_all, remove_all}
-use Rattle.value_law.proofs.Fit.{Weights, CopyFits, ThreadFits, MessageFits, without_fit, unpinned_fit, packed_fits, Base, RestFits}
+use Rattle.wait_law.specs.Below.fr_base.declared.instruction.Instr.{Instr}
+use Rattle.wait_law.specs.Below.fr_base.declared.settings.Options.{Options}
+use Rattle.wait_law.specs.Below.owner_box.View.{PartitionState}
+use Rattle.wait_law.specs.Below.read_cache.Cache.{Copy, can_evict, evict, without_copy}
+use Rattle.wait_law.specs.Below.migration.Packing.{unpin_all, used_words, packed, pack_thread}
+use Rattle.wait_law.specs.Below.thread_state.View.{ThreadState}
+use Rattle.wait_law.specs.Below.server_msgs.declared.message.Message.{Message}
+use Rattle.wait_law.specs.Below.server_msgs.declared.message.Message.TheVariants as message
+use Rattle.wait_law.specs.Below.journal.View.{EntryView}
+use Rattle.wait_law.specs.Below.server_model.declared.event.What.TheVariants.{Step, Deliver, Evict, Migrate}
+use Rattle.wait_law.specs.Below.server_model.Servers.{Server}
+use Rattle.wait_law.specs.Below.server_model.Work.{Work, Hand, receive, then_some, thread_in, without_thread, beside_threads}
+use Rattle.wait_law.specs.Below.server_model.Moving.{depart}
+use Rattle.wait_law.specs.Below.server_model.Events.{Stepped, begin_work, begin_at, left_by, received, deliver_message, evict_copy, step, step_in, stepped, does}
+use Rattle.wait_law.specs.Below.event_law.Laws.{Gives}
+use Rattle.wait_law.proofs.Below.event_law.Results.{over_gives, test_gives}
+use Rattle.wait_law.proofs.Below.event_law.Known.{all_at}
+use Rattle.wait_law.proofs.Below.local_law.Threads.{set_all, without_all, found_all, remove_all}
+use Rattle.wait_law.proofs.Below.value_law.Fit.{Weights, CopyFits, ThreadFits, MessageFits, without_fit, unpinned_fit, packed_fits, Base, RestFits}
 use Rattle.issue_law.specs.Issuing.{MakesNone, IsReady}
 use Rattle.issue_law.proofs.Words.{only}
 use Rattle.issue_law.proofs.Hands.{Kept, says_fits, with_copies, taken_up}

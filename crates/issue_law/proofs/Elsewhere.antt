@@ -3,23 +3,23 @@ use Rattle.std.proofs.Common.{◌≡◌, ℕ, ◌+◌, Bool, true, false, if◌t
 use Rattle.std.specs.Prelude.{map}
 use Rattle.std.specs.List.{AllByRecursion}
 use Rattle.std.specs.Bool.{⊤}
-use Rattle.fr_base.specs.declared.name.MutexNo.{MutexNo}
-use Rattle.heap_partition.specs.declared.value.Cell.{Cell}
-use Rattle.heap_partition.specs.declared.value.Owned.{Owned}
-use Rattle.mut_borrow.specs.declared.shared.SharedRef.{SharedRef}
-use Rattle.owner_box.specs.View.{PartitionState}
-use Rattle.mutex_home.specs.Mutexes.{Mutex}
-use Rattle.join_home.specs.Tasks.{Task, TaskState, kept}
-use Rattle.thread_state.specs.View.{ThreadState}
-use Rattle.thread_state.specs.declared.value.Value.{Value}
-use Rattle.thread_state.specs.declared.value.Value.TheVariants as value
-use Rattle.server_msgs.specs.declared.message.Message.{Message}
-use Rattle.server_msgs.specs.declared.message.Message.TheVariants as message
-use Rattle.server_model.specs.Servers.{Server}
-use Rattle.heap_law.specs.Names.{tot}
-use Rattle.heap_law.specs.Things.{Location, Spot, Thing, lies, vacant, retired, uses, things_at, is_free, pin_things, value_things, slot_things, temp_things, gift_things, walk_things, thread_things, standing_things, message_things, waiting_things, leaving_things, cell_things, free_things, partition_things, copy_things, content_things, queue_things, mutex_things, task_things, result_things, server_things}
-use Rattle.heap_law.proofs.Sums.{tot-append, server_parts}
-use Rattle.event_law.proofs.Known.{all_append}
+use Rattle.wait_law.specs.Below.fr_base.declared.name.MutexNo.{MutexNo}
+use Rattle.wait_law.specs.Below.heap_partition.declared.value.Cell.{Cell}
+use Rattle.wait_law.specs.Below.heap_partition.declared.value.Owned.{Owned}
+use Rattle.wait_law.specs.Below.mut_borrow.declared.shared.SharedRef.{SharedRef}
+use Rattle.wait_law.specs.Below.owner_box.View.{PartitionState}
+use Rattle.wait_law.specs.Below.mutex_home.Mutexes.{Mutex}
+use Rattle.wait_law.specs.Below.join_home.Tasks.{Task, TaskState, kept}
+use Rattle.wait_law.specs.Below.thread_state.View.{ThreadState}
+use Rattle.wait_law.specs.Below.thread_state.declared.value.Value.{Value}
+use Rattle.wait_law.specs.Below.thread_state.declared.value.Value.TheVariants as value
+use Rattle.wait_law.specs.Below.server_msgs.declared.message.Message.{Message}
+use Rattle.wait_law.specs.Below.server_msgs.declared.message.Message.TheVariants as message
+use Rattle.wait_law.specs.Below.server_model.Servers.{Server}
+use Rattle.wait_law.specs.Below.heap_law.Names.{tot}
+use Rattle.wait_law.specs.Below.heap_law.Things.{Location, Spot, Thing, lies, vacant, retired, uses, things_at, is_free, pin_things, value_things, slot_things, temp_things, gift_things, walk_things, thread_things, standing_things, message_things, waiting_things, leaving_things, cell_things, free_things, partition_things, copy_things, content_things, queue_things, mutex_things, task_things, result_things, server_things}
+use Rattle.wait_law.proofs.Below.heap_law.Sums.{tot-append, server_parts}
+use Rattle.wait_law.proofs.Below.event_law.Known.{all_append}
 use Rattle.issue_law.proofs.Addresses.{object_in, SameAddresses}
 
 -- it isn't an address
@@ -119,7 +119,7 @@ module _ (f : Thing → ℕ) (sees : SeesAddresses f) where
       omega (
         arith,
         server_parts f s,
-        sees.nothing (Rattle.heap_law.specs.Things.counts n (length s.rest.partition.cells) s.rest.partition.retired s.rest.started s.rest.mutexes.made s.events) tt,
+        sees.nothing (Rattle.wait_law.specs.Below.heap_law.Things.counts n (length s.rest.partition.cells) s.rest.partition.retired s.rest.started s.rest.mutexes.made s.events) tt,
         none (things_at (copy_things n) 0 s.rest.cache) (each (copy_things n) (λ i c. (tt, tt)) 0 s.rest.cache),
         none (things_at (mutex_things n) 0 s.rest.mutexes.there) (each (mutex_things n) (mutexes n) 0 s.rest.mutexes.there),
         none (things_at (task_things n) 0 s.rest.tasks) (each (task_things n) (tasks n) 0 s.rest.tasks),

@@ -1,27 +1,27 @@
 -- After an event that issues no word each word that stands had been issued, and addresses are as they were, with its messages handed over.
 use Rattle.std.proofs.Common.{◌≡◌, ℕ, ◌≤◌, true, Option, Some, None, refl, ap, arith}
 use Rattle.std.specs.Prelude.{option_map}
-use Rattle.journal.specs.View.{EntryView}
-use Rattle.owner_box.specs.View.{PartitionState}
-use Rattle.server_model.specs.declared.event.Event.{Event}
-use Rattle.server_model.specs.Servers.{Server, Cluster, server_at}
-use Rattle.server_model.specs.Work.{then_some}
-use Rattle.server_model.specs.Events.{enabled, does}
-use Rattle.server_model.specs.Clusters.{with_server, done_at, apply}
-use Rattle.heap_law.specs.Names.{tot, other}
-use Rattle.heap_law.specs.Things.{Thing, partition_things, server_things, things_of}
-use Rattle.heap_law.specs.Sight.{issued, sight}
-use Rattle.heap_law.specs.Placing.{words}
-use Rattle.heap_law.specs.Words.{HasWords}
-use Rattle.heap_law.specs.Coherent.{IsSound, Holds, are_issued}
-use Rattle.event_law.specs.Laws.{Gives, FewEvents}
-use Rattle.event_law.proofs.Results.{over_gives, test_gives, weaker}
-use Rattle.event_law.proofs.KnownSound.{server_known}
-use Rattle.event_law.proofs.Events.{tot-server}
-use Rattle.event_law.proofs.Applied.{handed_on}
-use Rattle.event_law.proofs.Sending.{each_event_sends}
-use Rattle.word_law.specs.Unmoved.{WordsStay}
-use Rattle.value_law.proofs.Sums.{base_of, server_from, server_to}
+use Rattle.wait_law.specs.Below.journal.View.{EntryView}
+use Rattle.wait_law.specs.Below.owner_box.View.{PartitionState}
+use Rattle.wait_law.specs.Below.server_model.declared.event.Event.{Event}
+use Rattle.wait_law.specs.Below.server_model.Servers.{Server, Cluster, server_at}
+use Rattle.wait_law.specs.Below.server_model.Work.{then_some}
+use Rattle.wait_law.specs.Below.server_model.Events.{enabled, does}
+use Rattle.wait_law.specs.Below.server_model.Clusters.{with_server, done_at, apply}
+use Rattle.wait_law.specs.Below.heap_law.Names.{tot, other}
+use Rattle.wait_law.specs.Below.heap_law.Things.{Thing, partition_things, server_things, things_of}
+use Rattle.wait_law.specs.Below.heap_law.Sight.{issued, sight}
+use Rattle.wait_law.specs.Below.heap_law.Placing.{words}
+use Rattle.wait_law.specs.Below.heap_law.Words.{HasWords}
+use Rattle.wait_law.specs.Below.heap_law.Coherent.{IsSound, Holds, are_issued}
+use Rattle.wait_law.specs.Below.event_law.Laws.{Gives, FewEvents}
+use Rattle.wait_law.proofs.Below.event_law.Results.{over_gives, test_gives, weaker}
+use Rattle.wait_law.proofs.Below.event_law.KnownSound.{server_known}
+use Rattle.wait_law.proofs.Below.event_law.Events.{tot-server}
+use Rattle.wait_law.proofs.Below.event_law.Applied.{handed_on}
+use Rattle.wait_law.proofs.Below.event_law.Sending.{each_event_sends}
+use Rattle.wait_law.specs.Below.word_law.Unmoved.{WordsStay}
+use Rattle.wait_law.proofs.Below.value_law.Sums.{base_of, server_from, server_to}
 use Rattle.issue_law.proofs.Addresses.{same_itself}
 use Rattle.issue_law.proofs.Elsewhere.{partition_alone, same_weight}
 use Rattle.issue_law.proofs.Issued.{issuing, sees_addresses, issued_kept}

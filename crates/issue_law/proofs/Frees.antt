@@ -2,26 +2,26 @@
 use Rattle.std.proofs.Common.{◌≡◌, ℕ, ◌+◌, ◌≤◌, ◌&&◌, Bool, true, false, nat_lt, nat_le, if◌then◌else◌, List, ◌∷◌, Some, None, refl, ap, ◌∙◌, arith}
 use Rattle.std.specs.List.{AllByRecursion}
 use Rattle.std.proofs.lemmas.Bool.Decides.{nat_tests}
-use Rattle.fr_base.specs.declared.name.ObjNo.{ObjNo}
-use Rattle.global_addr.specs.Words.{colour_of, address_of}
-use Rattle.heap_partition.specs.declared.value.Cell.{Cell}
-use Rattle.owner_box.specs.View.{PartitionState}
-use Rattle.owner_box.specs.Partition.{freed}
-use Rattle.journal.specs.declared.act.Act.TheVariants as act
-use Rattle.server_msgs.specs.declared.message.Message.TheVariants as message
-use Rattle.server_model.specs.Servers.{Rest}
-use Rattle.server_model.specs.Work.{Work, note, with_partition, look_object}
-use Rattle.server_model.specs.Objects.{deliver_move, deliver_drop}
-use Rattle.heap_law.specs.Names.{tot, one}
-use Rattle.heap_law.specs.Things.{lies, vacant, retired, is_free, partition_things}
-use Rattle.heap_law.specs.Sight.{Pointer, is_spot, colour_up_to, word_of_object}
-use Rattle.event_law.specs.Laws.{Gives}
-use Rattle.event_law.proofs.Results.{map_gives}
-use Rattle.event_law.proofs.Cells.{left_by, looked, frees}
-use Rattle.event_law.proofs.ObjectMessages.{looked_object}
-use Rattle.event_law.proofs.Known.{all_set}
-use Rattle.value_law.proofs.Fit.{CellFits, FreeFits, Base, RestFits}
-use Rattle.value_law.proofs.Middle.{object_fits}
+use Rattle.wait_law.specs.Below.fr_base.declared.name.ObjNo.{ObjNo}
+use Rattle.wait_law.specs.Below.global_addr.Words.{colour_of, address_of}
+use Rattle.wait_law.specs.Below.heap_partition.declared.value.Cell.{Cell}
+use Rattle.wait_law.specs.Below.owner_box.View.{PartitionState}
+use Rattle.wait_law.specs.Below.owner_box.Partition.{freed}
+use Rattle.wait_law.specs.Below.journal.declared.act.Act.TheVariants as act
+use Rattle.wait_law.specs.Below.server_msgs.declared.message.Message.TheVariants as message
+use Rattle.wait_law.specs.Below.server_model.Servers.{Rest}
+use Rattle.wait_law.specs.Below.server_model.Work.{Work, note, with_partition, look_object}
+use Rattle.wait_law.specs.Below.server_model.Objects.{deliver_move, deliver_drop}
+use Rattle.wait_law.specs.Below.heap_law.Names.{tot, one}
+use Rattle.wait_law.specs.Below.heap_law.Things.{lies, vacant, retired, is_free, partition_things}
+use Rattle.wait_law.specs.Below.heap_law.Sight.{Pointer, is_spot, colour_up_to, word_of_object}
+use Rattle.wait_law.specs.Below.event_law.Laws.{Gives}
+use Rattle.wait_law.proofs.Below.event_law.Results.{map_gives}
+use Rattle.wait_law.proofs.Below.event_law.Cells.{left_by, looked, frees}
+use Rattle.wait_law.proofs.Below.event_law.ObjectMessages.{looked_object}
+use Rattle.wait_law.proofs.Below.event_law.Known.{all_set}
+use Rattle.wait_law.proofs.Below.value_law.Fit.{CellFits, FreeFits, Base, RestFits}
+use Rattle.wait_law.proofs.Below.value_law.Middle.{object_fits}
 use Rattle.issue_law.proofs.Addresses.{same_itself}
 use Rattle.issue_law.proofs.Words.{only}
 use Rattle.issue_law.proofs.Hands.{Kept, says_fits, gives_up}

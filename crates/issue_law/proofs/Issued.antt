@@ -1,24 +1,24 @@
 -- What was issued is issued, where objects have their words and addresses are as they were; so each word that stood is.
 use Rattle.std.proofs.Common.{◌≡◌, inl, inr, ⊎_elim, ℕ, ◌+◌, ◌≤◌, ◌&&◌, ◌||◌, Bool, true, false, if◌then◌else◌, List, [], ◌∷◌, Option, Some, None, refl, sym, ap, subst, ◌∙◌, arith}
-use Rattle.fr_base.specs.declared.name.ObjNo.{ObjNo}
-use Rattle.heap_partition.specs.declared.value.Cell.{Cell}
-use Rattle.heap_partition.specs.declared.value.Owned.{Owned}
-use Rattle.heap_partition.specs.declared.value.Owned.TheVariants as owned
-use Rattle.thread_state.specs.declared.phase.Phase.{Phase}
-use Rattle.thread_state.specs.declared.phase.Phase.TheVariants as phase
-use Rattle.server_msgs.specs.declared.message.Message.{Message}
-use Rattle.server_msgs.specs.declared.message.Message.TheVariants as message
-use Rattle.server_model.specs.Servers.{Cluster}
-use Rattle.heap_law.specs.Names.{tot, one, other, same_object, Among}
-use Rattle.heap_law.specs.Things.{Thing, holds, shares, borrows, lies, flies, vacant, retired, copied, uses, sent, stands, things_of}
-use Rattle.heap_law.specs.Sight.{Pointer, is_spot, colour_up_to, word_of_object, is_issued_at, is_issued, issued, sight}
-use Rattle.heap_law.specs.Placing.{owned_word, message_word, phase_word, words}
-use Rattle.heap_law.specs.Words.{all_pointers, IsStale, HasWords, WordsLaw}
-use Rattle.heap_law.specs.Coherent.{Holds, are_issued}
-use Rattle.heap_law.proofs.Names.{and_left, and_right}
-use Rattle.heap_law.proofs.Words.{named, fresh_from, told, words_law}
-use Rattle.event_law.proofs.Boxes.{tot_le}
-use Rattle.word_law.specs.Unmoved.{WordsStay}
+use Rattle.wait_law.specs.Below.fr_base.declared.name.ObjNo.{ObjNo}
+use Rattle.wait_law.specs.Below.heap_partition.declared.value.Cell.{Cell}
+use Rattle.wait_law.specs.Below.heap_partition.declared.value.Owned.{Owned}
+use Rattle.wait_law.specs.Below.heap_partition.declared.value.Owned.TheVariants as owned
+use Rattle.wait_law.specs.Below.thread_state.declared.phase.Phase.{Phase}
+use Rattle.wait_law.specs.Below.thread_state.declared.phase.Phase.TheVariants as phase
+use Rattle.wait_law.specs.Below.server_msgs.declared.message.Message.{Message}
+use Rattle.wait_law.specs.Below.server_msgs.declared.message.Message.TheVariants as message
+use Rattle.wait_law.specs.Below.server_model.Servers.{Cluster}
+use Rattle.wait_law.specs.Below.heap_law.Names.{tot, one, other, same_object, Among}
+use Rattle.wait_law.specs.Below.heap_law.Things.{Thing, holds, shares, borrows, lies, flies, vacant, retired, copied, uses, sent, stands, things_of}
+use Rattle.wait_law.specs.Below.heap_law.Sight.{Pointer, is_spot, colour_up_to, word_of_object, is_issued_at, is_issued, issued, sight}
+use Rattle.wait_law.specs.Below.heap_law.Placing.{owned_word, message_word, phase_word, words}
+use Rattle.wait_law.specs.Below.heap_law.Words.{all_pointers, IsStale, HasWords, WordsLaw}
+use Rattle.wait_law.specs.Below.heap_law.Coherent.{Holds, are_issued}
+use Rattle.wait_law.proofs.Below.heap_law.Names.{and_left, and_right}
+use Rattle.wait_law.proofs.Below.heap_law.Words.{named, fresh_from, told, words_law}
+use Rattle.wait_law.proofs.Below.event_law.Boxes.{tot_le}
+use Rattle.wait_law.specs.Below.word_law.Unmoved.{WordsStay}
 use Rattle.issue_law.proofs.Elsewhere.{NoAddress, SeesAddresses}
 
 -- WEIGHTS OF WORDS

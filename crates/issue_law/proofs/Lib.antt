@@ -1,3 +1,4 @@
+pub mod Below
 pub mod Addresses
 pub mod Elsewhere
 pub mod Issued

@@ -1,14 +1,14 @@
 -- A step whose place is ready as it is, and that makes nothing new, keeps it that each word was issued.
 use Rattle.std.proofs.Common.{◌≡◌, Some, sym, subst, ◌∙◌}
-use Rattle.journal.specs.View.{EntryView}
-use Rattle.server_model.specs.declared.event.Event.{Event}
-use Rattle.server_model.specs.declared.event.What.TheVariants.{Step}
-use Rattle.server_model.specs.Servers.{Server, server_at}
-use Rattle.server_model.specs.Work.{thread_in}
-use Rattle.server_model.specs.Events.{does}
-use Rattle.event_law.specs.Laws.{Gives}
-use Rattle.event_law.proofs.Results.{weaker}
-use Rattle.value_law.proofs.Sums.{base_of}
+use Rattle.wait_law.specs.Below.journal.View.{EntryView}
+use Rattle.wait_law.specs.Below.server_model.declared.event.Event.{Event}
+use Rattle.wait_law.specs.Below.server_model.declared.event.What.TheVariants.{Step}
+use Rattle.wait_law.specs.Below.server_model.Servers.{Server, server_at}
+use Rattle.wait_law.specs.Below.server_model.Work.{thread_in}
+use Rattle.wait_law.specs.Below.server_model.Events.{does}
+use Rattle.wait_law.specs.Below.event_law.Laws.{Gives}
+use Rattle.wait_law.proofs.Below.event_law.Results.{weaker}
+use Rattle.wait_law.proofs.Below.value_law.Sums.{base_of}
 use Rattle.issue_law.specs.Issuing.{IsReady, StepsKeepIssued}
 use Rattle.issue_law.proofs.Words.{only}
 use Rattle.issue_law.proofs.Does.{ServerKept, stepping}

@@ -1,28 +1,28 @@
 -- Each event in which no object comes or goes and no pointer gets another word keeps it that each word was issued.
 use Rattle.std.proofs.Common.{◌≡◌, ℕ, Option, Some, None, refl, sym, ap, subst, ◌∙◌}
 use Rattle.std.specs.Prelude.{slice_get, option_map}
-use Rattle.fr_base.specs.declared.instruction.Instr.{Instr}
-use Rattle.fr_base.specs.declared.instruction.Instr.TheVariants as instr
-use Rattle.thread_state.specs.View.{ThreadState}
-use Rattle.server_msgs.specs.declared.message.Message.{Message}
-use Rattle.server_msgs.specs.declared.message.Message.TheVariants as message
-use Rattle.journal.specs.View.{EntryView}
-use Rattle.server_model.specs.declared.event.What.{What}
-use Rattle.server_model.specs.declared.event.What.TheVariants.{Step, Deliver, Evict, Migrate}
-use Rattle.server_model.specs.declared.event.Event.{Event}
-use Rattle.server_model.specs.Servers.{Server, Cluster, server_at}
-use Rattle.server_model.specs.Work.{then_some, thread_in}
-use Rattle.server_model.specs.Places.{nowhere}
-use Rattle.server_model.specs.Events.{does}
-use Rattle.server_model.specs.Clusters.{apply}
-use Rattle.heap_law.specs.Sight.{sight}
-use Rattle.heap_law.specs.Coherent.{IsSound, Holds, are_issued}
-use Rattle.event_law.specs.Kinds.{Kind, evicts, migrates, starts, arrives, fetch, fetched, asks_lock, granted, unlocked, asks_dup, dupped, released, asks_join, joined, finished, step_print, step_arith, step_par_end, instr_kind, message_kind, kind_at}
-use Rattle.event_law.specs.Laws.{Gives, FewEvents}
-use Rattle.event_law.proofs.Results.{both_give, weaker}
-use Rattle.stay_law.proofs.StayKinds.{Stays as StaysOfKind, kind_stays}
-use Rattle.word_law.specs.Unmoved.{WordsStay, LeavesWords}
-use Rattle.value_law.proofs.Sums.{base_of}
+use Rattle.wait_law.specs.Below.fr_base.declared.instruction.Instr.{Instr}
+use Rattle.wait_law.specs.Below.fr_base.declared.instruction.Instr.TheVariants as instr
+use Rattle.wait_law.specs.Below.thread_state.View.{ThreadState}
+use Rattle.wait_law.specs.Below.server_msgs.declared.message.Message.{Message}
+use Rattle.wait_law.specs.Below.server_msgs.declared.message.Message.TheVariants as message
+use Rattle.wait_law.specs.Below.journal.View.{EntryView}
+use Rattle.wait_law.specs.Below.server_model.declared.event.What.{What}
+use Rattle.wait_law.specs.Below.server_model.declared.event.What.TheVariants.{Step, Deliver, Evict, Migrate}
+use Rattle.wait_law.specs.Below.server_model.declared.event.Event.{Event}
+use Rattle.wait_law.specs.Below.server_model.Servers.{Server, Cluster, server_at}
+use Rattle.wait_law.specs.Below.server_model.Work.{then_some, thread_in}
+use Rattle.wait_law.specs.Below.server_model.Places.{nowhere}
+use Rattle.wait_law.specs.Below.server_model.Events.{does}
+use Rattle.wait_law.specs.Below.server_model.Clusters.{apply}
+use Rattle.wait_law.specs.Below.heap_law.Sight.{sight}
+use Rattle.wait_law.specs.Below.heap_law.Coherent.{IsSound, Holds, are_issued}
+use Rattle.wait_law.specs.Below.event_law.Kinds.{Kind, evicts, migrates, starts, arrives, fetch, fetched, asks_lock, granted, unlocked, asks_dup, dupped, released, asks_join, joined, finished, step_print, step_arith, step_par_end, instr_kind, message_kind, kind_at}
+use Rattle.wait_law.specs.Below.event_law.Laws.{Gives, FewEvents}
+use Rattle.wait_law.proofs.Below.event_law.Results.{both_give, weaker}
+use Rattle.wait_law.proofs.Below.stay_law.StayKinds.{Stays as StaysOfKind, kind_stays}
+use Rattle.wait_law.specs.Below.word_law.Unmoved.{WordsStay, LeavesWords}
+use Rattle.wait_law.proofs.Below.value_law.Sums.{base_of}
 use Rattle.wait_law.specs.Steady.{IsSteady, EachSteadyEventKeeps}
 use Rattle.issue_law.specs.Issuing.{MakesNone, IsReady}
 use Rattle.issue_law.proofs.Words.{only}

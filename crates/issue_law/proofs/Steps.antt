@@ -1,35 +1,35 @@
 -- A step whose place is ready as it is, and that makes nothing new, keeps the words that fit, and the addresses.
 use Rattle.std.proofs.Common.{◌≡◌, ℕ, ◌+◌, ◌-◌, not, Bool, true, false, List, [], ◌∷◌, ◌++◌, Option, Some, None, refl, sym, subst, arith}
 use Rattle.std.specs.Prelude.{option_map}
-use Rattle.fr_base.specs.declared.instruction.Instr.{Instr}
-use Rattle.heap_partition.specs.declared.value.Owned.{Owned}
-use Rattle.owner_box.specs.View.{PartitionState}
-use Rattle.read_cache.specs.Cache.{Copy, users}
-use Rattle.migration.specs.Packing.{unpin_all}
-use Rattle.thread_state.specs.View.{ThreadState, is_over}
-use Rattle.thread_state.specs.declared.phase.Phase.{Phase}
-use Rattle.thread_state.specs.declared.phase.Phase.TheVariants as phase
-use Rattle.thread_state.specs.declared.value.Value.{Value}
-use Rattle.thread_state.specs.declared.value.Value.TheVariants as value
-use Rattle.server_msgs.specs.declared.message.Message.{Message}
-use Rattle.server_msgs.specs.declared.message.Message.TheVariants as message
-use Rattle.server_model.specs.Servers.{Rest}
-use Rattle.server_model.specs.Work.{Hand, sent_from, with_cache, with_phase, front_of}
-use Rattle.server_model.specs.Drop.{home_of, give_up}
-use Rattle.server_model.specs.Places.{Spot}
-use Rattle.server_model.specs.Prepare.{ready, access_of, prepare}
-use Rattle.server_model.specs.Commit.{Committed, done, waits, refused, go_on, end_with, label_dropped, commit}
-use Rattle.server_model.specs.Events.{done_step, committed, prepared, step}
-use Rattle.heap_law.specs.Placing.{phase_word}
-use Rattle.heap_law.specs.Naming.{phase_thread}
-use Rattle.heap_law.specs.Sharing.{phase_mutex}
-use Rattle.heap_law.proofs.Names.{if_none}
-use Rattle.event_law.specs.Laws.{Gives}
-use Rattle.event_law.proofs.Known.{all_append, all_take}
-use Rattle.local_law.proofs.Small.{Of}
-use Rattle.local_law.proofs.Plainly.{Settles, moves_by, Acts, Ends, EndsStep, commits}
-use Rattle.value_law.proofs.Fit.{OwnedFits, Fits, TempFits, WordFits, owned_temp, ThreadBody, ThreadFits, MessageFits, unpinned_fit, Base}
-use Rattle.value_law.proofs.Middle.{second_fits, shared_fits, lent_fits}
+use Rattle.wait_law.specs.Below.fr_base.declared.instruction.Instr.{Instr}
+use Rattle.wait_law.specs.Below.heap_partition.declared.value.Owned.{Owned}
+use Rattle.wait_law.specs.Below.owner_box.View.{PartitionState}
+use Rattle.wait_law.specs.Below.read_cache.Cache.{Copy, users}
+use Rattle.wait_law.specs.Below.migration.Packing.{unpin_all}
+use Rattle.wait_law.specs.Below.thread_state.View.{ThreadState, is_over}
+use Rattle.wait_law.specs.Below.thread_state.declared.phase.Phase.{Phase}
+use Rattle.wait_law.specs.Below.thread_state.declared.phase.Phase.TheVariants as phase
+use Rattle.wait_law.specs.Below.thread_state.declared.value.Value.{Value}
+use Rattle.wait_law.specs.Below.thread_state.declared.value.Value.TheVariants as value
+use Rattle.wait_law.specs.Below.server_msgs.declared.message.Message.{Message}
+use Rattle.wait_law.specs.Below.server_msgs.declared.message.Message.TheVariants as message
+use Rattle.wait_law.specs.Below.server_model.Servers.{Rest}
+use Rattle.wait_law.specs.Below.server_model.Work.{Hand, sent_from, with_cache, with_phase, front_of}
+use Rattle.wait_law.specs.Below.server_model.Drop.{home_of, give_up}
+use Rattle.wait_law.specs.Below.server_model.Places.{Spot}
+use Rattle.wait_law.specs.Below.server_model.Prepare.{ready, access_of, prepare}
+use Rattle.wait_law.specs.Below.server_model.Commit.{Committed, done, waits, refused, go_on, end_with, label_dropped, commit}
+use Rattle.wait_law.specs.Below.server_model.Events.{done_step, committed, prepared, step}
+use Rattle.wait_law.specs.Below.heap_law.Placing.{phase_word}
+use Rattle.wait_law.specs.Below.heap_law.Naming.{phase_thread}
+use Rattle.wait_law.specs.Below.heap_law.Sharing.{phase_mutex}
+use Rattle.wait_law.proofs.Below.heap_law.Names.{if_none}
+use Rattle.wait_law.specs.Below.event_law.Laws.{Gives}
+use Rattle.wait_law.proofs.Below.event_law.Known.{all_append, all_take}
+use Rattle.wait_law.proofs.Below.local_law.Small.{Of}
+use Rattle.wait_law.proofs.Below.local_law.Plainly.{Settles, moves_by, Acts, Ends, EndsStep, commits}
+use Rattle.wait_law.proofs.Below.value_law.Fit.{OwnedFits, Fits, TempFits, WordFits, owned_temp, ThreadBody, ThreadFits, MessageFits, unpinned_fit, Base}
+use Rattle.wait_law.proofs.Below.value_law.Middle.{second_fits, shared_fits, lent_fits}
 use Rattle.issue_law.specs.Issuing.{MakesNone}
 use Rattle.issue_law.proofs.Words.{only}
 use Rattle.issue_law.proofs.Hands.{Kept, F, places, says_fits, with_copies, gives_up, spot_fits, slots_put, temps_put, gifted, used}

@@ -1,23 +1,23 @@
 -- Weights of words alone: all that is named fits exactly where no word weighs something.
 use Rattle.std.proofs.Common.{◌≡◌, ℕ, not, List, [], ◌∷◌, refl, arith}
-use Rattle.fr_base.specs.declared.release.Released.{Released}
-use Rattle.fr_base.specs.declared.release.Released.TheVariants as released
-use Rattle.join_home.specs.Tasks.{TaskState, asked, in_pair}
-use Rattle.server_msgs.specs.declared.message.Message.{Message}
-use Rattle.server_msgs.specs.declared.message.Message.TheVariants as message
-use Rattle.heap_partition.specs.declared.value.Owned.{Owned}
-use Rattle.heap_partition.specs.declared.value.Owned.TheVariants as owned
-use Rattle.thread_state.specs.View.{is_over}
-use Rattle.thread_state.specs.declared.phase.Phase.{Phase}
-use Rattle.thread_state.specs.declared.phase.Phase.TheVariants as phase
-use Rattle.heap_law.specs.Names.{tot}
-use Rattle.heap_law.specs.Things.{Thing, at_slot, at_temp, in_cell, holds, locks, lies, flies, copied, sent, stands, noted}
-use Rattle.heap_law.specs.Placing.{words}
-use Rattle.heap_law.specs.Sharing.{owned_mutex, released_mutex, phase_mutex}
-use Rattle.heap_law.specs.Naming.{owned_thread, released_thread, message_thread, phase_thread, noted_thread, fetched_mutex}
-use Rattle.heap_law.proofs.Names.{if_none}
-use Rattle.value_law.proofs.Fit.{Weights}
-use Rattle.value_law.proofs.Sums.{no_asker, no_copy, stray}
+use Rattle.wait_law.specs.Below.fr_base.declared.release.Released.{Released}
+use Rattle.wait_law.specs.Below.fr_base.declared.release.Released.TheVariants as released
+use Rattle.wait_law.specs.Below.join_home.Tasks.{TaskState, asked, in_pair}
+use Rattle.wait_law.specs.Below.server_msgs.declared.message.Message.{Message}
+use Rattle.wait_law.specs.Below.server_msgs.declared.message.Message.TheVariants as message
+use Rattle.wait_law.specs.Below.heap_partition.declared.value.Owned.{Owned}
+use Rattle.wait_law.specs.Below.heap_partition.declared.value.Owned.TheVariants as owned
+use Rattle.wait_law.specs.Below.thread_state.View.{is_over}
+use Rattle.wait_law.specs.Below.thread_state.declared.phase.Phase.{Phase}
+use Rattle.wait_law.specs.Below.thread_state.declared.phase.Phase.TheVariants as phase
+use Rattle.wait_law.specs.Below.heap_law.Names.{tot}
+use Rattle.wait_law.specs.Below.heap_law.Things.{Thing, at_slot, at_temp, in_cell, holds, locks, lies, flies, copied, sent, stands, noted}
+use Rattle.wait_law.specs.Below.heap_law.Placing.{words}
+use Rattle.wait_law.specs.Below.heap_law.Sharing.{owned_mutex, released_mutex, phase_mutex}
+use Rattle.wait_law.specs.Below.heap_law.Naming.{owned_thread, released_thread, message_thread, phase_thread, noted_thread, fetched_mutex}
+use Rattle.wait_law.proofs.Below.heap_law.Names.{if_none}
+use Rattle.wait_law.proofs.Below.value_law.Fit.{Weights}
+use Rattle.wait_law.proofs.Below.value_law.Sums.{no_asker, no_copy, stray}
 
 -- each word weighs so much, and nothing else does
 abbrev pub only : (ℕ → ℕ) → Weights

@@ -1,23 +1,23 @@
 -- EVENTS THAT ISSUE NO WORD keep it that each word that stands anywhere was issued (this project's rules).
 use Rattle.std.specs.Prelude.{◌≡◌, ⊤, ℕ, Some, slice_get}
-use Rattle.fr_base.specs.declared.instruction.Instr.{Instr}
-use Rattle.fr_base.specs.declared.instruction.Instr.TheVariants as instr
-use Rattle.thread_state.specs.View.{ThreadState}
-use Rattle.journal.specs.View.{EntryView}
-use Rattle.server_msgs.specs.declared.message.Message.{Message}
-use Rattle.server_msgs.specs.declared.message.Message.TheVariants.{Moved}
-use Rattle.server_model.specs.declared.event.What.TheVariants.{Step, Deliver}
-use Rattle.server_model.specs.Servers.{Server, Cluster, server_at}
-use Rattle.server_model.specs.Work.{Hand, thread_in}
-use Rattle.server_model.specs.Places.{Spot}
-use Rattle.server_model.specs.Prepare.{ready, access_of, prepare}
-use Rattle.server_model.specs.Events.{begin_work}
-use Rattle.server_model.specs.Clusters.{apply}
-use Rattle.heap_law.specs.Sight.{sight}
-use Rattle.heap_law.specs.Coherent.{Holds, IsSound, are_issued}
-use Rattle.heap_law.specs.Words.{HasWords}
-use Rattle.event_law.specs.Laws.{Gives, FewEvents}
-use Rattle.word_law.specs.Unmoved.{WordsStay}
+use Rattle.wait_law.specs.Below.fr_base.declared.instruction.Instr.{Instr}
+use Rattle.wait_law.specs.Below.fr_base.declared.instruction.Instr.TheVariants as instr
+use Rattle.wait_law.specs.Below.thread_state.View.{ThreadState}
+use Rattle.wait_law.specs.Below.journal.View.{EntryView}
+use Rattle.wait_law.specs.Below.server_msgs.declared.message.Message.{Message}
+use Rattle.wait_law.specs.Below.server_msgs.declared.message.Message.TheVariants.{Moved}
+use Rattle.wait_law.specs.Below.server_model.declared.event.What.TheVariants.{Step, Deliver}
+use Rattle.wait_law.specs.Below.server_model.Servers.{Server, Cluster, server_at}
+use Rattle.wait_law.specs.Below.server_model.Work.{Hand, thread_in}
+use Rattle.wait_law.specs.Below.server_model.Places.{Spot}
+use Rattle.wait_law.specs.Below.server_model.Prepare.{ready, access_of, prepare}
+use Rattle.wait_law.specs.Below.server_model.Events.{begin_work}
+use Rattle.wait_law.specs.Below.server_model.Clusters.{apply}
+use Rattle.wait_law.specs.Below.heap_law.Sight.{sight}
+use Rattle.wait_law.specs.Below.heap_law.Coherent.{Holds, IsSound, are_issued}
+use Rattle.wait_law.specs.Below.heap_law.Words.{HasWords}
+use Rattle.wait_law.specs.Below.event_law.Laws.{Gives, FewEvents}
+use Rattle.wait_law.specs.Below.word_law.Unmoved.{WordsStay}
 
 -- an instruction that makes no object and no mutex and starts no thread
 abbrev pub MakesNone : Instr → Type 0

@@ -1,6 +1,6 @@
 //! Laws of issued words.
 
-ghost use Rattle.heap_law.specs.Coherent.{are_issued};
+ghost use Rattle.wait_law.specs.Below.heap_law.Coherent.{are_issued};
 ghost use Rattle.issue_law.specs.Issuing.{DeliveriesKeepIssued, StepsKeepIssued};
 ghost use Rattle.wait_law.specs.Steady.{EachSteadyEventKeeps};
 

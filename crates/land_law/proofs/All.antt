@@ -1,22 +1,22 @@
 -- Each event that is no step keeps what threads have passed, followed and wait for.
 use Rattle.std.proofs.Common.{◌≡◌, ℕ, Option, Some, None, refl}
 use Rattle.std.specs.Prelude.{slice_get, option_map}
-use Rattle.heap_partition.specs.declared.value.Cell.{Cell}
-use Rattle.fr_base.specs.declared.instruction.Instr.{Instr}
-use Rattle.fr_base.specs.declared.instruction.Instr.TheVariants as instr
-use Rattle.thread_state.specs.View.{ThreadState}
-use Rattle.server_msgs.specs.declared.message.Message.{Message}
-use Rattle.server_msgs.specs.declared.message.Message.TheVariants as message
-use Rattle.journal.specs.View.{EntryView}
-use Rattle.server_model.specs.declared.event.Event.{Event}
-use Rattle.server_model.specs.declared.event.What.{What}
-use Rattle.server_model.specs.declared.event.What.TheVariants.{Step, Deliver, Evict, Migrate}
-use Rattle.server_model.specs.Servers.{Server, Cluster, server_at}
-use Rattle.server_model.specs.Work.{then_some, thread_in}
-use Rattle.heap_law.specs.Coherent.{Holds, passed_lie_here, place_followed, waits_in_turn}
-use Rattle.event_law.specs.Kinds.{moved, message_kind, instr_kind, kind_at}
-use Rattle.stay_law.specs.Laws.{IsOfKind}
-use Rattle.word_law.specs.Unmoved.{Delivers}
+use Rattle.await_law.specs.Below.heap_partition.declared.value.Cell.{Cell}
+use Rattle.await_law.specs.Below.fr_base.declared.instruction.Instr.{Instr}
+use Rattle.await_law.specs.Below.fr_base.declared.instruction.Instr.TheVariants as instr
+use Rattle.await_law.specs.Below.thread_state.View.{ThreadState}
+use Rattle.await_law.specs.Below.server_msgs.declared.message.Message.{Message}
+use Rattle.await_law.specs.Below.server_msgs.declared.message.Message.TheVariants as message
+use Rattle.await_law.specs.Below.journal.View.{EntryView}
+use Rattle.await_law.specs.Below.server_model.declared.event.Event.{Event}
+use Rattle.await_law.specs.Below.server_model.declared.event.What.{What}
+use Rattle.await_law.specs.Below.server_model.declared.event.What.TheVariants.{Step, Deliver, Evict, Migrate}
+use Rattle.await_law.specs.Below.server_model.Servers.{Server, Cluster, server_at}
+use Rattle.await_law.specs.Below.server_model.Work.{then_some, thread_in}
+use Rattle.await_law.specs.Below.heap_law.Coherent.{Holds, passed_lie_here, place_followed, waits_in_turn}
+use Rattle.await_law.specs.Below.event_law.Kinds.{moved, message_kind, instr_kind, kind_at}
+use Rattle.await_law.specs.Below.stay_law.Laws.{IsOfKind}
+use Rattle.await_law.specs.Below.word_law.Unmoved.{Delivers}
 use Rattle.come_law.proofs.Sorts.{with_server, at_server}
 use Rattle.come_law.proofs.Such.{such_followed, such_lie, such_wait}
 use Rattle.land_law.specs.Landed.{EachUnsteppedEventKeeps}

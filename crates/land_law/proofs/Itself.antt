@@ -3,42 +3,42 @@ use Rattle.std.proofs.Common.{◌≡◌, ◌⊎◌, inl, inr, ℕ, ◌+◌, ◌-
 use Rattle.std.specs.Prelude.{slice_get, length}
 use Rattle.std.proofs.lemmas.Bool.Decides.{nat_tests}
 use Rattle.std.proofs.lemmas.Bool.{eq-eqb}
-use Rattle.fr_base.specs.Lists.{last_of}
-use Rattle.fr_base.specs.declared.name.ObjNo.{ObjNo}
-use Rattle.fr_base.specs.declared.place.Lval.{Lval}
-use Rattle.fr_base.specs.declared.instruction.Instr.{Instr}
-use Rattle.fr_base.specs.declared.instruction.Instr.TheVariants as instr
-use Rattle.fr_base.specs.Names.{same_object}
-use Rattle.heap_partition.specs.declared.value.Cell.{Cell}
-use Rattle.heap_partition.specs.declared.value.Owned.{Owned}
-use Rattle.heap_partition.specs.declared.value.Owned.TheVariants as owned
-use Rattle.thread_state.specs.View.{ThreadState}
-use Rattle.thread_state.specs.declared.phase.Phase.{Phase}
-use Rattle.thread_state.specs.declared.phase.Phase.TheVariants as phase
-use Rattle.thread_state.specs.declared.value.Value.{Value}
-use Rattle.thread_state.specs.declared.value.Value.TheVariants as value
-use Rattle.server_msgs.specs.declared.message.Message.TheVariants as message
-use Rattle.server_model.specs.declared.event.Event.{Event}
-use Rattle.server_model.specs.Prepare.{is_taken}
-use Rattle.server_model.specs.Servers.{Server, Cluster}
-use Rattle.server_model.specs.Work.{Hand}
-use Rattle.heap_law.specs.Names.{tot, one, other, if_so, Among}
-use Rattle.heap_law.specs.Things.{things_of}
-use Rattle.heap_law.specs.Follow.{Standing, threads_in, thread_at, hop_at}
-use Rattle.heap_law.specs.Paths.{path_of, written_place, followed}
-use Rattle.heap_law.specs.Sight.{sight}
-use Rattle.heap_law.specs.Walking.{path, words_kept, loose_hop, waits_for_lent, has_followed, lost_place}
-use Rattle.heap_law.specs.Requests.{is_got}
-use Rattle.type_law.specs.ClusterTypes.{IsCoherent}
-use Rattle.event_law.specs.Laws.{FewEvents}
-use Rattle.event_law.proofs.GiftsTaken.{no_gift}
-use Rattle.event_law.proofs.ThreadThere.{thread_there}
-use Rattle.path_law.proofs.Contained.{among_thread}
-use Rattle.still_law.proofs.Tests.{objects}
-use Rattle.still_law.proofs.Told.{told, same_told, thread_told, found}
-use Rattle.word_law.specs.Reworded.{HasPlaces}
-use Rattle.word_law.specs.Unmoved.{Delivers}
-use Rattle.walk_law.proofs.Tests.{same_value, values}
+use Rattle.await_law.specs.Below.fr_base.Lists.{last_of}
+use Rattle.await_law.specs.Below.fr_base.declared.name.ObjNo.{ObjNo}
+use Rattle.await_law.specs.Below.fr_base.declared.place.Lval.{Lval}
+use Rattle.await_law.specs.Below.fr_base.declared.instruction.Instr.{Instr}
+use Rattle.await_law.specs.Below.fr_base.declared.instruction.Instr.TheVariants as instr
+use Rattle.await_law.specs.Below.fr_base.Names.{same_object}
+use Rattle.await_law.specs.Below.heap_partition.declared.value.Cell.{Cell}
+use Rattle.await_law.specs.Below.heap_partition.declared.value.Owned.{Owned}
+use Rattle.await_law.specs.Below.heap_partition.declared.value.Owned.TheVariants as owned
+use Rattle.await_law.specs.Below.thread_state.View.{ThreadState}
+use Rattle.await_law.specs.Below.thread_state.declared.phase.Phase.{Phase}
+use Rattle.await_law.specs.Below.thread_state.declared.phase.Phase.TheVariants as phase
+use Rattle.await_law.specs.Below.thread_state.declared.value.Value.{Value}
+use Rattle.await_law.specs.Below.thread_state.declared.value.Value.TheVariants as value
+use Rattle.await_law.specs.Below.server_msgs.declared.message.Message.TheVariants as message
+use Rattle.await_law.specs.Below.server_model.declared.event.Event.{Event}
+use Rattle.await_law.specs.Below.server_model.Prepare.{is_taken}
+use Rattle.await_law.specs.Below.server_model.Servers.{Server, Cluster}
+use Rattle.await_law.specs.Below.server_model.Work.{Hand}
+use Rattle.await_law.specs.Below.heap_law.Names.{tot, one, other, if_so, Among}
+use Rattle.await_law.specs.Below.heap_law.Things.{things_of}
+use Rattle.await_law.specs.Below.heap_law.Follow.{Standing, threads_in, thread_at, hop_at}
+use Rattle.await_law.specs.Below.heap_law.Paths.{path_of, written_place, followed}
+use Rattle.await_law.specs.Below.heap_law.Sight.{sight}
+use Rattle.await_law.specs.Below.heap_law.Walking.{path, words_kept, loose_hop, waits_for_lent, has_followed, lost_place}
+use Rattle.await_law.specs.Below.heap_law.Requests.{is_got}
+use Rattle.await_law.specs.Below.type_law.ClusterTypes.{IsCoherent}
+use Rattle.await_law.specs.Below.event_law.Laws.{FewEvents}
+use Rattle.await_law.proofs.Below.event_law.GiftsTaken.{no_gift}
+use Rattle.await_law.proofs.Below.event_law.ThreadThere.{thread_there}
+use Rattle.await_law.proofs.Below.path_law.Contained.{among_thread}
+use Rattle.come_law.proofs.Below.still_law.Tests.{objects}
+use Rattle.come_law.proofs.Below.still_law.Told.{told, same_told, thread_told, found}
+use Rattle.await_law.specs.Below.word_law.Reworded.{HasPlaces}
+use Rattle.await_law.specs.Below.word_law.Unmoved.{Delivers}
+use Rattle.come_law.proofs.Below.walk_law.Tests.{same_value, values}
 use Rattle.land_law.proofs.Unworded.{unworded, LeadsAlike, place_same}
 use Rattle.land_law.proofs.Landing.{Landed, Goes, has_got, has_taken, Passes, as_before, one_more, PointsTo, by_box, by_reference}
 use Rattle.land_law.proofs.Waiter.{waits_under_it}

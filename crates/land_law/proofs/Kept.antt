@@ -2,51 +2,51 @@
 use Rattle.std.proofs.Common.{◌≡◌, ◌≤◌, ℕ, ◌==◌, ◌&&◌, Bool, true, false, Option, Some, None, refl, sym, ap, subst, ◌∙◌, arith}
 use Rattle.std.proofs.lemmas.Bool.{eqb-true}
 use Rattle.std.proofs.lemmas.Bool.Decides.{nat_tests}
-use Rattle.fr_base.specs.Names.{same_object}
-use Rattle.heap_partition.specs.declared.value.Cell.{Cell}
-use Rattle.thread_state.specs.View.{is_over}
-use Rattle.thread_state.specs.declared.phase.Phase.{Phase}
-use Rattle.thread_state.specs.declared.phase.Phase.TheVariants as phase
-use Rattle.server_msgs.specs.declared.message.Message.{Message}
-use Rattle.server_msgs.specs.declared.message.Message.TheVariants as message
-use Rattle.journal.specs.View.{EntryView}
-use Rattle.server_model.specs.declared.event.Event.{Event}
-use Rattle.server_model.specs.declared.event.What.TheVariants.{Deliver}
-use Rattle.server_model.specs.Servers.{Server, Cluster}
-use Rattle.server_model.specs.Clusters.{apply}
-use Rattle.heap_law.specs.Names.{tot, other, Among}
-use Rattle.heap_law.specs.Things.{Thing, in_cell, sent, message_things, things_of}
-use Rattle.heap_law.specs.Follow.{Standing, threads_in, thread_at}
-use Rattle.heap_law.specs.OneHeap.{two_in}
-use Rattle.heap_law.specs.Passing.{FollowedLaw, PassedLaw}
-use Rattle.heap_law.specs.Turn.{TurnLaw}
-use Rattle.heap_law.specs.Sight.{sight}
-use Rattle.heap_law.specs.Walking.{path, asks_for, asked_for, lost_place, out_of_turn, over_passed, away, too_far}
-use Rattle.heap_law.specs.Requests.{is_cell, in_phase, carries, old_word}
-use Rattle.heap_law.proofs.Names.{and_left, and_right}
-use Rattle.heap_law.specs.Coherent.{Holds, passed_lie_here, place_followed, waits_in_turn}
-use Rattle.heap_law.proofs.Words.{named, itself, none_at, none_all}
-use Rattle.heap_law.proofs.Followed.{followed_law}
-use Rattle.heap_law.proofs.Passing.{passed_law}
-use Rattle.heap_law.proofs.Turn.{turn_law}
-use Rattle.type_law.specs.ClusterTypes.{IsCoherent}
-use Rattle.event_law.specs.Laws.{Gives, FewEvents}
-use Rattle.event_law.proofs.Results.{both_give, weaker}
-use Rattle.event_law.proofs.MutexResults.{has}
-use Rattle.event_law.proofs.Sending.{applied_part}
-use Rattle.path_law.specs.HeapStore.{GoesOn, HasPaths}
-use Rattle.path_law.proofs.Alike.{coherent_has_paths}
-use Rattle.path_law.proofs.Contained.{among_thread}
-use Rattle.read_law.proofs.FreshReads.{chain_apart}
-use Rattle.result_law.proofs.Alone.{strays, all_less, needed_less, is_asked}
-use Rattle.result_law.proofs.Awaits.{awaited_mine}
-use Rattle.result_law.proofs.Made.{OwnedBy}
-use Rattle.word_law.specs.Reworded.{HasPlaces}
-use Rattle.word_law.specs.Unmoved.{Delivers}
-use Rattle.wait_law.proofs.Written.{Written}
-use Rattle.walk_law.proofs.Still.{places_of}
-use Rattle.walk_law.proofs.Sentences.{SameOn, lost_same, turn_kept, old_same}
-use Rattle.walk_law.proofs.Followed.{same_settings}
+use Rattle.await_law.specs.Below.fr_base.Names.{same_object}
+use Rattle.await_law.specs.Below.heap_partition.declared.value.Cell.{Cell}
+use Rattle.await_law.specs.Below.thread_state.View.{is_over}
+use Rattle.await_law.specs.Below.thread_state.declared.phase.Phase.{Phase}
+use Rattle.await_law.specs.Below.thread_state.declared.phase.Phase.TheVariants as phase
+use Rattle.await_law.specs.Below.server_msgs.declared.message.Message.{Message}
+use Rattle.await_law.specs.Below.server_msgs.declared.message.Message.TheVariants as message
+use Rattle.await_law.specs.Below.journal.View.{EntryView}
+use Rattle.await_law.specs.Below.server_model.declared.event.Event.{Event}
+use Rattle.await_law.specs.Below.server_model.declared.event.What.TheVariants.{Deliver}
+use Rattle.await_law.specs.Below.server_model.Servers.{Server, Cluster}
+use Rattle.await_law.specs.Below.server_model.Clusters.{apply}
+use Rattle.await_law.specs.Below.heap_law.Names.{tot, other, Among}
+use Rattle.await_law.specs.Below.heap_law.Things.{Thing, in_cell, sent, message_things, things_of}
+use Rattle.await_law.specs.Below.heap_law.Follow.{Standing, threads_in, thread_at}
+use Rattle.await_law.specs.Below.heap_law.OneHeap.{two_in}
+use Rattle.await_law.specs.Below.heap_law.Passing.{FollowedLaw, PassedLaw}
+use Rattle.await_law.specs.Below.heap_law.Turn.{TurnLaw}
+use Rattle.await_law.specs.Below.heap_law.Sight.{sight}
+use Rattle.await_law.specs.Below.heap_law.Walking.{path, asks_for, asked_for, lost_place, out_of_turn, over_passed, away, too_far}
+use Rattle.await_law.specs.Below.heap_law.Requests.{is_cell, in_phase, carries, old_word}
+use Rattle.await_law.proofs.Below.heap_law.Names.{and_left, and_right}
+use Rattle.await_law.specs.Below.heap_law.Coherent.{Holds, passed_lie_here, place_followed, waits_in_turn}
+use Rattle.await_law.proofs.Below.heap_law.Words.{named, itself, none_at, none_all}
+use Rattle.await_law.proofs.Below.heap_law.Followed.{followed_law}
+use Rattle.await_law.proofs.Below.heap_law.Passing.{passed_law}
+use Rattle.await_law.proofs.Below.heap_law.Turn.{turn_law}
+use Rattle.await_law.specs.Below.type_law.ClusterTypes.{IsCoherent}
+use Rattle.await_law.specs.Below.event_law.Laws.{Gives, FewEvents}
+use Rattle.await_law.proofs.Below.event_law.Results.{both_give, weaker}
+use Rattle.await_law.proofs.Below.event_law.MutexResults.{has}
+use Rattle.await_law.proofs.Below.event_law.Sending.{applied_part}
+use Rattle.await_law.specs.Below.path_law.HeapStore.{GoesOn, HasPaths}
+use Rattle.await_law.proofs.Below.path_law.Alike.{coherent_has_paths}
+use Rattle.await_law.proofs.Below.path_law.Contained.{among_thread}
+use Rattle.await_law.proofs.Below.read_law.FreshReads.{chain_apart}
+use Rattle.await_law.proofs.Below.result_law.Alone.{strays, all_less, needed_less, is_asked}
+use Rattle.await_law.proofs.Below.result_law.Awaits.{awaited_mine}
+use Rattle.await_law.proofs.Below.result_law.Made.{OwnedBy}
+use Rattle.await_law.specs.Below.word_law.Reworded.{HasPlaces}
+use Rattle.await_law.specs.Below.word_law.Unmoved.{Delivers}
+use Rattle.come_law.proofs.Below.wait_law.Written.{Written}
+use Rattle.come_law.proofs.Below.walk_law.Still.{places_of}
+use Rattle.come_law.proofs.Below.walk_law.Sentences.{SameOn, lost_same, turn_kept, old_same}
+use Rattle.come_law.proofs.Below.walk_law.Followed.{same_settings}
 use Rattle.come_law.proofs.Asked.{NoStep, lost_of, lost_by}
 use Rattle.come_law.proofs.Filled.{few_wait, unwaiting}
 use Rattle.come_law.proofs.Turn.{But, others_asked, none_else, unwaiting as unwaiting_turn}

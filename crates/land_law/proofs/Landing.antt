@@ -1,56 +1,56 @@
 -- An object lands: of its server the partition alone is another, and there at most one box gets another word, one to that object.
 use Rattle.std.proofs.Common.{inl, inr, ◌⊎◌, ◌≡◌, ◌≤◌, ℕ, zero, suc, ◌+◌, ◌-◌, ◌==◌, nat_lt, Bool, true, false, if◌then◌else◌, List, length, Option, Some, None, option_map, refl, sym, ap, subst, ◌∙◌, arith}
 use Rattle.std.specs.Prelude.{slice_get, remove}
-use Rattle.fr_base.specs.Lists.{last_of}
-use Rattle.fr_base.specs.declared.name.ObjNo.{ObjNo}
-use Rattle.fr_base.specs.declared.place.Lval.{Lval}
-use Rattle.fr_base.specs.declared.instruction.Instr.{Instr}
-use Rattle.fr_base.specs.declared.instruction.Instr.TheVariants as instr
-use Rattle.heap_partition.specs.declared.value.BoxPtr.{BoxPtr}
-use Rattle.heap_partition.specs.declared.value.Cell.{Cell}
-use Rattle.heap_partition.specs.declared.value.Owned.{Owned}
-use Rattle.heap_partition.specs.declared.value.Owned.TheVariants as owned
-use Rattle.mut_borrow.specs.declared.mutable.MutRef.{MutRef}
-use Rattle.owner_box.specs.View.{PartitionState}
-use Rattle.owner_box.specs.Partition.{made, stored}
-use Rattle.thread_state.specs.View.{ThreadState}
-use Rattle.thread_state.specs.declared.phase.Phase.{Phase}
-use Rattle.thread_state.specs.declared.phase.Phase.TheVariants as phase
-use Rattle.thread_state.specs.declared.value.Value.{Value}
-use Rattle.thread_state.specs.declared.value.Value.TheVariants as value
-use Rattle.journal.specs.declared.act.Act.TheVariants as act
-use Rattle.server_model.specs.Servers.{Rest, Server, Cluster, server_at}
-use Rattle.server_model.specs.Work.{Work, Hand, front_of, leads_here, look, receive, thread_in, then_some, with_partition, with_phase, with_slots}
-use Rattle.server_model.specs.NewWords.{NewWord, can_grow, issue_placed}
-use Rattle.server_model.specs.Places.{Spot, in_slot, on_top, in_cell, in_copy, nowhere, value_at, value_in as cell_value, note_slot, note_write, put_at, set_pointer, with_word}
-use Rattle.server_model.specs.Prepare as steps_of
-use Rattle.server_model.specs.Prepare.{Access, ReadTo, ReadPointer, WriteTo, LendTo, EndRef, Prepared, ready, requested, nothing, access_of, passing, write_stars}
-use Rattle.server_model.specs.Objects.{waits_for_cell, chased, waits_under, arrived_at, arrived_slot, passed_spot, arrived_write, arrived_lend, arrived_end, arrived, instr_access, deliver_moved}
-use Rattle.server_model.specs.Events.{received}
-use Rattle.heap_law.specs.Names.{Among}
-use Rattle.heap_law.specs.Things.{Location, at_slot, in_cell as in_object}
-use Rattle.heap_law.specs.Follow.{Standing, Ground, cell_of, value_in, value_of, value_behind, locate, hop_at}
-use Rattle.heap_law.specs.Paths as paths_of
-use Rattle.heap_law.specs.Paths.{Path, lends, writes, ends, path_of, Awaited, to_write, written_place}
-use Rattle.heap_law.specs.Sight.{sight}
-use Rattle.heap_law.specs.Turn.{InTurn, by_write, by_end, by_holder, NextHop}
-use Rattle.heap_law.specs.Walking.{path, waits_for_lent}
-use Rattle.heap_law.proofs.Passing.{paths_law}
-use Rattle.type_law.specs.ClusterTypes.{IsCoherent}
-use Rattle.event_law.specs.Laws.{Gives, FewEvents}
-use Rattle.event_law.proofs.Results.{then_gives, over_gives, test_gives, bind_gives}
-use Rattle.path_law.specs.HeapStore.{GoesOn, HasPaths}
-use Rattle.path_law.proofs.Alike.{coherent_has_paths}
-use Rattle.path_law.proofs.Sole.{some_is}
-use Rattle.end_law.proofs.Fresh.{writing}
-use Rattle.arrive_law.specs.Awaited.{Awaits}
-use Rattle.arrive_law.proofs.Awaited.{arrivals_awaited}
-use Rattle.write_law.proofs.Memory.{Leads, looks, made_leads, made_longer}
-use Rattle.write_law.proofs.Route.{Route, begins, At, a_slot, a_cell, Fine, Writing, all_hops, rerouted}
-use Rattle.write_law.proofs.Routes.{road, sane_at, roomy_at}
-use Rattle.write_law.proofs.Written.{IsFollowed, follows, short_place, may_pass, passed_lies}
-use Rattle.write_law.proofs.Passed.{on}
-use Rattle.event_law.proofs.Objects.{length_set}
+use Rattle.await_law.specs.Below.fr_base.Lists.{last_of}
+use Rattle.await_law.specs.Below.fr_base.declared.name.ObjNo.{ObjNo}
+use Rattle.await_law.specs.Below.fr_base.declared.place.Lval.{Lval}
+use Rattle.await_law.specs.Below.fr_base.declared.instruction.Instr.{Instr}
+use Rattle.await_law.specs.Below.fr_base.declared.instruction.Instr.TheVariants as instr
+use Rattle.await_law.specs.Below.heap_partition.declared.value.BoxPtr.{BoxPtr}
+use Rattle.await_law.specs.Below.heap_partition.declared.value.Cell.{Cell}
+use Rattle.await_law.specs.Below.heap_partition.declared.value.Owned.{Owned}
+use Rattle.await_law.specs.Below.heap_partition.declared.value.Owned.TheVariants as owned
+use Rattle.await_law.specs.Below.mut_borrow.declared.mutable.MutRef.{MutRef}
+use Rattle.await_law.specs.Below.owner_box.View.{PartitionState}
+use Rattle.await_law.specs.Below.owner_box.Partition.{made, stored}
+use Rattle.await_law.specs.Below.thread_state.View.{ThreadState}
+use Rattle.await_law.specs.Below.thread_state.declared.phase.Phase.{Phase}
+use Rattle.await_law.specs.Below.thread_state.declared.phase.Phase.TheVariants as phase
+use Rattle.await_law.specs.Below.thread_state.declared.value.Value.{Value}
+use Rattle.await_law.specs.Below.thread_state.declared.value.Value.TheVariants as value
+use Rattle.await_law.specs.Below.journal.declared.act.Act.TheVariants as act
+use Rattle.await_law.specs.Below.server_model.Servers.{Rest, Server, Cluster, server_at}
+use Rattle.await_law.specs.Below.server_model.Work.{Work, Hand, front_of, leads_here, look, receive, thread_in, then_some, with_partition, with_phase, with_slots}
+use Rattle.await_law.specs.Below.server_model.NewWords.{NewWord, can_grow, issue_placed}
+use Rattle.await_law.specs.Below.server_model.Places.{Spot, in_slot, on_top, in_cell, in_copy, nowhere, value_at, value_in as cell_value, note_slot, note_write, put_at, set_pointer, with_word}
+use Rattle.await_law.specs.Below.server_model.Prepare as steps_of
+use Rattle.await_law.specs.Below.server_model.Prepare.{Access, ReadTo, ReadPointer, WriteTo, LendTo, EndRef, Prepared, ready, requested, nothing, access_of, passing, write_stars}
+use Rattle.await_law.specs.Below.server_model.Objects.{waits_for_cell, chased, waits_under, arrived_at, arrived_slot, passed_spot, arrived_write, arrived_lend, arrived_end, arrived, instr_access, deliver_moved}
+use Rattle.await_law.specs.Below.server_model.Events.{received}
+use Rattle.await_law.specs.Below.heap_law.Names.{Among}
+use Rattle.await_law.specs.Below.heap_law.Things.{Location, at_slot, in_cell as in_object}
+use Rattle.await_law.specs.Below.heap_law.Follow.{Standing, Ground, cell_of, value_in, value_of, value_behind, locate, hop_at}
+use Rattle.await_law.specs.Below.heap_law.Paths as paths_of
+use Rattle.await_law.specs.Below.heap_law.Paths.{Path, lends, writes, ends, path_of, Awaited, to_write, written_place}
+use Rattle.await_law.specs.Below.heap_law.Sight.{sight}
+use Rattle.await_law.specs.Below.heap_law.Turn.{InTurn, by_write, by_end, by_holder, NextHop}
+use Rattle.await_law.specs.Below.heap_law.Walking.{path, waits_for_lent}
+use Rattle.await_law.proofs.Below.heap_law.Passing.{paths_law}
+use Rattle.await_law.specs.Below.type_law.ClusterTypes.{IsCoherent}
+use Rattle.await_law.specs.Below.event_law.Laws.{Gives, FewEvents}
+use Rattle.await_law.proofs.Below.event_law.Results.{then_gives, over_gives, test_gives, bind_gives}
+use Rattle.await_law.specs.Below.path_law.HeapStore.{GoesOn, HasPaths}
+use Rattle.await_law.proofs.Below.path_law.Alike.{coherent_has_paths}
+use Rattle.await_law.proofs.Below.path_law.Sole.{some_is}
+use Rattle.await_law.proofs.Below.end_law.Fresh.{writing}
+use Rattle.await_law.specs.Below.arrive_law.Awaited.{Awaits}
+use Rattle.await_law.proofs.Below.arrive_law.Awaited.{arrivals_awaited}
+use Rattle.await_law.proofs.Below.write_law.Memory.{Leads, looks, made_leads, made_longer}
+use Rattle.await_law.proofs.Below.write_law.Route.{Route, begins, At, a_slot, a_cell, Fine, Writing, all_hops, rerouted}
+use Rattle.await_law.proofs.Below.write_law.Routes.{road, sane_at, roomy_at}
+use Rattle.await_law.proofs.Below.write_law.Written.{IsFollowed, follows, short_place, may_pass, passed_lies}
+use Rattle.await_law.proofs.Below.write_law.Passed.{on}
+use Rattle.await_law.proofs.Below.event_law.Objects.{length_set}
 use Rattle.come_law.proofs.Filled.{waits_cell}
 use Rattle.land_law.proofs.Unworded.{unworded, word_unseen, set_unseen, note_unseen, last_pushed, LeadsAlike}
 use Rattle.land_law.proofs.Lent.{Pulls, Chases, lent_turn}
@@ -209,7 +209,7 @@ points (value.Held m) a h = absurd h
 -- the slots where a write is noted are as many
 noted_size : (vs : List Value) (i : ℕ) (o : Option Value) → length (note_slot vs i o) ≡ length vs
 noted_size vs i None = refl
-noted_size vs i (Some v) = length_set vs i (Rattle.server_model.specs.Places.written v)
+noted_size vs i (Some v) = length_set vs i (Rattle.await_law.specs.Below.server_model.Places.written v)
 
 -- a box that is waited for is one to that object
 boxed : (u : Owned) (a : Awaited) (q : Owned) → Among a (to_write (Some (value.Own u))) → (b : BoxPtr) → u ≡ owned.Box b → b.object ≡ a.object
@@ -267,7 +267,7 @@ module _ (k : Cluster) (co : IsCoherent k) (few : FewEvents k) (number i : ℕ) 
     pub thread : ThreadSo h.thread
     pub untouched : (v : ℕ) → h.thread.phase ≡ phase.Taken v → h.work.rest.partition ≡ made P cell
 
-  module _ (waiting : y.phase ≡ phase.WaitCell old) (message_there : slice_get s.rest.inbox i ≡ Some (Rattle.server_msgs.specs.declared.message.Message.TheVariants.Moved old cell t)) (new : ℕ) (work : Work) (rest : work.rest ≡ record (receive s.rest i) { partition = made P cell }) where
+  module _ (waiting : y.phase ≡ phase.WaitCell old) (message_there : slice_get s.rest.inbox i ≡ Some (Rattle.await_law.specs.Below.server_msgs.declared.message.Message.TheVariants.Moved old cell t)) (new : ℕ) (work : Work) (rest : work.rest ≡ record (receive s.rest i) { partition = made P cell }) where
     abbrev me : Standing
     me = record { server = s.rest.number; packed = false; thread = y }
 
@@ -533,7 +533,7 @@ module _ (k : Cluster) (co : IsCoherent k) (few : FewEvents k) (number i : ℕ) 
   waits_is (phase.WaitCell v) e = ap phase.WaitCell (Rattle.std.proofs.lemmas.Bool.eqb-true v old e)
   waits_is p e = absurd (cc e)
 
-  pub moved_lands : slice_get s.rest.inbox i ≡ Some (Rattle.server_msgs.specs.declared.message.Message.TheVariants.Moved old cell t) → Gives Landed (deliver_moved k.code old cell (record { work = (received i s).work; thread = y }))
+  pub moved_lands : slice_get s.rest.inbox i ≡ Some (Rattle.await_law.specs.Below.server_msgs.declared.message.Message.TheVariants.Moved old cell t) → Gives Landed (deliver_moved k.code old cell (record { work = (received i s).work; thread = y }))
   moved_lands message_there =
       test_gives Landed (waits_for_cell y.phase old) _ (λ z.
       bind_gives (λ (m : NewWord). m.work.rest ≡ record (receive s.rest i) { partition = made P cell }) Landed (issue_placed (act.Take cell.object old) cell (received i s).work) _

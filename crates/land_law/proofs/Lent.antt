@@ -3,25 +3,25 @@ use Rattle.std.proofs.Common.{◌≡◌, ◌⊎◌, inl, inr, ◌≤◌, ◌<◌
 use Rattle.std.specs.Prelude.{slice_get}
 use Rattle.std.proofs.lemmas.List.{reverse-append}
 use Rattle.std.proofs.lemmas.Bool.{eq-eqb}
-use Rattle.fr_base.specs.declared.place.Lval.{Lval}
-use Rattle.heap_partition.specs.declared.value.Owned.{Owned}
-use Rattle.heap_partition.specs.declared.value.Owned.TheVariants as owned
-use Rattle.mut_borrow.specs.declared.mutable.MutRef.{MutRef}
-use Rattle.thread_state.specs.declared.value.Value.{Value}
-use Rattle.thread_state.specs.declared.value.Value.TheVariants as value
-use Rattle.server_model.specs.Servers.{Cluster}
-use Rattle.server_model.specs.Objects.{chased, waits_under}
-use Rattle.heap_law.specs.Names.{Among}
-use Rattle.heap_law.specs.Things.{Location, at_slot}
-use Rattle.heap_law.specs.Follow.{Standing, Ground, value_behind, locate, hop_at, hops_from, hops}
-use Rattle.heap_law.specs.Paths.{Path, lends, Awaited, to_read, to_write, all_to, borrow_to, awaited}
-use Rattle.heap_law.specs.Passing.{HopOf}
-use Rattle.heap_law.specs.Sight.{sight}
-use Rattle.heap_law.specs.Turn.{IsAsked, AwaitsAt, before_lend, at_lend, InTurn, by_lend}
-use Rattle.heap_law.specs.Walking.{is_pull}
-use Rattle.heap_law.proofs.Passing.{paths_law}
-use Rattle.path_law.specs.HeapStore.{GoesOn, HasPaths}
-use Rattle.path_law.proofs.Shown.{stands_there}
+use Rattle.await_law.specs.Below.fr_base.declared.place.Lval.{Lval}
+use Rattle.await_law.specs.Below.heap_partition.declared.value.Owned.{Owned}
+use Rattle.await_law.specs.Below.heap_partition.declared.value.Owned.TheVariants as owned
+use Rattle.await_law.specs.Below.mut_borrow.declared.mutable.MutRef.{MutRef}
+use Rattle.await_law.specs.Below.thread_state.declared.value.Value.{Value}
+use Rattle.await_law.specs.Below.thread_state.declared.value.Value.TheVariants as value
+use Rattle.await_law.specs.Below.server_model.Servers.{Cluster}
+use Rattle.await_law.specs.Below.server_model.Objects.{chased, waits_under}
+use Rattle.await_law.specs.Below.heap_law.Names.{Among}
+use Rattle.await_law.specs.Below.heap_law.Things.{Location, at_slot}
+use Rattle.await_law.specs.Below.heap_law.Follow.{Standing, Ground, value_behind, locate, hop_at, hops_from, hops}
+use Rattle.await_law.specs.Below.heap_law.Paths.{Path, lends, Awaited, to_read, to_write, all_to, borrow_to, awaited}
+use Rattle.await_law.specs.Below.heap_law.Passing.{HopOf}
+use Rattle.await_law.specs.Below.heap_law.Sight.{sight}
+use Rattle.await_law.specs.Below.heap_law.Turn.{IsAsked, AwaitsAt, before_lend, at_lend, InTurn, by_lend}
+use Rattle.await_law.specs.Below.heap_law.Walking.{is_pull}
+use Rattle.await_law.proofs.Below.heap_law.Passing.{paths_law}
+use Rattle.await_law.specs.Below.path_law.HeapStore.{GoesOn, HasPaths}
+use Rattle.await_law.proofs.Below.path_law.Shown.{stands_there}
 use Rattle.await_law.proofs.Chasing.{in_its_slot, chased_there}
 
 -- LISTS OF WHAT IS AWAITED

@@ -1,3 +1,4 @@
+pub mod Below
 pub mod Unworded
 pub mod Lent
 pub mod Landing

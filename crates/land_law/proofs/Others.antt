@@ -3,50 +3,50 @@
 use Rattle.std.proofs.Common.{◌≡◌, ℕ, zero, suc, ◌+◌, ◌≤◌, ◌<◌, ◌==◌, ◌&&◌, Bool, true, false, Option, Some, None, is_some, refl, sym, ap, subst, ◌∙◌, arith}
 use Rattle.std.specs.Prelude.{slice_get, length}
 use Rattle.std.proofs.lemmas.Bool.{eq-eqb}
-use Rattle.fr_base.specs.declared.place.Lval.{Lval}
-use Rattle.fr_base.specs.declared.name.ObjNo.{ObjNo}
-use Rattle.fr_base.specs.declared.label.Plain.{Plain}
-use Rattle.fr_base.specs.declared.instruction.Instr.{Instr}
-use Rattle.fr_base.specs.declared.instruction.Instr.TheVariants as instr
-use Rattle.fr_base.specs.Names.{same_object}
-use Rattle.fr_sound.specs.Seen.{seen_cell}
-use Rattle.heap_partition.specs.Same.{same_owned}
-use Rattle.heap_partition.specs.declared.value.BoxPtr.{BoxPtr}
-use Rattle.heap_partition.specs.declared.value.Cell.{Cell}
-use Rattle.heap_partition.specs.declared.value.Owned.{Owned}
-use Rattle.heap_partition.specs.declared.value.Owned.TheVariants as owned
-use Rattle.thread_state.specs.View.{is_over}
-use Rattle.thread_state.specs.declared.value.Value.TheVariants as value
-use Rattle.server_model.specs.Servers.{Cluster}
-use Rattle.heap_law.specs.Names.{tot, one, other, if_so, Among}
-use Rattle.heap_law.specs.Things.{Location, in_cell, Thing, lies, flies, stands, sent, things_of}
-use Rattle.heap_law.specs.Follow.{Standing, Ground, thread_at, cell_of, slot_of, value_of, value_in, value_behind, leads, locate}
-use Rattle.heap_law.specs.OneHeap.{object_value}
-use Rattle.heap_law.specs.Paths.{Path, no_path, reads, shares, lends, writes, ends, path_of}
-use Rattle.heap_law.specs.Rooted.{is_end, dressed}
-use Rattle.heap_law.specs.Sight.{sight}
-use Rattle.heap_law.specs.Weights.{lies_at}
-use Rattle.heap_law.specs.Walking.{instr_of, path}
-use Rattle.heap_law.proofs.Names.{and_left, and_right}
-use Rattle.heap_law.proofs.Words.{none_at}
-use Rattle.path_law.specs.HeapStore.{GoesOn, HasPaths}
-use Rattle.path_law.proofs.Alike.{IsShown, a_slot, an_object, leads_in_heap}
-use Rattle.path_law.proofs.Contained.{among_thread}
-use Rattle.path_law.proofs.Shown.{object_shown}
-use Rattle.word_law.specs.Reworded.{HasPlaces}
-use Rattle.word_law.specs.Unmoved.{pointing}
-use Rattle.word_law.proofs.Standing.{CellOf, lying, flying, cell_among, cell_found}
-use Rattle.still_law.proofs.Tests.{objects}
-use Rattle.still_law.proofs.Told.{told, same_told, thread_told, tot_same, found}
-use Rattle.wait_law.specs.Places.{Follows}
-use Rattle.wait_law.proofs.Found.{weighing, among_weighs}
-use Rattle.wait_law.proofs.Written.{Written}
-use Rattle.walk_law.proofs.Cells.{Seeing, cell_weight}
-use Rattle.walk_law.proofs.Sentences.{SameHops, SameOn}
-use Rattle.walk_law.proofs.Still.{shows}
-use Rattle.walk_law.proofs.Others.{follows_apart}
-use Rattle.walk_law.proofs.Tests.{owneds, same_value, values}
-use Rattle.walk_law.proofs.Ways.{OnPath, on_path}
+use Rattle.await_law.specs.Below.fr_base.declared.place.Lval.{Lval}
+use Rattle.await_law.specs.Below.fr_base.declared.name.ObjNo.{ObjNo}
+use Rattle.await_law.specs.Below.fr_base.declared.label.Plain.{Plain}
+use Rattle.await_law.specs.Below.fr_base.declared.instruction.Instr.{Instr}
+use Rattle.await_law.specs.Below.fr_base.declared.instruction.Instr.TheVariants as instr
+use Rattle.await_law.specs.Below.fr_base.Names.{same_object}
+use Rattle.await_law.specs.Below.fr_sound.Seen.{seen_cell}
+use Rattle.await_law.specs.Below.heap_partition.Same.{same_owned}
+use Rattle.await_law.specs.Below.heap_partition.declared.value.BoxPtr.{BoxPtr}
+use Rattle.await_law.specs.Below.heap_partition.declared.value.Cell.{Cell}
+use Rattle.await_law.specs.Below.heap_partition.declared.value.Owned.{Owned}
+use Rattle.await_law.specs.Below.heap_partition.declared.value.Owned.TheVariants as owned
+use Rattle.await_law.specs.Below.thread_state.View.{is_over}
+use Rattle.await_law.specs.Below.thread_state.declared.value.Value.TheVariants as value
+use Rattle.await_law.specs.Below.server_model.Servers.{Cluster}
+use Rattle.await_law.specs.Below.heap_law.Names.{tot, one, other, if_so, Among}
+use Rattle.await_law.specs.Below.heap_law.Things.{Location, in_cell, Thing, lies, flies, stands, sent, things_of}
+use Rattle.await_law.specs.Below.heap_law.Follow.{Standing, Ground, thread_at, cell_of, slot_of, value_of, value_in, value_behind, leads, locate}
+use Rattle.await_law.specs.Below.heap_law.OneHeap.{object_value}
+use Rattle.await_law.specs.Below.heap_law.Paths.{Path, no_path, reads, shares, lends, writes, ends, path_of}
+use Rattle.await_law.specs.Below.heap_law.Rooted.{is_end, dressed}
+use Rattle.await_law.specs.Below.heap_law.Sight.{sight}
+use Rattle.await_law.specs.Below.heap_law.Weights.{lies_at}
+use Rattle.await_law.specs.Below.heap_law.Walking.{instr_of, path}
+use Rattle.await_law.proofs.Below.heap_law.Names.{and_left, and_right}
+use Rattle.await_law.proofs.Below.heap_law.Words.{none_at}
+use Rattle.await_law.specs.Below.path_law.HeapStore.{GoesOn, HasPaths}
+use Rattle.await_law.proofs.Below.path_law.Alike.{IsShown, a_slot, an_object, leads_in_heap}
+use Rattle.await_law.proofs.Below.path_law.Contained.{among_thread}
+use Rattle.await_law.proofs.Below.path_law.Shown.{object_shown}
+use Rattle.await_law.specs.Below.word_law.Reworded.{HasPlaces}
+use Rattle.await_law.specs.Below.word_law.Unmoved.{pointing}
+use Rattle.await_law.proofs.Below.word_law.Standing.{CellOf, lying, flying, cell_among, cell_found}
+use Rattle.come_law.proofs.Below.still_law.Tests.{objects}
+use Rattle.come_law.proofs.Below.still_law.Told.{told, same_told, thread_told, tot_same, found}
+use Rattle.come_law.specs.Below.wait_law.Places.{Follows}
+use Rattle.come_law.proofs.Below.wait_law.Found.{weighing, among_weighs}
+use Rattle.come_law.proofs.Below.wait_law.Written.{Written}
+use Rattle.come_law.proofs.Below.walk_law.Cells.{Seeing, cell_weight}
+use Rattle.come_law.proofs.Below.walk_law.Sentences.{SameHops, SameOn}
+use Rattle.come_law.proofs.Below.walk_law.Still.{shows}
+use Rattle.come_law.proofs.Below.walk_law.Others.{follows_apart}
+use Rattle.come_law.proofs.Below.walk_law.Tests.{owneds, same_value, values}
+use Rattle.come_law.proofs.Below.walk_law.Ways.{OnPath, on_path}
 use Rattle.land_law.proofs.Seen.{Fits, Leaves}
 
 truly : (b : Bool) → 1 ≤ one b → b ≡ true

@@ -1,46 +1,46 @@
 -- The thread to which an object came has at hand what it has followed, and what it has passed lies at its server.
 use Rattle.std.proofs.Common.{◌≡◌, ◌⊎◌, inl, inr, ◌≤◌, ℕ, zero, suc, ◌+◌, Bool, true, false, Option, Some, None, refl, sym, ap, subst, ◌∙◌, arith}
 use Rattle.std.specs.Prelude.{slice_get}
-use Rattle.fr_base.specs.Lists.{last_of}
-use Rattle.fr_base.specs.declared.name.ObjNo.{ObjNo}
-use Rattle.fr_base.specs.declared.place.Lval.{Lval}
-use Rattle.fr_base.specs.declared.instruction.Instr.{Instr}
-use Rattle.fr_base.specs.declared.instruction.Instr.TheVariants as instr
-use Rattle.fr_base.specs.Names.{same_object}
-use Rattle.heap_partition.specs.declared.value.Cell.{Cell}
-use Rattle.heap_partition.specs.declared.value.Owned.{Owned}
-use Rattle.heap_partition.specs.declared.value.Owned.TheVariants as owned
-use Rattle.thread_state.specs.View.{ThreadState, is_over}
-use Rattle.thread_state.specs.declared.phase.Phase.{Phase}
-use Rattle.thread_state.specs.declared.phase.Phase.TheVariants as phase
-use Rattle.thread_state.specs.declared.value.Value.{Value}
-use Rattle.thread_state.specs.declared.value.Value.TheVariants as value
-use Rattle.server_msgs.specs.declared.message.Message.TheVariants as message
-use Rattle.server_model.specs.declared.event.Event.{Event}
-use Rattle.server_model.specs.Prepare.{is_taken}
-use Rattle.server_model.specs.Servers.{Cluster}
-use Rattle.heap_law.specs.Names.{tot, one, other, some, Among}
-use Rattle.heap_law.specs.Things.{Location, things_of}
-use Rattle.heap_law.specs.Follow.{Standing, Ground, threads_in, thread_at, cell_of, value_of, leads, locate, hop_at}
-use Rattle.heap_law.specs.Paths.{Path, no_path, reads, shares, lends, writes, ends, path_of, ending, taking, assigning, written_place}
-use Rattle.heap_law.specs.Passing.{FollowedLaw, PassedLaw}
-use Rattle.heap_law.specs.Sight.{Sight, sight}
-use Rattle.heap_law.specs.Weights.{lies_at}
-use Rattle.heap_law.specs.Walking.{instr_of, path, waits_for_lent, lost_place, over_hops, over_place, over_passed, away}
-use Rattle.heap_law.proofs.Followed.{followed_law}
-use Rattle.heap_law.proofs.Passing.{passed_law}
-use Rattle.heap_law.proofs.Words.{none_at}
-use Rattle.type_law.specs.ClusterTypes.{IsCoherent}
-use Rattle.event_law.specs.Laws.{FewEvents}
-use Rattle.event_law.proofs.Bags.{thread_number}
-use Rattle.path_law.specs.HeapStore.{GoesOn, HasPaths}
-use Rattle.path_law.proofs.Alike.{coherent_has_paths}
-use Rattle.still_law.proofs.Tests.{objects}
-use Rattle.still_law.proofs.Told.{told, thread_told, at_thread as at_number, found}
-use Rattle.word_law.specs.Reworded.{HasPlaces}
-use Rattle.word_law.specs.Unmoved.{pointing, Delivers}
-use Rattle.walk_law.proofs.Still.{places_of}
-use Rattle.walk_law.proofs.Sentences.{SameOn, lost_same}
+use Rattle.await_law.specs.Below.fr_base.Lists.{last_of}
+use Rattle.await_law.specs.Below.fr_base.declared.name.ObjNo.{ObjNo}
+use Rattle.await_law.specs.Below.fr_base.declared.place.Lval.{Lval}
+use Rattle.await_law.specs.Below.fr_base.declared.instruction.Instr.{Instr}
+use Rattle.await_law.specs.Below.fr_base.declared.instruction.Instr.TheVariants as instr
+use Rattle.await_law.specs.Below.fr_base.Names.{same_object}
+use Rattle.await_law.specs.Below.heap_partition.declared.value.Cell.{Cell}
+use Rattle.await_law.specs.Below.heap_partition.declared.value.Owned.{Owned}
+use Rattle.await_law.specs.Below.heap_partition.declared.value.Owned.TheVariants as owned
+use Rattle.await_law.specs.Below.thread_state.View.{ThreadState, is_over}
+use Rattle.await_law.specs.Below.thread_state.declared.phase.Phase.{Phase}
+use Rattle.await_law.specs.Below.thread_state.declared.phase.Phase.TheVariants as phase
+use Rattle.await_law.specs.Below.thread_state.declared.value.Value.{Value}
+use Rattle.await_law.specs.Below.thread_state.declared.value.Value.TheVariants as value
+use Rattle.await_law.specs.Below.server_msgs.declared.message.Message.TheVariants as message
+use Rattle.await_law.specs.Below.server_model.declared.event.Event.{Event}
+use Rattle.await_law.specs.Below.server_model.Prepare.{is_taken}
+use Rattle.await_law.specs.Below.server_model.Servers.{Cluster}
+use Rattle.await_law.specs.Below.heap_law.Names.{tot, one, other, some, Among}
+use Rattle.await_law.specs.Below.heap_law.Things.{Location, things_of}
+use Rattle.await_law.specs.Below.heap_law.Follow.{Standing, Ground, threads_in, thread_at, cell_of, value_of, leads, locate, hop_at}
+use Rattle.await_law.specs.Below.heap_law.Paths.{Path, no_path, reads, shares, lends, writes, ends, path_of, ending, taking, assigning, written_place}
+use Rattle.await_law.specs.Below.heap_law.Passing.{FollowedLaw, PassedLaw}
+use Rattle.await_law.specs.Below.heap_law.Sight.{Sight, sight}
+use Rattle.await_law.specs.Below.heap_law.Weights.{lies_at}
+use Rattle.await_law.specs.Below.heap_law.Walking.{instr_of, path, waits_for_lent, lost_place, over_hops, over_place, over_passed, away}
+use Rattle.await_law.proofs.Below.heap_law.Followed.{followed_law}
+use Rattle.await_law.proofs.Below.heap_law.Passing.{passed_law}
+use Rattle.await_law.proofs.Below.heap_law.Words.{none_at}
+use Rattle.await_law.specs.Below.type_law.ClusterTypes.{IsCoherent}
+use Rattle.await_law.specs.Below.event_law.Laws.{FewEvents}
+use Rattle.await_law.proofs.Below.event_law.Bags.{thread_number}
+use Rattle.await_law.specs.Below.path_law.HeapStore.{GoesOn, HasPaths}
+use Rattle.await_law.proofs.Below.path_law.Alike.{coherent_has_paths}
+use Rattle.come_law.proofs.Below.still_law.Tests.{objects}
+use Rattle.come_law.proofs.Below.still_law.Told.{told, thread_told, at_thread as at_number, found}
+use Rattle.await_law.specs.Below.word_law.Reworded.{HasPlaces}
+use Rattle.await_law.specs.Below.word_law.Unmoved.{pointing, Delivers}
+use Rattle.come_law.proofs.Below.walk_law.Still.{places_of}
+use Rattle.come_law.proofs.Below.walk_law.Sentences.{SameOn, lost_same}
 use Rattle.land_law.proofs.Unworded.{unworded}
 use Rattle.land_law.proofs.Seen.{Leaves}
 use Rattle.land_law.proofs.Others.{lies_left, lies_new}
@@ -169,7 +169,7 @@ module _ (k : Cluster) (e : Event) (old : ℕ) (cell : Cell) (t : ℕ) (d : Deli
             let mine : takes y2 ≡ 1 = ap one taken in
             omega (arith, is, mine, thread_told takes t (things_of c) (after.numbers_differ t))
 
-        grown : (q2 : ObjNo) (v : Owned) → tot (λ x. Rattle.walk_law.proofs.Cells.cell_weight (cells_see (λ u. u) q2 v) x) (things_of k) ≤ tot (λ x. Rattle.walk_law.proofs.Cells.cell_weight (cells_see (λ u. u) q2 v) x) (things_of c)
+        grown : (q2 : ObjNo) (v : Owned) → tot (λ x. Rattle.come_law.proofs.Below.walk_law.Cells.cell_weight (cells_see (λ u. u) q2 v) x) (things_of k) ≤ tot (λ x. Rattle.come_law.proofs.Below.walk_law.Cells.cell_weight (cells_see (λ u. u) q2 v) x) (things_of c)
         grown q2 v = let l = left.cells (cells_see (λ u. u) q2 v) (record { threads = λ r b u. refl; messages = λ r m. refl }) has_taken_it in omega (arith, l)
 
     path_then : (v : Lval) → path (sight k) me ≡ lends v → path (sight k) y2 ≡ lends v
@@ -193,8 +193,8 @@ module _ (k : Cluster) (e : Event) (old : ℕ) (cell : Cell) (t : ℕ) (d : Deli
     where
       got : y2.thread.phase ≡ phase.Got → lost_place (sight c) y2 ≡ 0
       got f =
-          let followed_not : Rattle.heap_law.specs.Walking.has_followed (sight c) y2 y2.thread.phase ≡ false = ap (Rattle.heap_law.specs.Walking.has_followed (sight c) y2) f ∙ ap (λ v. Rattle.heap_law.specs.Walking.has_gift_there v (instr_of (sight c) y2)) (itself.no_gift_then k e old cell t d co few c after left y2 among number) in
-          ap (λ b. Rattle.heap_law.specs.Names.if_so b (tot (Rattle.heap_law.specs.Walking.loose_hop y2.server (Rattle.heap_law.specs.Walking.words_kept y2.thread)) (Rattle.heap_law.specs.Paths.followed G2 y2.thread.number (path (sight c) y2)))) followed_not
+          let followed_not : Rattle.await_law.specs.Below.heap_law.Walking.has_followed (sight c) y2 y2.thread.phase ≡ false = ap (Rattle.await_law.specs.Below.heap_law.Walking.has_followed (sight c) y2) f ∙ ap (λ v. Rattle.await_law.specs.Below.heap_law.Walking.has_gift_there v (instr_of (sight c) y2)) (itself.no_gift_then k e old cell t d co few c after left y2 among number) in
+          ap (λ b. Rattle.await_law.specs.Below.heap_law.Names.if_so b (tot (Rattle.await_law.specs.Below.heap_law.Walking.loose_hop y2.server (Rattle.await_law.specs.Below.heap_law.Walking.words_kept y2.thread)) (Rattle.await_law.specs.Below.heap_law.Paths.followed G2 y2.thread.number (path (sight c) y2)))) followed_not
 
       by : (q : Phase) → y2.thread.phase ≡ q → itself.goes_on q ≡ true → lost_place (sight c) y2 ≡ 0
       by phase.Got f g = got f
@@ -208,7 +208,7 @@ module _ (k : Cluster) (e : Event) (old : ℕ) (cell : Cell) (t : ℕ) (d : Deli
       let a : Found k c after part grown q z = cell_then k c after part grown q z there in
       ap (λ o. unworded (value_of o)) a.there ∙ part_seen a.cell.value ∙ ap (λ v. Some (value.Own v)) a.alike ∙ sym (part_seen z.value)
     where
-      grown : (q2 : ObjNo) (v : Owned) → tot (λ x. Rattle.walk_law.proofs.Cells.cell_weight (cells_see part q2 v) x) (things_of k) ≤ tot (λ x. Rattle.walk_law.proofs.Cells.cell_weight (cells_see part q2 v) x) (things_of c)
+      grown : (q2 : ObjNo) (v : Owned) → tot (λ x. Rattle.come_law.proofs.Below.walk_law.Cells.cell_weight (cells_see part q2 v) x) (things_of k) ≤ tot (λ x. Rattle.come_law.proofs.Below.walk_law.Cells.cell_weight (cells_see part q2 v) x) (things_of c)
       grown q2 v = let l = leaves.cells (cells_see part q2 v) (record { threads = λ r b u. refl; messages = λ r m. refl; words = λ r new z2 b f. same_less refl }) in omega (arith, l)
 
   hops_seen : (w : Lval) (m : ℕ) → unworded (hop_at G2 y.number w m) ≡ unworded (hop_at G y.number w m)

@@ -1,33 +1,33 @@
 -- Where what is seen of slots and cells is the same, each place of a thread leads where it led, over pointers of which the same is seen.
 use Rattle.std.proofs.Common.{◌≡◌, ℕ, zero, suc, ◌≤◌, ◌&&◌, Bool, true, false, Option, Some, None, refl, sym, ap, subst, ◌∙◌, arith}
 use Rattle.std.specs.Prelude.{slice_get}
-use Rattle.fr_base.specs.declared.place.Lval.{Lval}
-use Rattle.fr_base.specs.declared.name.ObjNo.{ObjNo}
-use Rattle.fr_base.specs.declared.label.Plain.{Plain}
-use Rattle.fr_base.specs.Names.{same_object}
-use Rattle.fr_sound.specs.Seen.{seen_cell}
-use Rattle.heap_partition.specs.Same.{same_owned}
-use Rattle.heap_partition.specs.declared.value.Cell.{Cell}
-use Rattle.heap_partition.specs.declared.value.Owned.{Owned}
-use Rattle.thread_state.specs.declared.value.Value.{Value}
-use Rattle.thread_state.specs.declared.value.Value.TheVariants as value
-use Rattle.server_model.specs.Servers.{Cluster}
-use Rattle.heap_law.specs.Names.{tot, one, Among}
-use Rattle.heap_law.specs.Things.{Location, in_cell, Thing, lies, flies, stands, sent, things_of}
-use Rattle.heap_law.specs.Follow.{Standing, Ground, thread_at, cell_of, slot_of, value_of, value_in, value_behind, leads, locate, hop_at}
-use Rattle.heap_law.specs.OneHeap.{object_value}
-use Rattle.heap_law.specs.Sight.{sight}
-use Rattle.heap_law.proofs.Names.{and_left, and_right}
-use Rattle.path_law.specs.HeapStore.{GoesOn, HasPaths}
-use Rattle.path_law.proofs.Alike.{IsShown, a_slot, an_object, leads_in_heap}
-use Rattle.path_law.proofs.Shown.{object_shown}
-use Rattle.word_law.specs.Reworded.{HasPlaces}
-use Rattle.word_law.proofs.Standing.{CellOf, lying, flying, cell_among, cell_found}
-use Rattle.still_law.proofs.Tests.{objects}
-use Rattle.still_law.proofs.Told.{found}
-use Rattle.wait_law.proofs.Found.{weighing, among_weighs}
-use Rattle.walk_law.proofs.Cells.{Seeing, cell_weight}
-use Rattle.walk_law.proofs.Tests.{owneds}
+use Rattle.await_law.specs.Below.fr_base.declared.place.Lval.{Lval}
+use Rattle.await_law.specs.Below.fr_base.declared.name.ObjNo.{ObjNo}
+use Rattle.await_law.specs.Below.fr_base.declared.label.Plain.{Plain}
+use Rattle.await_law.specs.Below.fr_base.Names.{same_object}
+use Rattle.await_law.specs.Below.fr_sound.Seen.{seen_cell}
+use Rattle.await_law.specs.Below.heap_partition.Same.{same_owned}
+use Rattle.await_law.specs.Below.heap_partition.declared.value.Cell.{Cell}
+use Rattle.await_law.specs.Below.heap_partition.declared.value.Owned.{Owned}
+use Rattle.await_law.specs.Below.thread_state.declared.value.Value.{Value}
+use Rattle.await_law.specs.Below.thread_state.declared.value.Value.TheVariants as value
+use Rattle.await_law.specs.Below.server_model.Servers.{Cluster}
+use Rattle.await_law.specs.Below.heap_law.Names.{tot, one, Among}
+use Rattle.await_law.specs.Below.heap_law.Things.{Location, in_cell, Thing, lies, flies, stands, sent, things_of}
+use Rattle.await_law.specs.Below.heap_law.Follow.{Standing, Ground, thread_at, cell_of, slot_of, value_of, value_in, value_behind, leads, locate, hop_at}
+use Rattle.await_law.specs.Below.heap_law.OneHeap.{object_value}
+use Rattle.await_law.specs.Below.heap_law.Sight.{sight}
+use Rattle.await_law.proofs.Below.heap_law.Names.{and_left, and_right}
+use Rattle.await_law.specs.Below.path_law.HeapStore.{GoesOn, HasPaths}
+use Rattle.await_law.proofs.Below.path_law.Alike.{IsShown, a_slot, an_object, leads_in_heap}
+use Rattle.await_law.proofs.Below.path_law.Shown.{object_shown}
+use Rattle.await_law.specs.Below.word_law.Reworded.{HasPlaces}
+use Rattle.await_law.proofs.Below.word_law.Standing.{CellOf, lying, flying, cell_among, cell_found}
+use Rattle.come_law.proofs.Below.still_law.Tests.{objects}
+use Rattle.come_law.proofs.Below.still_law.Told.{found}
+use Rattle.come_law.proofs.Below.wait_law.Found.{weighing, among_weighs}
+use Rattle.come_law.proofs.Below.walk_law.Cells.{Seeing, cell_weight}
+use Rattle.come_law.proofs.Below.walk_law.Tests.{owneds}
 
 module _ (k c : Cluster) (seen : Option Value → Option Value) (leads_seen : (t : ℕ) (v : Option Value) → leads t (seen v) ≡ leads t v) (p : HasPaths k) (before : HasPlaces k) (after : HasPlaces c) (me : Standing) (g : GoesOn k me) (y : Standing) (among : Among y (sight c).ground.threads) (number : y.thread.number ≡ me.thread.number)
     (slots : (j : ℕ) → seen (slice_get y.thread.slots j) ≡ seen (slice_get me.thread.slots j)) (cells : (q : ObjNo) (d : Cell) → cell_of (sight k).ground.cells q ≡ Some d → seen (value_of (cell_of (sight c).ground.cells q)) ≡ seen (Some (value.Own d.value))) where

@@ -2,43 +2,43 @@
 use Rattle.std.proofs.Common.{◌≡◌, ◌≤◌, ℕ, zero, suc, ◌+◌, ◌==◌, ◌&&◌, Bool, true, false, if◌then◌else◌, List, [], ◌∷◌, ◌++◌, Option, Some, None, option_map, refl, sym, ap, subst, ◌∙◌, arith}
 use Rattle.std.specs.Prelude.{slice_get, remove}
 use Rattle.std.proofs.lemmas.Bool.Decides.{nat_tests}
-use Rattle.fr_base.specs.declared.name.ObjNo.{ObjNo}
-use Rattle.heap_partition.specs.declared.value.BoxPtr.{BoxPtr}
-use Rattle.heap_partition.specs.declared.value.Cell.{Cell}
-use Rattle.heap_partition.specs.declared.value.Owned.TheVariants as owned
-use Rattle.owner_box.specs.View.{PartitionState}
-use Rattle.owner_box.specs.Partition.{made}
-use Rattle.thread_state.specs.View.{ThreadState}
-use Rattle.server_msgs.specs.declared.message.Message.{Message}
-use Rattle.server_msgs.specs.declared.message.Message.TheVariants as message
-use Rattle.journal.specs.View.{EntryView}
-use Rattle.server_model.specs.declared.event.Event.{Event}
-use Rattle.server_model.specs.declared.event.What.TheVariants.{Deliver}
-use Rattle.server_model.specs.Servers.{Server, Cluster, server_at}
-use Rattle.server_model.specs.Work.{Hand, Site, receive, thread_in, set_thread, then_some, put_back, at_thread}
-use Rattle.server_model.specs.Objects.{deliver_moved}
-use Rattle.server_model.specs.Events.{begin_work, enabled, received, left_by, deliver_message, does}
-use Rattle.server_model.specs.Clusters.{done_at, act_at, apply}
-use Rattle.heap_law.specs.Names.{tot, one, if_so}
-use Rattle.heap_law.specs.Things.{Thing, vacant, stands, things_at, message_things, waiting_things, leaving_things, partition_things, server_things, things_of}
-use Rattle.heap_law.specs.Follow.{Standing}
-use Rattle.heap_law.proofs.Sums.{tot-append}
-use Rattle.type_law.specs.ClusterTypes.{IsCoherent}
-use Rattle.event_law.specs.Laws.{Gives, FewEvents}
-use Rattle.event_law.proofs.Results.{then_gives, over_gives, test_gives}
-use Rattle.event_law.proofs.Trades.{tot-remove}
-use Rattle.event_law.proofs.Bags.{all_standing, rest_things, server_same, tot-without, tot-set, thread_number}
-use Rattle.event_law.proofs.Objects.{taken_place, makes}
-use Rattle.event_law.proofs.Values.{stores}
-use Rattle.event_law.proofs.Unseen.{Unseen, Unnoted, thread_alone, seen_of}
-use Rattle.event_law.proofs.Events.{tot-server}
-use Rattle.event_law.proofs.Applied.{handed_on}
-use Rattle.event_law.proofs.Sending.{each_event_sends}
-use Rattle.still_law.proofs.Addresses.{next_empty, in_place}
-use Rattle.still_law.proofs.Leaving.{others, placed_here}
-use Rattle.still_law.proofs.Told.{at_thread as at_number}
-use Rattle.word_law.specs.Unmoved.{Delivers}
-use Rattle.walk_law.proofs.Cells.{Seeing, cell_weight, thread_seen, amount, rest_seen}
+use Rattle.await_law.specs.Below.fr_base.declared.name.ObjNo.{ObjNo}
+use Rattle.await_law.specs.Below.heap_partition.declared.value.BoxPtr.{BoxPtr}
+use Rattle.await_law.specs.Below.heap_partition.declared.value.Cell.{Cell}
+use Rattle.await_law.specs.Below.heap_partition.declared.value.Owned.TheVariants as owned
+use Rattle.await_law.specs.Below.owner_box.View.{PartitionState}
+use Rattle.await_law.specs.Below.owner_box.Partition.{made}
+use Rattle.await_law.specs.Below.thread_state.View.{ThreadState}
+use Rattle.await_law.specs.Below.server_msgs.declared.message.Message.{Message}
+use Rattle.await_law.specs.Below.server_msgs.declared.message.Message.TheVariants as message
+use Rattle.await_law.specs.Below.journal.View.{EntryView}
+use Rattle.await_law.specs.Below.server_model.declared.event.Event.{Event}
+use Rattle.await_law.specs.Below.server_model.declared.event.What.TheVariants.{Deliver}
+use Rattle.await_law.specs.Below.server_model.Servers.{Server, Cluster, server_at}
+use Rattle.await_law.specs.Below.server_model.Work.{Hand, Site, receive, thread_in, set_thread, then_some, put_back, at_thread}
+use Rattle.await_law.specs.Below.server_model.Objects.{deliver_moved}
+use Rattle.await_law.specs.Below.server_model.Events.{begin_work, enabled, received, left_by, deliver_message, does}
+use Rattle.await_law.specs.Below.server_model.Clusters.{done_at, act_at, apply}
+use Rattle.await_law.specs.Below.heap_law.Names.{tot, one, if_so}
+use Rattle.await_law.specs.Below.heap_law.Things.{Thing, vacant, stands, things_at, message_things, waiting_things, leaving_things, partition_things, server_things, things_of}
+use Rattle.await_law.specs.Below.heap_law.Follow.{Standing}
+use Rattle.await_law.proofs.Below.heap_law.Sums.{tot-append}
+use Rattle.await_law.specs.Below.type_law.ClusterTypes.{IsCoherent}
+use Rattle.await_law.specs.Below.event_law.Laws.{Gives, FewEvents}
+use Rattle.await_law.proofs.Below.event_law.Results.{then_gives, over_gives, test_gives}
+use Rattle.await_law.proofs.Below.event_law.Trades.{tot-remove}
+use Rattle.await_law.proofs.Below.event_law.Bags.{all_standing, rest_things, server_same, tot-without, tot-set, thread_number}
+use Rattle.await_law.proofs.Below.event_law.Objects.{taken_place, makes}
+use Rattle.await_law.proofs.Below.event_law.Values.{stores}
+use Rattle.await_law.proofs.Below.event_law.Unseen.{Unseen, Unnoted, thread_alone, seen_of}
+use Rattle.await_law.proofs.Below.event_law.Events.{tot-server}
+use Rattle.await_law.proofs.Below.event_law.Applied.{handed_on}
+use Rattle.await_law.proofs.Below.event_law.Sending.{each_event_sends}
+use Rattle.come_law.proofs.Below.still_law.Addresses.{next_empty, in_place}
+use Rattle.come_law.proofs.Below.still_law.Leaving.{others, placed_here}
+use Rattle.come_law.proofs.Below.still_law.Told.{at_thread as at_number}
+use Rattle.await_law.specs.Below.word_law.Unmoved.{Delivers}
+use Rattle.come_law.proofs.Below.walk_law.Cells.{Seeing, cell_weight, thread_seen, amount, rest_seen}
 use Rattle.come_law.proofs.Filled.{waits_cell, waiting, is_one, same_true}
 use Rattle.land_law.proofs.Landing.{Put, as_made, reworded, Landed, moved_lands}
 

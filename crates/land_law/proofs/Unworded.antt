@@ -1,16 +1,16 @@
 -- Where a pointer leads, whatever word it has and whether it was written through.
 use Rattle.std.proofs.Common.{◌≡◌, ℕ, zero, suc, ◌+◌, ◌-◌, List, [], ◌∷◌, ◌++◌, Option, Some, None, true, false, refl, sym, ap, ◌∙◌, arith}
 use Rattle.std.specs.Prelude.{slice_get, slice_set, length}
-use Rattle.fr_base.specs.Lists.{last_of}
-use Rattle.heap_partition.specs.declared.value.Owned.TheVariants as owned
-use Rattle.thread_state.specs.View.{ThreadState}
-use Rattle.fr_base.specs.declared.instruction.Instr.{Instr}
-use Rattle.fr_base.specs.declared.instruction.Instr.TheVariants as instr
-use Rattle.thread_state.specs.declared.value.Value.{Value}
-use Rattle.thread_state.specs.declared.value.Value.TheVariants as value
-use Rattle.server_model.specs.Places.{with_word, written, note_slot}
-use Rattle.heap_law.specs.Paths.{ending, assigning, path_of, written_place}
-use Rattle.path_law.proofs.Sole.{some_is}
+use Rattle.await_law.specs.Below.fr_base.Lists.{last_of}
+use Rattle.await_law.specs.Below.heap_partition.declared.value.Owned.TheVariants as owned
+use Rattle.await_law.specs.Below.thread_state.View.{ThreadState}
+use Rattle.await_law.specs.Below.fr_base.declared.instruction.Instr.{Instr}
+use Rattle.await_law.specs.Below.fr_base.declared.instruction.Instr.TheVariants as instr
+use Rattle.await_law.specs.Below.thread_state.declared.value.Value.{Value}
+use Rattle.await_law.specs.Below.thread_state.declared.value.Value.TheVariants as value
+use Rattle.await_law.specs.Below.server_model.Places.{with_word, written, note_slot}
+use Rattle.await_law.specs.Below.heap_law.Paths.{ending, assigning, path_of, written_place}
+use Rattle.await_law.proofs.Below.path_law.Sole.{some_is}
 
 abbrev pub unworded : Option Value → Option Value
 unworded (Some (value.Own (owned.Box p))) = Some (value.Own (owned.Box (record p { word = 0 })))

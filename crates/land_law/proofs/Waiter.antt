@@ -2,22 +2,22 @@
 use Rattle.std.proofs.Common.{◌≡◌, ◌≤◌, ℕ, Bool, true, false, Some, refl, sym, ap, ◌∙◌, arith}
 use Rattle.std.specs.Prelude.{slice_get}
 use Rattle.std.proofs.lemmas.Bool.{eqb-true}
-use Rattle.heap_partition.specs.declared.value.Cell.{Cell}
-use Rattle.thread_state.specs.View.{ThreadState}
-use Rattle.thread_state.specs.declared.phase.Phase.{Phase}
-use Rattle.thread_state.specs.declared.phase.Phase.TheVariants as phase
-use Rattle.server_msgs.specs.declared.message.Message.{Message}
-use Rattle.server_msgs.specs.declared.message.Message.TheVariants as message
-use Rattle.server_model.specs.Servers.{Server, Cluster, server_at}
-use Rattle.server_model.specs.Work.{thread_in}
-use Rattle.heap_law.specs.Names.{tot, other}
-use Rattle.heap_law.specs.Things.{Thing, message_things, things_of}
-use Rattle.heap_law.specs.Follow.{thread_at}
-use Rattle.heap_law.specs.Sight.{sight}
-use Rattle.heap_law.specs.Requests.{is_cell, in_phase, carries}
-use Rattle.heap_law.specs.Coherent.{IsSound}
-use Rattle.event_law.proofs.MutexResults.{has}
-use Rattle.event_law.proofs.ThreadThere.{thread_there}
+use Rattle.await_law.specs.Below.heap_partition.declared.value.Cell.{Cell}
+use Rattle.await_law.specs.Below.thread_state.View.{ThreadState}
+use Rattle.await_law.specs.Below.thread_state.declared.phase.Phase.{Phase}
+use Rattle.await_law.specs.Below.thread_state.declared.phase.Phase.TheVariants as phase
+use Rattle.await_law.specs.Below.server_msgs.declared.message.Message.{Message}
+use Rattle.await_law.specs.Below.server_msgs.declared.message.Message.TheVariants as message
+use Rattle.await_law.specs.Below.server_model.Servers.{Server, Cluster, server_at}
+use Rattle.await_law.specs.Below.server_model.Work.{thread_in}
+use Rattle.await_law.specs.Below.heap_law.Names.{tot, other}
+use Rattle.await_law.specs.Below.heap_law.Things.{Thing, message_things, things_of}
+use Rattle.await_law.specs.Below.heap_law.Follow.{thread_at}
+use Rattle.await_law.specs.Below.heap_law.Sight.{sight}
+use Rattle.await_law.specs.Below.heap_law.Requests.{is_cell, in_phase, carries}
+use Rattle.await_law.specs.Below.heap_law.Coherent.{IsSound}
+use Rattle.await_law.proofs.Below.event_law.MutexResults.{has}
+use Rattle.await_law.proofs.Below.event_law.ThreadThere.{thread_there}
 use Rattle.come_law.proofs.Filled.{waits_cell}
 
 none_true : (b : Bool) → other b ≡ 0 → b ≡ true

@@ -1,20 +1,20 @@
 -- OTHER THREADS WHERE AN OBJECT COMES (this project's rule): its pointer gets another word, and that pointer is on the way of no other thread.
 use Rattle.std.specs.Prelude.{◌≡◌, ℕ, ⊤}
-use Rattle.heap_partition.specs.declared.value.Cell.{Cell}
-use Rattle.journal.specs.View.{EntryView}
-use Rattle.server_msgs.specs.declared.message.Message.TheVariants.{Moved}
-use Rattle.server_model.specs.declared.event.Event.{Event}
-use Rattle.server_model.specs.Servers.{Cluster}
-use Rattle.server_model.specs.Clusters.{apply}
-use Rattle.heap_law.specs.Names.{Among}
-use Rattle.heap_law.specs.Follow.{Standing}
-use Rattle.heap_law.specs.Sight.{Sight, sight}
-use Rattle.heap_law.specs.Coherent.{Sentence, Holds}
-use Rattle.type_law.specs.ClusterTypes.{IsCoherent}
-use Rattle.word_law.specs.Unmoved.{Delivers}
-use Rattle.event_law.specs.Kinds.{Kind, moved}
-use Rattle.event_law.specs.Laws.{Gives, FewEvents}
-use Rattle.stay_law.specs.Laws.{IsOfKind}
+use Rattle.await_law.specs.Below.heap_partition.declared.value.Cell.{Cell}
+use Rattle.await_law.specs.Below.journal.View.{EntryView}
+use Rattle.await_law.specs.Below.server_msgs.declared.message.Message.TheVariants.{Moved}
+use Rattle.await_law.specs.Below.server_model.declared.event.Event.{Event}
+use Rattle.await_law.specs.Below.server_model.Servers.{Cluster}
+use Rattle.await_law.specs.Below.server_model.Clusters.{apply}
+use Rattle.await_law.specs.Below.heap_law.Names.{Among}
+use Rattle.await_law.specs.Below.heap_law.Follow.{Standing}
+use Rattle.await_law.specs.Below.heap_law.Sight.{Sight, sight}
+use Rattle.await_law.specs.Below.heap_law.Coherent.{Sentence, Holds}
+use Rattle.await_law.specs.Below.type_law.ClusterTypes.{IsCoherent}
+use Rattle.await_law.specs.Below.word_law.Unmoved.{Delivers}
+use Rattle.await_law.specs.Below.event_law.Kinds.{Kind, moved}
+use Rattle.await_law.specs.Below.event_law.Laws.{Gives, FewEvents}
+use Rattle.await_law.specs.Below.stay_law.Laws.{IsOfKind}
 use Rattle.come_law.specs.Deliveries.{BringsNoObject}
 
 -- from a coherent cluster in which few events were done, with the messages handed over: after the delivery of an object to a thread, no other thread has something wrong, of

@@ -1,8 +1,8 @@
 //! What other threads have passed, followed, taken and wait for where an object comes.
 
-ghost use Rattle.heap_law.specs.Coherent.{passed_lie_here, place_followed, waits_in_turn};
-ghost use Rattle.heap_law.specs.Requests.{old_word};
-ghost use Rattle.heap_law.specs.Walking.{away, lost_place, out_of_turn, over_passed};
+ghost use Rattle.await_law.specs.Below.heap_law.Coherent.{passed_lie_here, place_followed, waits_in_turn};
+ghost use Rattle.await_law.specs.Below.heap_law.Requests.{old_word};
+ghost use Rattle.await_law.specs.Below.heap_law.Walking.{away, lost_place, out_of_turn, over_passed};
 ghost use Rattle.land_law.specs.Landed.{EachUnsteppedEventKeeps, OthersWhereItComesKeep};
 
 /// Where an object comes to a thread, each other one has at hand what it has followed, waits in turn, has taken an object under another word than the pointer has that its

@@ -1,38 +1,38 @@
 -- Copies are right after each delivery of an object that comes: by the instruction of the thread that waits for it.
 use Rattle.std.proofs.Common.{◌≡◌, ◌≤◌, ◌⊎◌, inl, inr, ⊎_elim, ℕ, zero, suc, ◌-◌, true, false, length, Option, Some, None, option_map, refl, sym, ap, subst, ◌∙◌, arith}
 use Rattle.std.specs.Prelude.{slice_get}
-use Rattle.fr_base.specs.Lists.{last_of}
-use Rattle.fr_base.specs.declared.instruction.Instr.{Instr}
-use Rattle.fr_base.specs.declared.instruction.Instr.TheVariants as instr
-use Rattle.fr_base.specs.declared.instruction.Operand.{Operand}
-use Rattle.fr_base.specs.declared.place.Lval.{Lval}
-use Rattle.heap_partition.specs.declared.value.Cell.{Cell}
-use Rattle.journal.specs.View.{EntryView}
-use Rattle.mut_borrow.specs.declared.mutable.MutRef.{MutRef}
-use Rattle.owner_box.specs.Partition.{new_word}
-use Rattle.thread_state.specs.View.{ThreadState}
-use Rattle.thread_state.specs.declared.value.Value.{Value}
-use Rattle.thread_state.specs.declared.value.Value.TheVariants as value
-use Rattle.server_msgs.specs.declared.message.Message.TheVariants as message
-use Rattle.server_model.specs.declared.event.What.TheVariants.{Deliver}
-use Rattle.server_model.specs.Servers.{Server, Cluster, server_at}
-use Rattle.server_model.specs.Work.{Hand, put_back, thread_in, then_some}
-use Rattle.server_model.specs.Places.{Spot, in_slot, on_top}
-use Rattle.server_model.specs.Prepare.{access_of, assigned, ending}
-use Rattle.server_model.specs.Objects.{deliver_moved, arrived, instr_access}
-use Rattle.server_model.specs.Events.{left_by, received, deliver_message}
-use Rattle.heap_law.specs.Follow.{Standing}
-use Rattle.heap_law.specs.Paths.{Path, no_path, shares as shares_place, taking, path_of, Awaited}
-use Rattle.heap_law.specs.Sight.{Sight, sight}
-use Rattle.heap_law.specs.Turn.{AwaitsAt, before_share, at_share, InTurn, by_share}
-use Rattle.type_law.specs.ClusterTypes.{IsCoherent}
-use Rattle.event_law.specs.Laws.{Gives, FewEvents}
-use Rattle.read_law.specs.Reading.{copies, shares, dups, locks}
-use Rattle.rewrite_law.specs.Writing.{assigns as assigns_through, moves as moves_through}
-use Rattle.arrive_law.specs.Awaited.{Awaits}
-use Rattle.await_law.proofs.Landing.{before, landed, awaits}
+use Rattle.regain_law.specs.Below.fr_base.Lists.{last_of}
+use Rattle.regain_law.specs.Below.fr_base.declared.instruction.Instr.{Instr}
+use Rattle.regain_law.specs.Below.fr_base.declared.instruction.Instr.TheVariants as instr
+use Rattle.regain_law.specs.Below.fr_base.declared.instruction.Operand.{Operand}
+use Rattle.regain_law.specs.Below.fr_base.declared.place.Lval.{Lval}
+use Rattle.regain_law.specs.Below.heap_partition.declared.value.Cell.{Cell}
+use Rattle.regain_law.specs.Below.journal.View.{EntryView}
+use Rattle.regain_law.specs.Below.mut_borrow.declared.mutable.MutRef.{MutRef}
+use Rattle.regain_law.specs.Below.owner_box.Partition.{new_word}
+use Rattle.regain_law.specs.Below.thread_state.View.{ThreadState}
+use Rattle.regain_law.specs.Below.thread_state.declared.value.Value.{Value}
+use Rattle.regain_law.specs.Below.thread_state.declared.value.Value.TheVariants as value
+use Rattle.regain_law.specs.Below.server_msgs.declared.message.Message.TheVariants as message
+use Rattle.regain_law.specs.Below.server_model.declared.event.What.TheVariants.{Deliver}
+use Rattle.regain_law.specs.Below.server_model.Servers.{Server, Cluster, server_at}
+use Rattle.regain_law.specs.Below.server_model.Work.{Hand, put_back, thread_in, then_some}
+use Rattle.regain_law.specs.Below.server_model.Places.{Spot, in_slot, on_top}
+use Rattle.regain_law.specs.Below.server_model.Prepare.{access_of, assigned, ending}
+use Rattle.regain_law.specs.Below.server_model.Objects.{deliver_moved, arrived, instr_access}
+use Rattle.regain_law.specs.Below.server_model.Events.{left_by, received, deliver_message}
+use Rattle.regain_law.specs.Below.heap_law.Follow.{Standing}
+use Rattle.regain_law.specs.Below.heap_law.Paths.{Path, no_path, shares as shares_place, taking, path_of, Awaited}
+use Rattle.regain_law.specs.Below.heap_law.Sight.{Sight, sight}
+use Rattle.regain_law.specs.Below.heap_law.Turn.{AwaitsAt, before_share, at_share, InTurn, by_share}
+use Rattle.regain_law.specs.Below.type_law.ClusterTypes.{IsCoherent}
+use Rattle.regain_law.specs.Below.event_law.Laws.{Gives, FewEvents}
+use Rattle.regain_law.specs.Below.read_law.Reading.{copies, shares, dups, locks}
+use Rattle.regain_law.specs.Below.rewrite_law.Writing.{assigns as assigns_through, moves as moves_through}
+use Rattle.regain_law.specs.Below.arrive_law.Awaited.{Awaits}
+use Rattle.regain_law.proofs.Below.await_law.Landing.{before, landed, awaits}
 use Rattle.regain_law.specs.Below.finish_law.Ends.{drops, discards, assigns}
-use Rattle.copy_law.specs.Copies.{CopiesAreRight}
+use Rattle.hidden_law.specs.Below.copy_law.Copies.{CopiesAreRight}
 use Rattle.hidden_law.specs.Below.fresh_law.Fresh.{LeavesRight}
 use Rattle.regain_law.proofs.Arrivals.{none_done}
 use Rattle.landed_law.specs.Landed.{ArrivalsKeepCopies}

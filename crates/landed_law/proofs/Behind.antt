@@ -4,79 +4,79 @@ use Rattle.std.proofs.Common.{◌≡◌, ◌≤◌, ◌<◌, ℕ, zero, suc, ◌
 use Rattle.std.specs.Prelude.{slice_get, slice_set}
 use Rattle.std.proofs.lemmas.Bool.{eq-eqb}
 use Rattle.std.proofs.lemmas.Bool.Decides.{nat_tests}
-use Rattle.fr_base.specs.declared.name.ObjNo.{ObjNo}
-use Rattle.fr_base.specs.declared.place.Lval.{Lval}
-use Rattle.global_addr.specs.Words.{server_of}
-use Rattle.heap_partition.specs.declared.value.BoxPtr.{BoxPtr}
-use Rattle.heap_partition.specs.declared.value.Cell.{Cell}
-use Rattle.heap_partition.specs.declared.value.Owned.{Owned}
-use Rattle.heap_partition.specs.declared.value.Owned.TheVariants as owned
-use Rattle.mut_borrow.specs.declared.mutable.MutRef.{MutRef}
-use Rattle.owner_box.specs.View.{PartitionState}
-use Rattle.owner_box.specs.Partition.{made, new_word, stored}
-use Rattle.place_walk.specs.Hops.{write_hop}
-use Rattle.place_walk.specs.declared.hop.Hop.TheVariants as jump
-use Rattle.thread_state.specs.View.{ThreadState}
-use Rattle.thread_state.specs.declared.phase.Phase.TheVariants as phase
-use Rattle.thread_state.specs.declared.value.Value.{Value}
-use Rattle.thread_state.specs.declared.value.Value.TheVariants as value
-use Rattle.server_msgs.specs.declared.message.Message.TheVariants as message
-use Rattle.server_model.specs.Servers.{Rest, Server, Cluster, server_at}
-use Rattle.server_model.specs.Work.{Hand, leads_here, look, receive, thread_in, without_thread, working, with_partition, with_phase, with_slots, then_some}
-use Rattle.server_model.specs.NewWords.{can_grow}
-use Rattle.server_model.specs.Places.{Spot, in_slot, in_cell, value_in as cell_value, value_at, load_at, note_slot, note_write, pointer_of, put_at, put_slot, set_pointer, with_word}
-use Rattle.server_model.specs.Prepare.{Prepared, ready, requested, nothing, box_of, passing, and_then, pass_by, write_by, write_value, write_stars, write_star}
-use Rattle.server_model.specs.Objects.{passed_spot, arrived_at, arrived_write}
-use Rattle.heap_law.specs.Names.{Among}
-use Rattle.heap_law.specs.Things.{Location, at_slot, in_cell as in_object, servers_things, things_of}
-use Rattle.heap_law.specs.Follow.{Standing, Ground, cell_of, cells_in, value_in, value_behind, value_of, leads, locate}
-use Rattle.heap_law.specs.Passing.{IsPassed, NotCopied, MayPass, over_box, over_reference, to_slot, to_lent_slot}
-use Rattle.heap_law.specs.Paths.{Path, writes as writes_to_it, ends, Awaited, written_place}
-use Rattle.heap_law.specs.Sight.{Sight, sight, issued}
-use Rattle.heap_law.specs.Turn.{NextHop}
-use Rattle.heap_law.specs.Walking.{path}
-use Rattle.heap_law.specs.Words.{IsStale, HasWords}
-use Rattle.heap_law.proofs.Passing.{paths_law}
-use Rattle.type_law.specs.ClusterTypes.{IsCoherent}
-use Rattle.event_law.specs.Laws.{Gives, FewEvents}
-use Rattle.path_law.specs.HeapStore.{GoesOn, HasPaths}
-use Rattle.path_law.proofs.Sole.{some_is}
-use Rattle.read_law.specs.Reading.{LiesUnder}
-use Rattle.read_law.proofs.Homes.{fresh_word}
-use Rattle.read_law.proofs.OwnChains.{OwnObject, comes_own}
-use Rattle.end_law.proofs.Fresh.{writing, writes_are_fresh}
-use Rattle.result_law.proofs.Made.{OwnedBy}
-use Rattle.result_law.proofs.Mutables.{apart}
-use Rattle.stay_law.proofs.Alike.{itself}
-use Rattle.stay_law.proofs.Servers.{held_if}
-use Rattle.stay_law.proofs.Steps.{TakesNoneHere}
-use Rattle.stay_law.proofs.Threads.{slots_of, temps_of, thread_alike}
-use Rattle.event_law.proofs.Bags.{all_standing, body_things}
-use Rattle.event_law.proofs.Events.{others_of}
-use Rattle.event_law.proofs.RulesKeep.{sums_kept}
-use Rattle.event_law.proofs.ObjectMessages.{passes}
-use Rattle.word_law.specs.Reworded.{HasPlaces, Reworded}
-use Rattle.word_law.specs.Soles.{IsSole, IsOnly}
-use Rattle.word_law.specs.WordsAfter.{Rewrites}
-use Rattle.word_law.proofs.Cells.{CellPut, cell_put, cells_reword}
-use Rattle.word_law.proofs.Marks.{mark_rewords}
-use Rattle.word_law.proofs.Only.{are_only}
-use Rattle.word_law.proofs.Outlines.{soles_stay}
-use Rattle.word_law.proofs.Slots.{set_same}
-use Rattle.word_law.proofs.Tints.{SlotPut, word_put, slot_stands as hand_stands}
-use Rattle.word_law.proofs.Words.{words_go_on, fresh_go_on}
-use Rattle.write_law.proofs.Memory.{Leads, looks, made_leads, made_longer}
-use Rattle.write_law.proofs.Route.{Route, Hop, by_slot, by_reference, by_box, by_cell, LeadsBy, rerouted}
-use Rattle.write_law.proofs.Routes.{road, roomy_at}
-use Rattle.write_law.proofs.Written.{IsFollowed, follows, short_place, may_pass, passed_lies}
-use Rattle.prepare_law.proofs.Hands.{put, places, stands as stands_here}
-use Rattle.rewrite_law.proofs.Onward.{IsWritten}
-use Rattle.rewrite_law.proofs.Passing.{Fits, State}
-use Rattle.rewrite_law.proofs.Hops.{home_now}
-use Rattle.arrive_law.specs.Awaited.{Awaits}
+use Rattle.regain_law.specs.Below.fr_base.declared.name.ObjNo.{ObjNo}
+use Rattle.regain_law.specs.Below.fr_base.declared.place.Lval.{Lval}
+use Rattle.regain_law.specs.Below.global_addr.Words.{server_of}
+use Rattle.regain_law.specs.Below.heap_partition.declared.value.BoxPtr.{BoxPtr}
+use Rattle.regain_law.specs.Below.heap_partition.declared.value.Cell.{Cell}
+use Rattle.regain_law.specs.Below.heap_partition.declared.value.Owned.{Owned}
+use Rattle.regain_law.specs.Below.heap_partition.declared.value.Owned.TheVariants as owned
+use Rattle.regain_law.specs.Below.mut_borrow.declared.mutable.MutRef.{MutRef}
+use Rattle.regain_law.specs.Below.owner_box.View.{PartitionState}
+use Rattle.regain_law.specs.Below.owner_box.Partition.{made, new_word, stored}
+use Rattle.regain_law.specs.Below.place_walk.Hops.{write_hop}
+use Rattle.regain_law.specs.Below.place_walk.declared.hop.Hop.TheVariants as jump
+use Rattle.regain_law.specs.Below.thread_state.View.{ThreadState}
+use Rattle.regain_law.specs.Below.thread_state.declared.phase.Phase.TheVariants as phase
+use Rattle.regain_law.specs.Below.thread_state.declared.value.Value.{Value}
+use Rattle.regain_law.specs.Below.thread_state.declared.value.Value.TheVariants as value
+use Rattle.regain_law.specs.Below.server_msgs.declared.message.Message.TheVariants as message
+use Rattle.regain_law.specs.Below.server_model.Servers.{Rest, Server, Cluster, server_at}
+use Rattle.regain_law.specs.Below.server_model.Work.{Hand, leads_here, look, receive, thread_in, without_thread, working, with_partition, with_phase, with_slots, then_some}
+use Rattle.regain_law.specs.Below.server_model.NewWords.{can_grow}
+use Rattle.regain_law.specs.Below.server_model.Places.{Spot, in_slot, in_cell, value_in as cell_value, value_at, load_at, note_slot, note_write, pointer_of, put_at, put_slot, set_pointer, with_word}
+use Rattle.regain_law.specs.Below.server_model.Prepare.{Prepared, ready, requested, nothing, box_of, passing, and_then, pass_by, write_by, write_value, write_stars, write_star}
+use Rattle.regain_law.specs.Below.server_model.Objects.{passed_spot, arrived_at, arrived_write}
+use Rattle.regain_law.specs.Below.heap_law.Names.{Among}
+use Rattle.regain_law.specs.Below.heap_law.Things.{Location, at_slot, in_cell as in_object, servers_things, things_of}
+use Rattle.regain_law.specs.Below.heap_law.Follow.{Standing, Ground, cell_of, cells_in, value_in, value_behind, value_of, leads, locate}
+use Rattle.regain_law.specs.Below.heap_law.Passing.{IsPassed, NotCopied, MayPass, over_box, over_reference, to_slot, to_lent_slot}
+use Rattle.regain_law.specs.Below.heap_law.Paths.{Path, writes as writes_to_it, ends, Awaited, written_place}
+use Rattle.regain_law.specs.Below.heap_law.Sight.{Sight, sight, issued}
+use Rattle.regain_law.specs.Below.heap_law.Turn.{NextHop}
+use Rattle.regain_law.specs.Below.heap_law.Walking.{path}
+use Rattle.regain_law.specs.Below.heap_law.Words.{IsStale, HasWords}
+use Rattle.regain_law.proofs.Below.heap_law.Passing.{paths_law}
+use Rattle.regain_law.specs.Below.type_law.ClusterTypes.{IsCoherent}
+use Rattle.regain_law.specs.Below.event_law.Laws.{Gives, FewEvents}
+use Rattle.regain_law.specs.Below.path_law.HeapStore.{GoesOn, HasPaths}
+use Rattle.regain_law.proofs.Below.path_law.Sole.{some_is}
+use Rattle.regain_law.specs.Below.read_law.Reading.{LiesUnder}
+use Rattle.regain_law.proofs.Below.read_law.Homes.{fresh_word}
+use Rattle.regain_law.proofs.Below.read_law.OwnChains.{OwnObject, comes_own}
+use Rattle.regain_law.proofs.Below.end_law.Fresh.{writing, writes_are_fresh}
+use Rattle.regain_law.proofs.Below.result_law.Made.{OwnedBy}
+use Rattle.regain_law.proofs.Below.result_law.Mutables.{apart}
+use Rattle.regain_law.proofs.Below.stay_law.Alike.{itself}
+use Rattle.regain_law.proofs.Below.stay_law.Servers.{held_if}
+use Rattle.regain_law.proofs.Below.stay_law.Steps.{TakesNoneHere}
+use Rattle.regain_law.proofs.Below.stay_law.Threads.{slots_of, temps_of, thread_alike}
+use Rattle.regain_law.proofs.Below.event_law.Bags.{all_standing, body_things}
+use Rattle.regain_law.proofs.Below.event_law.Events.{others_of}
+use Rattle.regain_law.proofs.Below.event_law.RulesKeep.{sums_kept}
+use Rattle.regain_law.proofs.Below.event_law.ObjectMessages.{passes}
+use Rattle.regain_law.specs.Below.word_law.Reworded.{HasPlaces, Reworded}
+use Rattle.regain_law.specs.Below.word_law.Soles.{IsSole, IsOnly}
+use Rattle.regain_law.specs.Below.word_law.WordsAfter.{Rewrites}
+use Rattle.regain_law.proofs.Below.word_law.Cells.{CellPut, cell_put, cells_reword}
+use Rattle.regain_law.proofs.Below.word_law.Marks.{mark_rewords}
+use Rattle.regain_law.proofs.Below.word_law.Only.{are_only}
+use Rattle.regain_law.proofs.Below.word_law.Outlines.{soles_stay}
+use Rattle.regain_law.proofs.Below.word_law.Slots.{set_same}
+use Rattle.regain_law.proofs.Below.word_law.Tints.{SlotPut, word_put, slot_stands as hand_stands}
+use Rattle.regain_law.proofs.Below.word_law.Words.{words_go_on, fresh_go_on}
+use Rattle.regain_law.proofs.Below.write_law.Memory.{Leads, looks, made_leads, made_longer}
+use Rattle.regain_law.proofs.Below.write_law.Route.{Route, Hop, by_slot, by_reference, by_box, by_cell, LeadsBy, rerouted}
+use Rattle.regain_law.proofs.Below.write_law.Routes.{road, roomy_at}
+use Rattle.regain_law.proofs.Below.write_law.Written.{IsFollowed, follows, short_place, may_pass, passed_lies}
+use Rattle.regain_law.proofs.Below.prepare_law.Hands.{put, places, stands as stands_here}
+use Rattle.regain_law.proofs.Below.rewrite_law.Onward.{IsWritten}
+use Rattle.regain_law.proofs.Below.rewrite_law.Passing.{Fits, State}
+use Rattle.regain_law.proofs.Below.rewrite_law.Hops.{home_now}
+use Rattle.regain_law.specs.Below.arrive_law.Awaited.{Awaits}
 use Rattle.hidden_law.proofs.Below.fresh_law.Turned.{Unasked}
-use Rattle.await_law.proofs.Landing.{sane, landed, paths, on, awaits, new as unissued, untaken as none_taken, slot_there, slot_stands, set_ok, in_a_slot, in_a_cell, sole_gets}
-use Rattle.await_law.proofs.Behind.{IsPointer, pointed}
+use Rattle.regain_law.proofs.Below.await_law.Landing.{sane, landed, paths, on, awaits, new as unissued, untaken as none_taken, slot_there, slot_stands, set_ok, in_a_slot, in_a_cell, sole_gets}
+use Rattle.regain_law.proofs.Below.await_law.Behind.{IsPointer, pointed}
 use Rattle.hidden_law.proofs.Settled.{Settled}
 use Rattle.hidden_law.proofs.Reworded.{NotAsked}
 use Rattle.landed_law.proofs.Beyond.{none_wanted, cell_standing, lands_in_box, lands_through}

@@ -1,3 +1,2 @@
 -- What this law stands on, passed on to the laws above it, which need not list that then.
 pub use Rattle.hidden_law.proofs as hidden_law
-pub use Rattle.hidden_law.proofs.Below.fresh_law as fresh_law

@@ -1,23 +1,23 @@
 -- Where one pointer gets another word, each other object is what it was, but for the one in whose cell that pointer stands.
 use Rattle.std.proofs.Common.{◌≡◌, ◌⊎◌, inl, inr, ⊎_elim, true, false, Option, Some, None, ℕ, refl, sym, ap, subst, ◌∙◌}
-use Rattle.fr_base.specs.declared.name.ObjNo.{ObjNo}
-use Rattle.heap_partition.specs.declared.value.Cell.{Cell}
-use Rattle.mut_borrow.specs.declared.mutable.MutRef.{MutRef}
-use Rattle.thread_state.specs.declared.value.Value.{Value}
-use Rattle.thread_state.specs.declared.value.Value.TheVariants as value
-use Rattle.server_model.specs.Servers.{Cluster}
-use Rattle.heap_law.specs.Names.{Among}
-use Rattle.heap_law.specs.Things.{Location, in_cell, things_of}
-use Rattle.heap_law.specs.Follow.{cell_of, cells_in, value_in, value_of}
-use Rattle.heap_law.specs.Passing.{NotCopied}
-use Rattle.heap_law.specs.Stale.{holder_of}
-use Rattle.heap_law.specs.Sight.{is_object_among, sight, issued}
-use Rattle.heap_law.specs.Words.{IsStale, HasWords}
-use Rattle.path_law.proofs.Contained.{reference_there}
-use Rattle.word_law.specs.WordsAfter.{Rewrites, WordsAfter}
-use Rattle.word_law.proofs.Standing.{cell_among}
-use Rattle.word_law.proofs.Words.{words_go_on}
-use Rattle.copy_law.proofs.Clean.{thing_cell}
+use Rattle.regain_law.specs.Below.fr_base.declared.name.ObjNo.{ObjNo}
+use Rattle.regain_law.specs.Below.heap_partition.declared.value.Cell.{Cell}
+use Rattle.regain_law.specs.Below.mut_borrow.declared.mutable.MutRef.{MutRef}
+use Rattle.regain_law.specs.Below.thread_state.declared.value.Value.{Value}
+use Rattle.regain_law.specs.Below.thread_state.declared.value.Value.TheVariants as value
+use Rattle.regain_law.specs.Below.server_model.Servers.{Cluster}
+use Rattle.regain_law.specs.Below.heap_law.Names.{Among}
+use Rattle.regain_law.specs.Below.heap_law.Things.{Location, in_cell, things_of}
+use Rattle.regain_law.specs.Below.heap_law.Follow.{cell_of, cells_in, value_in, value_of}
+use Rattle.regain_law.specs.Below.heap_law.Passing.{NotCopied}
+use Rattle.regain_law.specs.Below.heap_law.Stale.{holder_of}
+use Rattle.regain_law.specs.Below.heap_law.Sight.{is_object_among, sight, issued}
+use Rattle.regain_law.specs.Below.heap_law.Words.{IsStale, HasWords}
+use Rattle.regain_law.proofs.Below.path_law.Contained.{reference_there}
+use Rattle.regain_law.specs.Below.word_law.WordsAfter.{Rewrites, WordsAfter}
+use Rattle.regain_law.proofs.Below.word_law.Standing.{cell_among}
+use Rattle.regain_law.proofs.Below.word_law.Words.{words_go_on}
+use Rattle.hidden_law.proofs.Below.copy_law.Clean.{thing_cell}
 use Rattle.hidden_law.proofs.Below.clean_law.Worded.{dirty_found, objects_differ}
 use Rattle.hidden_law.proofs.Below.fresh_law.Turned.{Unasked, Same}
 use Rattle.hidden_law.proofs.Under.{none_under}

@@ -2,55 +2,55 @@
 use Rattle.std.proofs.Common.{◌≡◌, ℕ, Bool, true, false, if◌then◌else◌, [], Option, Some, None, option_map, refl, sym, ap, subst}
 use Rattle.std.proofs.lemmas.Bool.{eqb-true}
 use Rattle.std.specs.Prelude.{slice_get, length, take, drop as drop_first}
-use Rattle.fr_base.specs.declared.name.ObjNo.{ObjNo}
-use Rattle.heap_partition.specs.declared.value.Cell.{Cell}
-use Rattle.owner_box.specs.View.{PartitionState}
-use Rattle.owner_box.specs.Partition.{new_word}
-use Rattle.journal.specs.View.{EntryView}
-use Rattle.thread_state.specs.View.{ThreadState}
-use Rattle.thread_state.specs.declared.phase.Phase.{Phase}
-use Rattle.thread_state.specs.declared.phase.Phase.TheVariants as phase
-use Rattle.server_msgs.specs.declared.message.Message.TheVariants as message
-use Rattle.server_model.specs.declared.event.Event.{Event}
-use Rattle.server_model.specs.declared.event.What.{What}
-use Rattle.server_model.specs.declared.event.What.TheVariants.{Deliver}
-use Rattle.server_model.specs.Servers.{Server, Cluster, server_at}
-use Rattle.server_model.specs.Work.{Hand, Site, put_back, thread_in, with_phase, then_some}
-use Rattle.server_model.specs.NewWords.{NewWord, can_grow}
-use Rattle.server_model.specs.Objects.{waits_for_cell, arrived, instr_access, came, deliver_moved}
-use Rattle.server_model.specs.Events.{enabled, does, left_by, received, deliver, deliver_message}
-use Rattle.server_model.specs.Clusters.{with_server, hand_over_newer, done_at, apply}
-use Rattle.heap_law.specs.Things.{Location, in_cell, flies, things_of}
-use Rattle.heap_law.specs.Follow.{cells_in}
-use Rattle.heap_law.specs.Names.{Among}
-use Rattle.heap_law.specs.Sight.{sight}
-use Rattle.heap_law.specs.Words.{IsStale, HasWords}
-use Rattle.heap_law.specs.Coherent.{IsSound}
-use Rattle.type_law.specs.ClusterTypes.{IsCoherent}
-use Rattle.word_law.specs.Reworded.{HasPlaces, Reworded}
-use Rattle.word_law.specs.Soles.{IsOnly}
-use Rattle.word_law.specs.WordsAfter.{Rewrites}
-use Rattle.word_law.proofs.Standing.{flying}
-use Rattle.event_law.specs.Laws.{Gives, GoTo, FewEvents}
-use Rattle.event_law.proofs.Results.{over_gives, test_gives, both_give}
-use Rattle.event_law.proofs.Applied.{go_with}
-use Rattle.event_law.proofs.Bags.{body_things}
-use Rattle.event_law.proofs.Sending.{each_event_sends}
-use Rattle.stay_law.proofs.Alike.{Alike, itself}
-use Rattle.stay_law.proofs.Servers.{held_if}
-use Rattle.stay_law.proofs.Sites.{HandAlike, handed_over}
-use Rattle.stay_law.proofs.Steps.{TakesNoneHere}
-use Rattle.stay_law.proofs.Threads.{slots_of, temps_of, thread_alike}
-use Rattle.prepare_law.proofs.Asking.{found_number}
-use Rattle.prepare_law.proofs.Hands.{put, places}
-use Rattle.rewrite_law.proofs.Passing.{Fits, hands_alike}
-use Rattle.carry_law.proofs.Hands.{ThereBy}
-use Rattle.copy_law.proofs.Clean.{all_goes, thing_cell}
+use Rattle.regain_law.specs.Below.fr_base.declared.name.ObjNo.{ObjNo}
+use Rattle.regain_law.specs.Below.heap_partition.declared.value.Cell.{Cell}
+use Rattle.regain_law.specs.Below.owner_box.View.{PartitionState}
+use Rattle.regain_law.specs.Below.owner_box.Partition.{new_word}
+use Rattle.regain_law.specs.Below.journal.View.{EntryView}
+use Rattle.regain_law.specs.Below.thread_state.View.{ThreadState}
+use Rattle.regain_law.specs.Below.thread_state.declared.phase.Phase.{Phase}
+use Rattle.regain_law.specs.Below.thread_state.declared.phase.Phase.TheVariants as phase
+use Rattle.regain_law.specs.Below.server_msgs.declared.message.Message.TheVariants as message
+use Rattle.regain_law.specs.Below.server_model.declared.event.Event.{Event}
+use Rattle.regain_law.specs.Below.server_model.declared.event.What.{What}
+use Rattle.regain_law.specs.Below.server_model.declared.event.What.TheVariants.{Deliver}
+use Rattle.regain_law.specs.Below.server_model.Servers.{Server, Cluster, server_at}
+use Rattle.regain_law.specs.Below.server_model.Work.{Hand, Site, put_back, thread_in, with_phase, then_some}
+use Rattle.regain_law.specs.Below.server_model.NewWords.{NewWord, can_grow}
+use Rattle.regain_law.specs.Below.server_model.Objects.{waits_for_cell, arrived, instr_access, came, deliver_moved}
+use Rattle.regain_law.specs.Below.server_model.Events.{enabled, does, left_by, received, deliver, deliver_message}
+use Rattle.regain_law.specs.Below.server_model.Clusters.{with_server, hand_over_newer, done_at, apply}
+use Rattle.regain_law.specs.Below.heap_law.Things.{Location, in_cell, flies, things_of}
+use Rattle.regain_law.specs.Below.heap_law.Follow.{cells_in}
+use Rattle.regain_law.specs.Below.heap_law.Names.{Among}
+use Rattle.regain_law.specs.Below.heap_law.Sight.{sight}
+use Rattle.regain_law.specs.Below.heap_law.Words.{IsStale, HasWords}
+use Rattle.regain_law.specs.Below.heap_law.Coherent.{IsSound}
+use Rattle.regain_law.specs.Below.type_law.ClusterTypes.{IsCoherent}
+use Rattle.regain_law.specs.Below.word_law.Reworded.{HasPlaces, Reworded}
+use Rattle.regain_law.specs.Below.word_law.Soles.{IsOnly}
+use Rattle.regain_law.specs.Below.word_law.WordsAfter.{Rewrites}
+use Rattle.regain_law.proofs.Below.word_law.Standing.{flying}
+use Rattle.regain_law.specs.Below.event_law.Laws.{Gives, GoTo, FewEvents}
+use Rattle.regain_law.proofs.Below.event_law.Results.{over_gives, test_gives, both_give}
+use Rattle.regain_law.proofs.Below.event_law.Applied.{go_with}
+use Rattle.regain_law.proofs.Below.event_law.Bags.{body_things}
+use Rattle.regain_law.proofs.Below.event_law.Sending.{each_event_sends}
+use Rattle.regain_law.proofs.Below.stay_law.Alike.{Alike, itself}
+use Rattle.regain_law.proofs.Below.stay_law.Servers.{held_if}
+use Rattle.regain_law.proofs.Below.stay_law.Sites.{HandAlike, handed_over}
+use Rattle.regain_law.proofs.Below.stay_law.Steps.{TakesNoneHere}
+use Rattle.regain_law.proofs.Below.stay_law.Threads.{slots_of, temps_of, thread_alike}
+use Rattle.regain_law.proofs.Below.prepare_law.Asking.{found_number}
+use Rattle.regain_law.proofs.Below.prepare_law.Hands.{put, places}
+use Rattle.regain_law.proofs.Below.rewrite_law.Passing.{Fits, hands_alike}
+use Rattle.regain_law.proofs.Below.carry_law.Hands.{ThereBy}
+use Rattle.hidden_law.proofs.Below.copy_law.Clean.{all_goes, thing_cell}
 use Rattle.hidden_law.proofs.Below.clean_law.Kept.{places_after}
 use Rattle.hidden_law.specs.Below.fresh_law.Fresh.{LeavesRight}
 use Rattle.hidden_law.proofs.Below.fresh_law.Turned.{none_idle, none_or_idle}
 use Rattle.hidden_law.proofs.Below.fresh_law.Asks.{delivery_asks}
-use Rattle.await_law.proofs.Landing.{before, landed, begun_places, new, phase_ok}
+use Rattle.regain_law.proofs.Below.await_law.Landing.{before, landed, begun_places, new, phase_ok}
 use Rattle.hidden_law.proofs.Settled.{Settled, settled_on, settled_right}
 use Rattle.landed_law.proofs.Flying.{flies_there}
 use Rattle.hidden_law.proofs.Reworded.{NotAsked}

@@ -1,15 +1,15 @@
 -- The object of a message that waits at a server is under way in its cluster.
 use Rattle.std.proofs.Common.{◌≡◌, ℕ, ◌==◌, Bool, true, false, if◌then◌else◌, List, [], ◌∷◌, ◌++◌, Some, sym, subst}
 use Rattle.std.specs.Prelude.{slice_get}
-use Rattle.heap_partition.specs.declared.value.Cell.{Cell}
-use Rattle.server_msgs.specs.declared.message.Message.TheVariants.{Moved}
-use Rattle.server_model.specs.Servers.{Server, Cluster, server_at}
-use Rattle.heap_law.specs.Names.{Among}
-use Rattle.heap_law.specs.Things.{Thing, flies, things_at, cell_things, free_things, copy_things, mutex_things, task_things, standing_things, waiting_things, leaving_things, server_things, servers_things, things_of}
-use Rattle.path_law.proofs.Origins.{among_first, among_second}
-use Rattle.path_law.proofs.Sole.{some_is}
-use Rattle.event_law.proofs.Bags.{counts_of}
-use Rattle.arrive_law.proofs.Lists.{message_goes}
+use Rattle.regain_law.specs.Below.heap_partition.declared.value.Cell.{Cell}
+use Rattle.regain_law.specs.Below.server_msgs.declared.message.Message.TheVariants.{Moved}
+use Rattle.regain_law.specs.Below.server_model.Servers.{Server, Cluster, server_at}
+use Rattle.regain_law.specs.Below.heap_law.Names.{Among}
+use Rattle.regain_law.specs.Below.heap_law.Things.{Thing, flies, things_at, cell_things, free_things, copy_things, mutex_things, task_things, standing_things, waiting_things, leaving_things, server_things, servers_things, things_of}
+use Rattle.regain_law.proofs.Below.path_law.Origins.{among_first, among_second}
+use Rattle.regain_law.proofs.Below.path_law.Sole.{some_is}
+use Rattle.regain_law.proofs.Below.event_law.Bags.{counts_of}
+use Rattle.regain_law.proofs.Below.arrive_law.Lists.{message_goes}
 
 -- a thing of a server is one of its cluster
 server_among : (ss : List Server) (number : ℕ) (s : Server) (y : Thing) → server_at ss number ≡ Some s → Among y (server_things s) → Among y (servers_things ss)

@@ -2,56 +2,56 @@
 use Rattle.std.proofs.Common.{◌≡◌, ◌≢◌, inl, inr, ⊎_elim, ℕ, ◌+◌, ◌==◌, true, false, if◌then◌else◌, List, [], ◌∷◌, ◌++◌, length, Option, Some, None, option_map, refl, sym, ap, subst, ◌∙◌}
 use Rattle.std.specs.Prelude.{slice_get}
 use Rattle.std.proofs.lemmas.Bool.{eq-eqb}
-use Rattle.fr_base.specs.declared.instruction.Instr.TheVariants as instr
-use Rattle.heap_partition.specs.declared.value.Cell.{Cell}
-use Rattle.mut_borrow.specs.declared.mutable.MutRef.{MutRef}
-use Rattle.owner_box.specs.Partition.{new_word}
-use Rattle.thread_state.specs.View.{ThreadState}
-use Rattle.thread_state.specs.declared.phase.Phase.TheVariants as phase
-use Rattle.thread_state.specs.declared.value.Value.{Value}
-use Rattle.thread_state.specs.declared.value.Value.TheVariants as value
-use Rattle.server_msgs.specs.declared.message.Message.TheVariants.{Moved}
-use Rattle.server_model.specs.Servers.{Server, Cluster, server_at}
-use Rattle.server_model.specs.Work.{Hand, last_of, front_of, thread_in, with_phase, with_temps, then_some}
-use Rattle.server_model.specs.NewWords.{can_grow}
-use Rattle.server_model.specs.Places.{on_top, took, with_word, put_at, set_pointer}
-use Rattle.server_model.specs.Prepare.{ending as access_ending}
-use Rattle.server_model.specs.Objects.{arrived_at, arrived_write, arrived_end, arrived, instr_access}
-use Rattle.heap_law.specs.Names.{Among}
-use Rattle.heap_law.specs.OneHeap.{two_in}
-use Rattle.heap_law.specs.Things.{Location, at_slot, at_temp, in_cell, borrows}
-use Rattle.heap_law.specs.Follow.{Standing, Ground, temp_of, value_in, leads}
-use Rattle.heap_law.specs.Paths.{Path, ends, ending, path_of, Awaited, to_write}
-use Rattle.heap_law.specs.Sight.{Pointer, sight, issued}
-use Rattle.heap_law.specs.Stale.{holder_of}
-use Rattle.heap_law.specs.Turn.{InTurn, by_end, by_holder}
-use Rattle.heap_law.specs.Walking.{path}
-use Rattle.heap_law.specs.Words.{IsStale}
-use Rattle.type_law.specs.ClusterTypes.{IsCoherent}
-use Rattle.event_law.specs.Laws.{Gives, FewEvents}
-use Rattle.event_law.proofs.Values.{last_split}
-use Rattle.path_law.specs.HeapStore.{GoesOn, HasPaths}
-use Rattle.path_law.specs.Pointing.{Above, made_from, made_below}
-use Rattle.path_law.proofs.Shown.{stands_there}
-use Rattle.end_law.specs.Ending.{EndsAlone}
-use Rattle.end_law.proofs.Alone.{ended_are_alone}
-use Rattle.read_law.proofs.OwnChains.{OwnObject, comes_own}
-use Rattle.word_law.specs.PutBack.{StandsHere}
-use Rattle.word_law.specs.Reworded.{LiesThere, Reworded}
-use Rattle.word_law.specs.Soles.{IsSole}
-use Rattle.word_law.proofs.Only.{are_only}
-use Rattle.word_law.proofs.Past.{first_issued}
-use Rattle.word_law.proofs.Put.{put_split}
-use Rattle.word_law.proofs.Standing.{temp_among, told}
-use Rattle.move_law.proofs.Relaid.{relaid_rewords}
-use Rattle.stay_law.proofs.Steps.{TakesNoneHere}
-use Rattle.prepare_law.proofs.Hands.{put, places}
-use Rattle.rewrite_law.proofs.Passing.{Fits}
-use Rattle.carry_law.proofs.Passing.{no_temp}
-use Rattle.arrive_law.specs.Awaited.{Awaits}
-use Rattle.arrive_law.proofs.Arrived.{relays, stands_now}
-use Rattle.await_law.proofs.Landing.{before, landed, paths, on, awaits, new as unissued, landed_ok, arrival, home, untaken, set_ok}
-use Rattle.fr_base.specs.declared.name.ObjNo.{ObjNo}
+use Rattle.regain_law.specs.Below.fr_base.declared.instruction.Instr.TheVariants as instr
+use Rattle.regain_law.specs.Below.heap_partition.declared.value.Cell.{Cell}
+use Rattle.regain_law.specs.Below.mut_borrow.declared.mutable.MutRef.{MutRef}
+use Rattle.regain_law.specs.Below.owner_box.Partition.{new_word}
+use Rattle.regain_law.specs.Below.thread_state.View.{ThreadState}
+use Rattle.regain_law.specs.Below.thread_state.declared.phase.Phase.TheVariants as phase
+use Rattle.regain_law.specs.Below.thread_state.declared.value.Value.{Value}
+use Rattle.regain_law.specs.Below.thread_state.declared.value.Value.TheVariants as value
+use Rattle.regain_law.specs.Below.server_msgs.declared.message.Message.TheVariants.{Moved}
+use Rattle.regain_law.specs.Below.server_model.Servers.{Server, Cluster, server_at}
+use Rattle.regain_law.specs.Below.server_model.Work.{Hand, last_of, front_of, thread_in, with_phase, with_temps, then_some}
+use Rattle.regain_law.specs.Below.server_model.NewWords.{can_grow}
+use Rattle.regain_law.specs.Below.server_model.Places.{on_top, took, with_word, put_at, set_pointer}
+use Rattle.regain_law.specs.Below.server_model.Prepare.{ending as access_ending}
+use Rattle.regain_law.specs.Below.server_model.Objects.{arrived_at, arrived_write, arrived_end, arrived, instr_access}
+use Rattle.regain_law.specs.Below.heap_law.Names.{Among}
+use Rattle.regain_law.specs.Below.heap_law.OneHeap.{two_in}
+use Rattle.regain_law.specs.Below.heap_law.Things.{Location, at_slot, at_temp, in_cell, borrows}
+use Rattle.regain_law.specs.Below.heap_law.Follow.{Standing, Ground, temp_of, value_in, leads}
+use Rattle.regain_law.specs.Below.heap_law.Paths.{Path, ends, ending, path_of, Awaited, to_write}
+use Rattle.regain_law.specs.Below.heap_law.Sight.{Pointer, sight, issued}
+use Rattle.regain_law.specs.Below.heap_law.Stale.{holder_of}
+use Rattle.regain_law.specs.Below.heap_law.Turn.{InTurn, by_end, by_holder}
+use Rattle.regain_law.specs.Below.heap_law.Walking.{path}
+use Rattle.regain_law.specs.Below.heap_law.Words.{IsStale}
+use Rattle.regain_law.specs.Below.type_law.ClusterTypes.{IsCoherent}
+use Rattle.regain_law.specs.Below.event_law.Laws.{Gives, FewEvents}
+use Rattle.regain_law.proofs.Below.event_law.Values.{last_split}
+use Rattle.regain_law.specs.Below.path_law.HeapStore.{GoesOn, HasPaths}
+use Rattle.regain_law.specs.Below.path_law.Pointing.{Above, made_from, made_below}
+use Rattle.regain_law.proofs.Below.path_law.Shown.{stands_there}
+use Rattle.regain_law.specs.Below.end_law.Ending.{EndsAlone}
+use Rattle.regain_law.proofs.Below.end_law.Alone.{ended_are_alone}
+use Rattle.regain_law.proofs.Below.read_law.OwnChains.{OwnObject, comes_own}
+use Rattle.regain_law.specs.Below.word_law.PutBack.{StandsHere}
+use Rattle.regain_law.specs.Below.word_law.Reworded.{LiesThere, Reworded}
+use Rattle.regain_law.specs.Below.word_law.Soles.{IsSole}
+use Rattle.regain_law.proofs.Below.word_law.Only.{are_only}
+use Rattle.regain_law.proofs.Below.word_law.Past.{first_issued}
+use Rattle.regain_law.proofs.Below.word_law.Put.{put_split}
+use Rattle.regain_law.proofs.Below.word_law.Standing.{temp_among, told}
+use Rattle.regain_law.proofs.Below.move_law.Relaid.{relaid_rewords}
+use Rattle.regain_law.proofs.Below.stay_law.Steps.{TakesNoneHere}
+use Rattle.regain_law.proofs.Below.prepare_law.Hands.{put, places}
+use Rattle.regain_law.proofs.Below.rewrite_law.Passing.{Fits}
+use Rattle.regain_law.proofs.Below.carry_law.Passing.{no_temp}
+use Rattle.regain_law.specs.Below.arrive_law.Awaited.{Awaits}
+use Rattle.regain_law.proofs.Below.arrive_law.Arrived.{relays, stands_now}
+use Rattle.regain_law.proofs.Below.await_law.Landing.{before, landed, paths, on, awaits, new as unissued, landed_ok, arrival, home, untaken, set_ok}
+use Rattle.regain_law.specs.Below.fr_base.declared.name.ObjNo.{ObjNo}
 use Rattle.hidden_law.proofs.Reworded.{NotAsked}
 use Rattle.landed_law.proofs.Beyond.{none_wanted}
 use Rattle.landed_law.proofs.Owners.{is_reading, own_object, unasked_own}

@@ -1,32 +1,32 @@
 -- Of what a thread that waits for an object has in boxes of its slots nobody else has asked for a copy.
 use Rattle.std.proofs.Common.{◌≡◌, ◌≤◌, ℕ, suc, ◌-◌, Bool, true, false, Some, refl, sym, ap, subst, ◌∙◌, arith}
-use Rattle.fr_base.specs.declared.name.ObjNo.{ObjNo}
-use Rattle.fr_base.specs.declared.place.Lval.{Lval}
-use Rattle.fr_base.specs.declared.instruction.Instr.{Instr}
-use Rattle.fr_base.specs.declared.instruction.Instr.TheVariants as instr
-use Rattle.fr_store.specs.Keys.{Key, slot_k}
-use Rattle.fr_store.specs.Typed.{Exact, Resolves}
-use Rattle.heap_partition.specs.declared.value.Cell.{Cell}
-use Rattle.thread_state.specs.View.{ThreadState}
-use Rattle.thread_state.specs.declared.phase.Phase.TheVariants as phase
-use Rattle.server_model.specs.Servers.{Cluster}
-use Rattle.heap_law.specs.Names.{Among}
-use Rattle.heap_law.specs.Things.{in_cell, things_of}
-use Rattle.heap_law.specs.Follow.{Standing, Ground, cells_in, value_behind, leads, locate}
-use Rattle.heap_law.specs.Paths.{Path, reads, shares, lends, path_of}
-use Rattle.heap_law.specs.Sight.{sight}
-use Rattle.heap_law.specs.Walking.{instr_of, path}
-use Rattle.heap_law.specs.Words.{HasWords}
-use Rattle.type_law.specs.ClusterTypes.{IsCoherent}
-use Rattle.path_law.specs.HeapStore.{GoesOn, HasPaths}
-use Rattle.path_law.specs.Pointing.{MayWrite}
-use Rattle.path_law.proofs.Alike.{leads_in_heap}
-use Rattle.path_law.proofs.Circles.{shorter}
-use Rattle.path_law.proofs.Sole.{some_is}
-use Rattle.read_law.specs.Reading.{Reads, copies as copies_it, dups, locks, shares as shares_it, lends as lends_it}
-use Rattle.read_law.proofs.OwnChains.{OwnObject}
-use Rattle.result_law.proofs.Made.{OwnedBy, own_path}
-use Rattle.result_law.proofs.Mutables.{apart}
+use Rattle.regain_law.specs.Below.fr_base.declared.name.ObjNo.{ObjNo}
+use Rattle.regain_law.specs.Below.fr_base.declared.place.Lval.{Lval}
+use Rattle.regain_law.specs.Below.fr_base.declared.instruction.Instr.{Instr}
+use Rattle.regain_law.specs.Below.fr_base.declared.instruction.Instr.TheVariants as instr
+use Rattle.regain_law.specs.Below.fr_store.Keys.{Key, slot_k}
+use Rattle.regain_law.specs.Below.fr_store.Typed.{Exact, Resolves}
+use Rattle.regain_law.specs.Below.heap_partition.declared.value.Cell.{Cell}
+use Rattle.regain_law.specs.Below.thread_state.View.{ThreadState}
+use Rattle.regain_law.specs.Below.thread_state.declared.phase.Phase.TheVariants as phase
+use Rattle.regain_law.specs.Below.server_model.Servers.{Cluster}
+use Rattle.regain_law.specs.Below.heap_law.Names.{Among}
+use Rattle.regain_law.specs.Below.heap_law.Things.{in_cell, things_of}
+use Rattle.regain_law.specs.Below.heap_law.Follow.{Standing, Ground, cells_in, value_behind, leads, locate}
+use Rattle.regain_law.specs.Below.heap_law.Paths.{Path, reads, shares, lends, path_of}
+use Rattle.regain_law.specs.Below.heap_law.Sight.{sight}
+use Rattle.regain_law.specs.Below.heap_law.Walking.{instr_of, path}
+use Rattle.regain_law.specs.Below.heap_law.Words.{HasWords}
+use Rattle.regain_law.specs.Below.type_law.ClusterTypes.{IsCoherent}
+use Rattle.regain_law.specs.Below.path_law.HeapStore.{GoesOn, HasPaths}
+use Rattle.regain_law.specs.Below.path_law.Pointing.{MayWrite}
+use Rattle.regain_law.proofs.Below.path_law.Alike.{leads_in_heap}
+use Rattle.regain_law.proofs.Below.path_law.Circles.{shorter}
+use Rattle.regain_law.proofs.Below.path_law.Sole.{some_is}
+use Rattle.regain_law.specs.Below.read_law.Reading.{Reads, copies as copies_it, dups, locks, shares as shares_it, lends as lends_it}
+use Rattle.regain_law.proofs.Below.read_law.OwnChains.{OwnObject}
+use Rattle.regain_law.proofs.Below.result_law.Made.{OwnedBy, own_path}
+use Rattle.regain_law.proofs.Below.result_law.Mutables.{apart}
 use Rattle.hidden_law.proofs.Below.fresh_law.Turned.{Unasked}
 use Rattle.hidden_law.proofs.Below.fresh_law.Askers.{ReadsUnder, unasked_by, reads_to, reads_as_owner}
 

@@ -1,50 +1,50 @@
 -- An object that comes to a read, or to a pointer on the way of a mutable borrow: it was changed through a dirty reference in a slot, and that gets a word that wasn't issued.
 use Rattle.std.proofs.Common.{◌≡◌, inl, inr, ℕ, zero, suc, ◌+◌, ◌-◌, ◌==◌, Bool, true, false, if◌then◌else◌, [], ◌∷◌, Option, Some, None, option_map, refl, sym, ap, subst, ◌∙◌, arith}
 use Rattle.std.specs.Prelude.{slice_get}
-use Rattle.fr_base.specs.declared.instruction.Instr.{Instr}
-use Rattle.fr_base.specs.declared.instruction.Instr.TheVariants as instr
-use Rattle.fr_base.specs.declared.place.Lval.{Lval}
-use Rattle.fr_base.specs.declared.name.ObjNo.{ObjNo}
-use Rattle.global_addr.specs.Words.{colour_of}
-use Rattle.heap_partition.specs.declared.value.BoxPtr.{BoxPtr}
-use Rattle.heap_partition.specs.declared.value.Cell.{Cell}
-use Rattle.mut_borrow.specs.declared.mutable.MutRef.{MutRef}
-use Rattle.owner_box.specs.Partition.{new_word}
-use Rattle.thread_state.specs.View.{ThreadState}
-use Rattle.thread_state.specs.declared.phase.Phase.TheVariants as phase
-use Rattle.thread_state.specs.declared.value.Value.{Value}
-use Rattle.thread_state.specs.declared.value.Value.TheVariants as value
-use Rattle.server_msgs.specs.declared.message.Message.TheVariants.{Moved}
-use Rattle.server_model.specs.Servers.{Server, Cluster, server_at}
-use Rattle.server_model.specs.Work.{Hand, thread_in, with_phase}
-use Rattle.server_model.specs.NewWords.{can_grow}
-use Rattle.server_model.specs.Places.{in_slot, set_pointer}
-use Rattle.server_model.specs.Prepare.{access_of, read_or_taken}
-use Rattle.server_model.specs.Objects.{waits_under, arrived_at, arrived_slot, arrived_read, arrived, instr_access}
-use Rattle.heap_law.specs.Names.{Among}
-use Rattle.heap_law.specs.Things.{Location, at_slot, in_cell}
-use Rattle.heap_law.specs.Follow.{Standing, Ground, value_in}
-use Rattle.heap_law.specs.Paths.{Path, reads, shares, path_of, Awaited, is_spent, to_read, to_clean}
-use Rattle.heap_law.specs.Sight.{is_object_among, sight}
-use Rattle.heap_law.specs.Stale.{holder_of}
-use Rattle.heap_law.specs.Turn.{InTurn, by_read, by_share, AwaitsAt, read_at, before_share, at_share}
-use Rattle.heap_law.specs.Walking.{path}
-use Rattle.heap_law.specs.Words.{IsStale}
-use Rattle.heap_law.proofs.Names.{and_left}
-use Rattle.type_law.specs.ClusterTypes.{IsCoherent}
-use Rattle.event_law.specs.Laws.{FewEvents}
-use Rattle.event_law.specs.Laws.{Gives}
-use Rattle.path_law.proofs.Contained.{reference_there}
-use Rattle.read_law.specs.Reading.{Reads, copies, shares as shares_from, lends as lends_from, dups, locks}
-use Rattle.stay_law.proofs.Steps.{TakesNoneHere}
-use Rattle.word_law.specs.Soles.{IsOnly}
-use Rattle.word_law.proofs.Only.{are_only}
-use Rattle.word_law.proofs.Tints.{SlotPut, word_put}
-use Rattle.arrive_law.specs.Awaited.{Awaits}
+use Rattle.regain_law.specs.Below.fr_base.declared.instruction.Instr.{Instr}
+use Rattle.regain_law.specs.Below.fr_base.declared.instruction.Instr.TheVariants as instr
+use Rattle.regain_law.specs.Below.fr_base.declared.place.Lval.{Lval}
+use Rattle.regain_law.specs.Below.fr_base.declared.name.ObjNo.{ObjNo}
+use Rattle.regain_law.specs.Below.global_addr.Words.{colour_of}
+use Rattle.regain_law.specs.Below.heap_partition.declared.value.BoxPtr.{BoxPtr}
+use Rattle.regain_law.specs.Below.heap_partition.declared.value.Cell.{Cell}
+use Rattle.regain_law.specs.Below.mut_borrow.declared.mutable.MutRef.{MutRef}
+use Rattle.regain_law.specs.Below.owner_box.Partition.{new_word}
+use Rattle.regain_law.specs.Below.thread_state.View.{ThreadState}
+use Rattle.regain_law.specs.Below.thread_state.declared.phase.Phase.TheVariants as phase
+use Rattle.regain_law.specs.Below.thread_state.declared.value.Value.{Value}
+use Rattle.regain_law.specs.Below.thread_state.declared.value.Value.TheVariants as value
+use Rattle.regain_law.specs.Below.server_msgs.declared.message.Message.TheVariants.{Moved}
+use Rattle.regain_law.specs.Below.server_model.Servers.{Server, Cluster, server_at}
+use Rattle.regain_law.specs.Below.server_model.Work.{Hand, thread_in, with_phase}
+use Rattle.regain_law.specs.Below.server_model.NewWords.{can_grow}
+use Rattle.regain_law.specs.Below.server_model.Places.{in_slot, set_pointer}
+use Rattle.regain_law.specs.Below.server_model.Prepare.{access_of, read_or_taken}
+use Rattle.regain_law.specs.Below.server_model.Objects.{waits_under, arrived_at, arrived_slot, arrived_read, arrived, instr_access}
+use Rattle.regain_law.specs.Below.heap_law.Names.{Among}
+use Rattle.regain_law.specs.Below.heap_law.Things.{Location, at_slot, in_cell}
+use Rattle.regain_law.specs.Below.heap_law.Follow.{Standing, Ground, value_in}
+use Rattle.regain_law.specs.Below.heap_law.Paths.{Path, reads, shares, path_of, Awaited, is_spent, to_read, to_clean}
+use Rattle.regain_law.specs.Below.heap_law.Sight.{is_object_among, sight}
+use Rattle.regain_law.specs.Below.heap_law.Stale.{holder_of}
+use Rattle.regain_law.specs.Below.heap_law.Turn.{InTurn, by_read, by_share, AwaitsAt, read_at, before_share, at_share}
+use Rattle.regain_law.specs.Below.heap_law.Walking.{path}
+use Rattle.regain_law.specs.Below.heap_law.Words.{IsStale}
+use Rattle.regain_law.proofs.Below.heap_law.Names.{and_left}
+use Rattle.regain_law.specs.Below.type_law.ClusterTypes.{IsCoherent}
+use Rattle.regain_law.specs.Below.event_law.Laws.{FewEvents}
+use Rattle.regain_law.specs.Below.event_law.Laws.{Gives}
+use Rattle.regain_law.proofs.Below.path_law.Contained.{reference_there}
+use Rattle.regain_law.specs.Below.read_law.Reading.{Reads, copies, shares as shares_from, lends as lends_from, dups, locks}
+use Rattle.regain_law.proofs.Below.stay_law.Steps.{TakesNoneHere}
+use Rattle.regain_law.specs.Below.word_law.Soles.{IsOnly}
+use Rattle.regain_law.proofs.Below.word_law.Only.{are_only}
+use Rattle.regain_law.proofs.Below.word_law.Tints.{SlotPut, word_put}
+use Rattle.regain_law.specs.Below.arrive_law.Awaited.{Awaits}
 use Rattle.hidden_law.proofs.Below.clean_law.Worded.{dirty_found}
-use Rattle.await_law.proofs.Landing.{before, landed, untaken, begun_places, set_ok, in_a_slot}
-use Rattle.await_law.proofs.ReadArrivals.{IsSpent, read_spent, SpentHop, spent_hop, fresh_at, slot, there}
-use Rattle.await_law.proofs.ReadArrivals as waits
+use Rattle.regain_law.proofs.Below.await_law.Landing.{before, landed, untaken, begun_places, set_ok, in_a_slot}
+use Rattle.regain_law.proofs.Below.await_law.ReadArrivals.{IsSpent, read_spent, SpentHop, spent_hop, fresh_at, slot, there}
+use Rattle.regain_law.proofs.Below.await_law.ReadArrivals as waits
 use Rattle.landed_law.specs.Landed.{ReadArrivalsKeepCopies}
 use Rattle.hidden_law.proofs.Reworded.{NotAsked}
 use Rattle.landed_law.proofs.Delivery.{words, Kept, got, settles_apart, delivered}

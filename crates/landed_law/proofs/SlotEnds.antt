@@ -2,52 +2,52 @@
 use Rattle.std.proofs.Common.{◌≡◌, ◌⊎◌, inl, inr, ⊎_elim, ℕ, suc, ◌-◌, ◌==◌, true, false, if◌then◌else◌, length, Option, Some, None, option_map, refl, sym, ap, subst, ◌∙◌, arith}
 use Rattle.std.specs.Prelude.{slice_get}
 use Rattle.std.proofs.lemmas.Bool.{eq-eqb}
-use Rattle.fr_base.specs.Lists.{last_of}
-use Rattle.fr_base.specs.declared.instruction.Instr.{Instr}
-use Rattle.fr_base.specs.declared.instruction.Instr.TheVariants as instr
-use Rattle.fr_base.specs.declared.place.Lval.{Lval}
-use Rattle.fr_store.specs.Keys.{slot_k}
-use Rattle.fr_store.proofs.Chains.{unique}
-use Rattle.heap_partition.specs.declared.value.BoxPtr.{BoxPtr}
-use Rattle.heap_partition.specs.declared.value.Cell.{Cell}
-use Rattle.mut_borrow.specs.declared.mutable.MutRef.{MutRef}
-use Rattle.owner_box.specs.Partition.{new_word}
-use Rattle.thread_state.specs.View.{ThreadState}
-use Rattle.thread_state.specs.declared.phase.Phase.TheVariants as phase
-use Rattle.thread_state.specs.declared.value.Value.TheVariants as value
-use Rattle.server_msgs.specs.declared.message.Message.TheVariants.{Moved}
-use Rattle.server_model.specs.Servers.{Server, Cluster, server_at}
-use Rattle.server_model.specs.Work.{Hand, thread_in, with_phase}
-use Rattle.server_model.specs.NewWords.{can_grow}
-use Rattle.server_model.specs.Places.{in_slot, set_pointer}
-use Rattle.server_model.specs.Prepare.{EndRef, access_of, assigned as access_assigned, ending as access_ending}
-use Rattle.server_model.specs.Objects.{arrived_at, arrived_write, arrived_end, arrived, instr_access}
-use Rattle.heap_law.specs.Names.{Among}
-use Rattle.heap_law.specs.Things.{Location, at_slot, in_cell}
-use Rattle.heap_law.specs.Follow.{Standing, Ground, value_in, leads}
-use Rattle.heap_law.specs.Paths.{Path, ends, ending, assigning, path_of, Awaited, to_write}
-use Rattle.heap_law.specs.Sight.{sight}
-use Rattle.heap_law.specs.Stale.{changed_above, stale_above, taken_above}
-use Rattle.heap_law.specs.Turn.{InTurn, by_end, by_holder}
-use Rattle.heap_law.specs.Walking.{path}
-use Rattle.heap_law.specs.Words.{IsStale}
-use Rattle.type_law.specs.ClusterTypes.{IsCoherent}
-use Rattle.event_law.specs.Laws.{Gives, FewEvents}
-use Rattle.fr_base.specs.declared.name.ObjNo.{ObjNo}
-use Rattle.path_law.specs.HeapStore.{in_store, heap_store, GoesOn, HasPaths}
-use Rattle.path_law.specs.Pointing.{MayWrite, EndsSlot, assigned, dropped}
-use Rattle.path_law.proofs.Ended.{ended_may_write}
-use Rattle.path_law.proofs.Sole.{some_is}
-use Rattle.path_law.proofs.FreshPaths.{Followed, OwnChain, chain_of, none_made, threads_same}
-use Rattle.end_law.proofs.Alone.{not_taken}
-use Rattle.word_law.specs.Soles.{IsSole}
-use Rattle.word_law.proofs.Alone.{written_are_sole}
-use Rattle.word_law.proofs.Only.{are_only}
-use Rattle.word_law.proofs.Tints.{SlotPut, word_put}
-use Rattle.stay_law.proofs.Steps.{TakesNoneHere}
-use Rattle.arrive_law.specs.Awaited.{Awaits}
-use Rattle.read_law.proofs.OwnChains.{OwnObject, comes_own}
-use Rattle.await_law.proofs.Landing.{before, landed, paths, on, awaits, slot_stands, untaken, set_ok, in_a_slot}
+use Rattle.regain_law.specs.Below.fr_base.Lists.{last_of}
+use Rattle.regain_law.specs.Below.fr_base.declared.instruction.Instr.{Instr}
+use Rattle.regain_law.specs.Below.fr_base.declared.instruction.Instr.TheVariants as instr
+use Rattle.regain_law.specs.Below.fr_base.declared.place.Lval.{Lval}
+use Rattle.regain_law.specs.Below.fr_store.Keys.{slot_k}
+use Rattle.regain_law.proofs.Below.fr_store.Chains.{unique}
+use Rattle.regain_law.specs.Below.heap_partition.declared.value.BoxPtr.{BoxPtr}
+use Rattle.regain_law.specs.Below.heap_partition.declared.value.Cell.{Cell}
+use Rattle.regain_law.specs.Below.mut_borrow.declared.mutable.MutRef.{MutRef}
+use Rattle.regain_law.specs.Below.owner_box.Partition.{new_word}
+use Rattle.regain_law.specs.Below.thread_state.View.{ThreadState}
+use Rattle.regain_law.specs.Below.thread_state.declared.phase.Phase.TheVariants as phase
+use Rattle.regain_law.specs.Below.thread_state.declared.value.Value.TheVariants as value
+use Rattle.regain_law.specs.Below.server_msgs.declared.message.Message.TheVariants.{Moved}
+use Rattle.regain_law.specs.Below.server_model.Servers.{Server, Cluster, server_at}
+use Rattle.regain_law.specs.Below.server_model.Work.{Hand, thread_in, with_phase}
+use Rattle.regain_law.specs.Below.server_model.NewWords.{can_grow}
+use Rattle.regain_law.specs.Below.server_model.Places.{in_slot, set_pointer}
+use Rattle.regain_law.specs.Below.server_model.Prepare.{EndRef, access_of, assigned as access_assigned, ending as access_ending}
+use Rattle.regain_law.specs.Below.server_model.Objects.{arrived_at, arrived_write, arrived_end, arrived, instr_access}
+use Rattle.regain_law.specs.Below.heap_law.Names.{Among}
+use Rattle.regain_law.specs.Below.heap_law.Things.{Location, at_slot, in_cell}
+use Rattle.regain_law.specs.Below.heap_law.Follow.{Standing, Ground, value_in, leads}
+use Rattle.regain_law.specs.Below.heap_law.Paths.{Path, ends, ending, assigning, path_of, Awaited, to_write}
+use Rattle.regain_law.specs.Below.heap_law.Sight.{sight}
+use Rattle.regain_law.specs.Below.heap_law.Stale.{changed_above, stale_above, taken_above}
+use Rattle.regain_law.specs.Below.heap_law.Turn.{InTurn, by_end, by_holder}
+use Rattle.regain_law.specs.Below.heap_law.Walking.{path}
+use Rattle.regain_law.specs.Below.heap_law.Words.{IsStale}
+use Rattle.regain_law.specs.Below.type_law.ClusterTypes.{IsCoherent}
+use Rattle.regain_law.specs.Below.event_law.Laws.{Gives, FewEvents}
+use Rattle.regain_law.specs.Below.fr_base.declared.name.ObjNo.{ObjNo}
+use Rattle.regain_law.specs.Below.path_law.HeapStore.{in_store, heap_store, GoesOn, HasPaths}
+use Rattle.regain_law.specs.Below.path_law.Pointing.{MayWrite, EndsSlot, assigned, dropped}
+use Rattle.regain_law.proofs.Below.path_law.Ended.{ended_may_write}
+use Rattle.regain_law.proofs.Below.path_law.Sole.{some_is}
+use Rattle.regain_law.proofs.Below.path_law.FreshPaths.{Followed, OwnChain, chain_of, none_made, threads_same}
+use Rattle.regain_law.proofs.Below.end_law.Alone.{not_taken}
+use Rattle.regain_law.specs.Below.word_law.Soles.{IsSole}
+use Rattle.regain_law.proofs.Below.word_law.Alone.{written_are_sole}
+use Rattle.regain_law.proofs.Below.word_law.Only.{are_only}
+use Rattle.regain_law.proofs.Below.word_law.Tints.{SlotPut, word_put}
+use Rattle.regain_law.proofs.Below.stay_law.Steps.{TakesNoneHere}
+use Rattle.regain_law.specs.Below.arrive_law.Awaited.{Awaits}
+use Rattle.regain_law.proofs.Below.read_law.OwnChains.{OwnObject, comes_own}
+use Rattle.regain_law.proofs.Below.await_law.Landing.{before, landed, paths, on, awaits, slot_stands, untaken, set_ok, in_a_slot}
 use Rattle.hidden_law.proofs.Reworded.{NotAsked}
 use Rattle.landed_law.proofs.Beyond.{none_wanted}
 use Rattle.landed_law.proofs.Owners.{is_reading, own_object, unasked_own}

@@ -1,40 +1,40 @@
 -- Where a thread takes an object from a pointer, under a word that wasn't issued, each other object is what it was.
 use Rattle.std.proofs.Common.{◌≡◌, ◌⊎◌, inl, inr, ⊎_elim, ℕ, zero, suc, ◌||◌, Bool, true, false, [], Option, Some, None, refl, sym, ap, subst, ◌∙◌}
-use Rattle.fr_base.specs.declared.name.ObjNo.{ObjNo}
-use Rattle.fr_base.specs.declared.place.Lval.{Lval}
-use Rattle.heap_partition.specs.declared.value.Cell.{Cell}
-use Rattle.heap_partition.specs.declared.value.Owned.TheVariants as owned
-use Rattle.thread_state.specs.declared.value.Value.{Value}
-use Rattle.thread_state.specs.declared.value.Value.TheVariants as value
-use Rattle.server_model.specs.Servers.{Cluster}
-use Rattle.heap_law.specs.Names.{Among}
-use Rattle.heap_law.specs.Things.{Location, at_slot, in_cell, Thing, flies, things_of}
-use Rattle.heap_law.specs.Follow.{Ground, cell_of, cells_in, value_in, leads}
-use Rattle.heap_law.specs.Stale.{is_among, Reference, references, holder_of, one_star_less, is_held_at, with_place, lent_places, changed_above, stale_above, taken_above}
-use Rattle.heap_law.specs.Sight.{Pointer, pointers_in, taken_object, taken_pointers, is_object_among, sight, issued}
-use Rattle.heap_law.specs.Coherent.{Holds, first_at_holder}
-use Rattle.heap_law.specs.Words.{all_pointers, IsStale, Fresh, HasWords}
-use Rattle.heap_law.proofs.Bags.{among_split}
-use Rattle.heap_law.proofs.Words.{told as told_stale}
-use Rattle.path_law.specs.Pointing.{Above, made_from, made_below}
-use Rattle.path_law.proofs.Origins.{among_first, among_second}
-use Rattle.path_law.proofs.Contained.{reference_there}
-use Rattle.path_law.proofs.FreshPaths.{held_at}
-use Rattle.path_law.proofs.Sole.{some_is}
-use Rattle.word_law.specs.Reworded.{HasPlaces}
-use Rattle.word_law.specs.Soles.{IsSole}
-use Rattle.word_law.specs.Unmoved.{Taking, takings}
-use Rattle.word_law.proofs.Follows.{seen_places_lead, seen_holders_lead}
-use Rattle.word_law.proofs.Grounds.{of_borrows}
-use Rattle.word_law.proofs.Loose.{remains}
-use Rattle.word_law.proofs.Standing.{CellOf, lying, flying, cell_among, cell_found, pointers_among, pointer_at, tells, told, borrow_stands}
-use Rattle.word_law.proofs.Takings.{lent_by, taken_by, lents_are, takens_are, lent_listed, lent_told, taken_listed, taken_told}
-use Rattle.word_law.proofs.Words.{above_leads, taken_nowhere}
-use Rattle.copy_law.proofs.Clean.{cell_thing, thing_cell}
+use Rattle.regain_law.specs.Below.fr_base.declared.name.ObjNo.{ObjNo}
+use Rattle.regain_law.specs.Below.fr_base.declared.place.Lval.{Lval}
+use Rattle.regain_law.specs.Below.heap_partition.declared.value.Cell.{Cell}
+use Rattle.regain_law.specs.Below.heap_partition.declared.value.Owned.TheVariants as owned
+use Rattle.regain_law.specs.Below.thread_state.declared.value.Value.{Value}
+use Rattle.regain_law.specs.Below.thread_state.declared.value.Value.TheVariants as value
+use Rattle.regain_law.specs.Below.server_model.Servers.{Cluster}
+use Rattle.regain_law.specs.Below.heap_law.Names.{Among}
+use Rattle.regain_law.specs.Below.heap_law.Things.{Location, at_slot, in_cell, Thing, flies, things_of}
+use Rattle.regain_law.specs.Below.heap_law.Follow.{Ground, cell_of, cells_in, value_in, leads}
+use Rattle.regain_law.specs.Below.heap_law.Stale.{is_among, Reference, references, holder_of, one_star_less, is_held_at, with_place, lent_places, changed_above, stale_above, taken_above}
+use Rattle.regain_law.specs.Below.heap_law.Sight.{Pointer, pointers_in, taken_object, taken_pointers, is_object_among, sight, issued}
+use Rattle.regain_law.specs.Below.heap_law.Coherent.{Holds, first_at_holder}
+use Rattle.regain_law.specs.Below.heap_law.Words.{all_pointers, IsStale, Fresh, HasWords}
+use Rattle.regain_law.proofs.Below.heap_law.Bags.{among_split}
+use Rattle.regain_law.proofs.Below.heap_law.Words.{told as told_stale}
+use Rattle.regain_law.specs.Below.path_law.Pointing.{Above, made_from, made_below}
+use Rattle.regain_law.proofs.Below.path_law.Origins.{among_first, among_second}
+use Rattle.regain_law.proofs.Below.path_law.Contained.{reference_there}
+use Rattle.regain_law.proofs.Below.path_law.FreshPaths.{held_at}
+use Rattle.regain_law.proofs.Below.path_law.Sole.{some_is}
+use Rattle.regain_law.specs.Below.word_law.Reworded.{HasPlaces}
+use Rattle.regain_law.specs.Below.word_law.Soles.{IsSole}
+use Rattle.regain_law.specs.Below.word_law.Unmoved.{Taking, takings}
+use Rattle.regain_law.proofs.Below.word_law.Follows.{seen_places_lead, seen_holders_lead}
+use Rattle.regain_law.proofs.Below.word_law.Grounds.{of_borrows}
+use Rattle.regain_law.proofs.Below.word_law.Loose.{remains}
+use Rattle.regain_law.proofs.Below.word_law.Standing.{CellOf, lying, flying, cell_among, cell_found, pointers_among, pointer_at, tells, told, borrow_stands}
+use Rattle.regain_law.proofs.Below.word_law.Takings.{lent_by, taken_by, lents_are, takens_are, lent_listed, lent_told, taken_listed, taken_told}
+use Rattle.regain_law.proofs.Below.word_law.Words.{above_leads, taken_nowhere}
+use Rattle.hidden_law.proofs.Below.copy_law.Clean.{cell_thing, thing_cell}
 use Rattle.hidden_law.proofs.Below.clean_law.CleanReads.{dirty_one}
 use Rattle.hidden_law.proofs.Below.clean_law.Worded.{dirty_found, same_truth, objects_differ}
 use Rattle.hidden_law.proofs.Below.fresh_law.Turned.{Same}
-use Rattle.await_law.specs.TakenUp.{TakenUp}
+use Rattle.regain_law.specs.Below.await_law.TakenUp.{TakenUp}
 use Rattle.hidden_law.proofs.Settled.{by_word, Covered, Settled}
 use Rattle.hidden_law.proofs.Reworded.{cell_by_value, NotAsked}
 

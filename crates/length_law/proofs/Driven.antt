@@ -2,27 +2,27 @@
 use Rattle.std.proofs.Common.{◌≡◌, ◌≤◌, ℕ, ◌+◌, ◌*◌, ◌==◌, ◌&&◌, not, Bool, true, false, if◌then◌else◌, List, [], ◌∷◌, ◌++◌, length, Option, Some, None, refl, subst, arith, length-append}
 use Rattle.std.proofs.lemmas.Bool.Decides.{nat_tests}
 use Rattle.std.specs.Prelude.{is_some, option_map}
-use Rattle.fr_base.specs.Lists.{tot, one}
-use Rattle.fr_base.specs.declared.step.Fresh.{Fresh}
-use Rattle.fr_base.specs.declared.settings.Options.{Options}
-use Rattle.read_cache.specs.Cache.{Copy}
-use Rattle.migration.specs.Packing.{unpin_all, used_words, packed}
-use Rattle.thread_state.specs.View.{ThreadState}
-use Rattle.journal.specs.View.{EntryView}
-use Rattle.coloured_heap.specs.Lists.{first, holds, has, less_all}
-use Rattle.coloured_heap.specs.Heap.{Coloured, start}
-use Rattle.coloured_heap.specs.Legal.{entry_after}
-use Rattle.coloured_heap.specs.Driven.{are_due, departing, may_depart, resting, driven_from}
-use Rattle.server_model.specs.declared.event.Event.{Event}
-use Rattle.server_model.specs.declared.event.What.{What}
-use Rattle.server_model.specs.declared.event.What.TheVariants.{Step, Deliver, Evict, Migrate}
-use Rattle.server_model.specs.Servers.{Server, Cluster, server_at, start_of}
-use Rattle.server_model.specs.Work.{thread_in, without_thread, then_some}
-use Rattle.server_model.specs.Moving.{depart}
-use Rattle.server_model.specs.Events.{begin_work, enabled, left_by, does}
-use Rattle.server_model.specs.Clusters.{apply, done_at, hand_over_newer}
-use Rattle.event_law.specs.Laws.{Gives}
-use Rattle.event_law.proofs.Results.{bind_gives, over_gives, test_gives, both_give}
+use Rattle.local_law.specs.Below.fr_base.Lists.{tot, one}
+use Rattle.local_law.specs.Below.fr_base.declared.step.Fresh.{Fresh}
+use Rattle.local_law.specs.Below.fr_base.declared.settings.Options.{Options}
+use Rattle.local_law.specs.Below.read_cache.Cache.{Copy}
+use Rattle.local_law.specs.Below.migration.Packing.{unpin_all, used_words, packed}
+use Rattle.local_law.specs.Below.thread_state.View.{ThreadState}
+use Rattle.local_law.specs.Below.journal.View.{EntryView}
+use Rattle.local_law.specs.Below.coloured_heap.Lists.{first, holds, has, less_all}
+use Rattle.local_law.specs.Below.coloured_heap.Heap.{Coloured, start}
+use Rattle.local_law.specs.Below.coloured_heap.Legal.{entry_after}
+use Rattle.local_law.specs.Below.coloured_heap.Driven.{are_due, departing, may_depart, resting, driven_from}
+use Rattle.local_law.specs.Below.server_model.declared.event.Event.{Event}
+use Rattle.local_law.specs.Below.server_model.declared.event.What.{What}
+use Rattle.local_law.specs.Below.server_model.declared.event.What.TheVariants.{Step, Deliver, Evict, Migrate}
+use Rattle.local_law.specs.Below.server_model.Servers.{Server, Cluster, server_at, start_of}
+use Rattle.local_law.specs.Below.server_model.Work.{thread_in, without_thread, then_some}
+use Rattle.local_law.specs.Below.server_model.Moving.{depart}
+use Rattle.local_law.specs.Below.server_model.Events.{begin_work, enabled, left_by, does}
+use Rattle.local_law.specs.Below.server_model.Clusters.{apply, done_at, hand_over_newer}
+use Rattle.local_law.specs.Below.event_law.Laws.{Gives}
+use Rattle.local_law.proofs.Below.event_law.Results.{bind_gives, over_gives, test_gives, both_give}
 use Rattle.length_law.specs.Credit.{begun}
 use Rattle.length_law.specs.Spending.{moves_again, cost_at, cost, After, one_more, after_all}
 use Rattle.length_law.specs.Driving.{is_step, steps_in, plain_steps, moves_in, resting_after, DrivenMoveFew, DrivenRunsAreShort}

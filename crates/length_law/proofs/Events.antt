@@ -1,25 +1,25 @@
 -- Each event takes at least one from what the cluster is worth, its own cost and the threads that it starts aside.
 use Rattle.std.proofs.Common.{◌≡◌, ◌≤◌, ℕ, zero, suc, ◌+◌, ◌*◌, ◌==◌, Bool, true, false, if◌then◌else◌, List, [], ◌∷◌, length, Option, Some, None, refl, sym, ap, subst, arith}
 use Rattle.std.specs.Prelude.{slice_get, option_map, take, drop}
-use Rattle.fr_base.specs.Lists.{tot}
-use Rattle.fr_base.specs.declared.instruction.Instr.{Instr}
-use Rattle.fr_base.specs.declared.settings.Options.{Options}
-use Rattle.read_cache.specs.Cache.{Copy, can_evict, evict}
-use Rattle.migration.specs.Packing.{unpin_all, used_words, packed}
-use Rattle.thread_state.specs.View.{ThreadState}
-use Rattle.journal.specs.View.{EntryView}
-use Rattle.server_msgs.specs.declared.message.Message.{Message}
-use Rattle.server_msgs.specs.declared.message.Message.TheVariants as message
-use Rattle.server_model.specs.declared.event.What.{What}
-use Rattle.server_model.specs.declared.event.What.TheVariants.{Step, Deliver, Evict, Migrate}
-use Rattle.server_model.specs.Servers.{Sent, Server, Cluster, server_at}
-use Rattle.server_model.specs.Work.{Hand, sent_from, receive, thread_in, without_thread, then_some}
-use Rattle.server_model.specs.Moving.{depart}
-use Rattle.server_model.specs.Events.{Stepped, begin_work, begin_at, left_by, received, deliver_message, step, step_in, stepped, does, enabled}
-use Rattle.server_model.specs.Clusters.{with_server, accept, accept_at, accept_all, with_outbox, hand_over_newer, done_at}
-use Rattle.server_model.specs.Laws.{sum_sent}
-use Rattle.event_law.specs.Laws.{Gives}
-use Rattle.event_law.proofs.Results.{then_gives, over_gives, test_gives}
+use Rattle.local_law.specs.Below.fr_base.Lists.{tot}
+use Rattle.local_law.specs.Below.fr_base.declared.instruction.Instr.{Instr}
+use Rattle.local_law.specs.Below.fr_base.declared.settings.Options.{Options}
+use Rattle.local_law.specs.Below.read_cache.Cache.{Copy, can_evict, evict}
+use Rattle.local_law.specs.Below.migration.Packing.{unpin_all, used_words, packed}
+use Rattle.local_law.specs.Below.thread_state.View.{ThreadState}
+use Rattle.local_law.specs.Below.journal.View.{EntryView}
+use Rattle.local_law.specs.Below.server_msgs.declared.message.Message.{Message}
+use Rattle.local_law.specs.Below.server_msgs.declared.message.Message.TheVariants as message
+use Rattle.local_law.specs.Below.server_model.declared.event.What.{What}
+use Rattle.local_law.specs.Below.server_model.declared.event.What.TheVariants.{Step, Deliver, Evict, Migrate}
+use Rattle.local_law.specs.Below.server_model.Servers.{Sent, Server, Cluster, server_at}
+use Rattle.local_law.specs.Below.server_model.Work.{Hand, sent_from, receive, thread_in, without_thread, then_some}
+use Rattle.local_law.specs.Below.server_model.Moving.{depart}
+use Rattle.local_law.specs.Below.server_model.Events.{Stepped, begin_work, begin_at, left_by, received, deliver_message, step, step_in, stepped, does, enabled}
+use Rattle.local_law.specs.Below.server_model.Clusters.{with_server, accept, accept_at, accept_all, with_outbox, hand_over_newer, done_at}
+use Rattle.local_law.specs.Below.server_model.Laws.{sum_sent}
+use Rattle.local_law.specs.Below.event_law.Laws.{Gives}
+use Rattle.local_law.proofs.Below.event_law.Results.{then_gives, over_gives, test_gives}
 use Rattle.local_law.proofs.Plainly.{EndsStep}
 use Rattle.length_law.specs.Credit.{thread_worth, message_worth, rest_worth, server_worth, credit, begun}
 use Rattle.length_law.specs.Spending.{moves_again, cost_at, EventsSpend}
@@ -74,7 +74,7 @@ module _ (code : List Instr) (o : Options) (s : Server) where
           → Gives (Spends 0 s)
           (option_map (left_by s.events None None)
           (option_map (λ x. record (begin_at s) { work = x })
-          (if q then Some (Rattle.server_model.specs.Work.note (Rattle.journal.specs.declared.act.Act.TheVariants.Evict w) (Rattle.server_model.specs.Work.with_cache (evict s.rest.cache w) (begin_work s.rest))) else None)))
+          (if q then Some (Rattle.local_law.specs.Below.server_model.Work.note (Rattle.local_law.specs.Below.journal.declared.act.Act.TheVariants.Evict w) (Rattle.local_law.specs.Below.server_model.Work.with_cache (evict s.rest.cache w) (begin_work s.rest))) else None)))
       by true e = omega (arith, evicted_length s.rest.cache w e)
       by false e = tt
 

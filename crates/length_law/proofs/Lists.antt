@@ -2,22 +2,22 @@
 use Rattle.std.proofs.lemmas.Bool.Decides.{nat_tests}
 use Rattle.std.proofs.Common.{◌≡◌, ◌≤◌, ℕ, zero, suc, ◌+◌, ◌-◌, ◌==◌, ◌&&◌, Bool, true, false, nat_lt, if◌then◌else◌, List, [], ◌∷◌, ◌++◌, length, Option, Some, None, refl, sym, ap, subst, arith}
 use Rattle.std.specs.Prelude.{slice_set, slice_index_or, is_some, IsSome}
-use Rattle.fr_base.specs.Lists.{tot}
-use Rattle.fr_base.specs.declared.name.MutexNo.{MutexNo}
-use Rattle.fr_base.specs.Names.{same_mutex}
-use Rattle.global_addr.specs.Words.{address_of}
-use Rattle.heap_partition.specs.declared.value.Cell.{Cell}
-use Rattle.heap_partition.specs.declared.value.Owned.{Owned}
-use Rattle.owner_box.specs.View.{PartitionState}
-use Rattle.owner_box.specs.Partition.{live_count, cell_of, made, freed, stored, renewed, made_again, with_value, next_place}
-use Rattle.owner_box.proofs.Counts.{live-take, live-push}
-use Rattle.read_cache.specs.Cache.{Copy, with_users, unpin, users, can_unpin, fill, without_copy, is_cached, can_evict, evict, copy_of}
-use Rattle.migration.specs.Packing.{unpin_all}
-use Rattle.mutex_home.specs.Mutexes.{Mutex, mutex_in, with_mutex, without_mutex}
-use Rattle.join_home.specs.Tasks.{Task, TaskState, state_in, task_in, with_state, without_task}
-use Rattle.thread_state.specs.View.{ThreadState}
-use Rattle.server_model.specs.Work.{thread_in, set_thread, without_thread, with_thread}
-use Rattle.event_law.proofs.MutexLists.{found_number}
+use Rattle.local_law.specs.Below.fr_base.Lists.{tot}
+use Rattle.local_law.specs.Below.fr_base.declared.name.MutexNo.{MutexNo}
+use Rattle.local_law.specs.Below.fr_base.Names.{same_mutex}
+use Rattle.local_law.specs.Below.global_addr.Words.{address_of}
+use Rattle.local_law.specs.Below.heap_partition.declared.value.Cell.{Cell}
+use Rattle.local_law.specs.Below.heap_partition.declared.value.Owned.{Owned}
+use Rattle.local_law.specs.Below.owner_box.View.{PartitionState}
+use Rattle.local_law.specs.Below.owner_box.Partition.{live_count, cell_of, made, freed, stored, renewed, made_again, with_value, next_place}
+use Rattle.local_law.proofs.Below.owner_box.Counts.{live-take, live-push}
+use Rattle.local_law.specs.Below.read_cache.Cache.{Copy, with_users, unpin, users, can_unpin, fill, without_copy, is_cached, can_evict, evict, copy_of}
+use Rattle.local_law.specs.Below.migration.Packing.{unpin_all}
+use Rattle.local_law.specs.Below.mutex_home.Mutexes.{Mutex, mutex_in, with_mutex, without_mutex}
+use Rattle.local_law.specs.Below.join_home.Tasks.{Task, TaskState, state_in, task_in, with_state, without_task}
+use Rattle.local_law.specs.Below.thread_state.View.{ThreadState}
+use Rattle.local_law.specs.Below.server_model.Work.{thread_in, set_thread, without_thread, with_thread}
+use Rattle.local_law.proofs.Below.event_law.MutexLists.{found_number}
 
 pub tot_append : {A : Type 0} (f : A → ℕ) (xs ys : List A) → tot f (xs ++ ys) ≡ tot f xs + tot f ys
 tot_append f [] ys = omega arith

@@ -2,23 +2,23 @@
 use Rattle.std.proofs.Common.{◌≡◌, ◌≤◌, ◌<◌, ℕ, zero, suc, ◌+◌, ◌*◌, ◌-◌, ◌^◌, ◌==◌, ◌&&◌, Bool, true, false, nat_lt, if◌then◌else◌, List, [], ◌∷◌, ◌++◌, length, Option, Some, None, refl, ap, arith, length-append}
 use Rattle.std.proofs.lemmas.Bool.Decides.{nat_tests}
 use Rattle.std.specs.Prelude.{slice_get, remove}
-use Rattle.fr_base.specs.Lists.{tot}
-use Rattle.fr_base.specs.declared.name.MutexNo.{MutexNo}
-use Rattle.heap_partition.specs.declared.value.Owned.{Owned}
-use Rattle.mutex_home.specs.Mutexes.{Mutex, Mutexes, mutex_in, make, put_mutex, end_mutex, asked_of, asked_in, ask, back_to, back_out, back_in, give_back, more_in, more, last_less, less_of, less_in, less}
-use Rattle.mutex_home.specs.declared.answers.Asked.{Asked}
-use Rattle.mutex_home.specs.declared.answers.Asked.TheVariants as asked
-use Rattle.mutex_home.specs.declared.answers.Back.{Back}
-use Rattle.mutex_home.specs.declared.answers.Back.TheVariants as back
-use Rattle.join_home.specs.Tasks.{Task, TaskState, state_in, task_in, state_of, over_in, with_state, without_task, begin, begin_pair, ended_from, pair_ended, ended, let_go_from, let_go_of}
-use Rattle.join_home.specs.Tasks as tasks
-use Rattle.join_home.specs.declared.answers.EndedAs.{EndedAs}
-use Rattle.join_home.specs.declared.answers.EndedAs.TheVariants as over
-use Rattle.server_msgs.specs.declared.message.Message.{Message}
-use Rattle.server_model.specs.Servers.{Sent, Rest}
-use Rattle.server_model.specs.Work.{sent_from, receive}
-use Rattle.server_model.specs.Laws.{sum_waiting, sum_sent}
-use Rattle.event_law.specs.Laws.{Gives}
+use Rattle.local_law.specs.Below.fr_base.Lists.{tot}
+use Rattle.local_law.specs.Below.fr_base.declared.name.MutexNo.{MutexNo}
+use Rattle.local_law.specs.Below.heap_partition.declared.value.Owned.{Owned}
+use Rattle.local_law.specs.Below.mutex_home.Mutexes.{Mutex, Mutexes, mutex_in, make, put_mutex, end_mutex, asked_of, asked_in, ask, back_to, back_out, back_in, give_back, more_in, more, last_less, less_of, less_in, less}
+use Rattle.local_law.specs.Below.mutex_home.declared.answers.Asked.{Asked}
+use Rattle.local_law.specs.Below.mutex_home.declared.answers.Asked.TheVariants as asked
+use Rattle.local_law.specs.Below.mutex_home.declared.answers.Back.{Back}
+use Rattle.local_law.specs.Below.mutex_home.declared.answers.Back.TheVariants as back
+use Rattle.local_law.specs.Below.join_home.Tasks.{Task, TaskState, state_in, task_in, state_of, over_in, with_state, without_task, begin, begin_pair, ended_from, pair_ended, ended, let_go_from, let_go_of}
+use Rattle.local_law.specs.Below.join_home.Tasks as tasks
+use Rattle.local_law.specs.Below.join_home.declared.answers.EndedAs.{EndedAs}
+use Rattle.local_law.specs.Below.join_home.declared.answers.EndedAs.TheVariants as over
+use Rattle.local_law.specs.Below.server_msgs.declared.message.Message.{Message}
+use Rattle.local_law.specs.Below.server_model.Servers.{Sent, Rest}
+use Rattle.local_law.specs.Below.server_model.Work.{sent_from, receive}
+use Rattle.local_law.specs.Below.server_model.Laws.{sum_waiting, sum_sent}
+use Rattle.local_law.specs.Below.event_law.Laws.{Gives}
 use Rattle.length_law.specs.Credit.{message_worth, out_worth, mutex_worth, state_worth, task_worth, rest_worth}
 use Rattle.length_law.proofs.Lists.{tot_append, mutex_set, mutex_goes, state_set, task_goes, task_less}
 
@@ -155,7 +155,7 @@ less_worth ms m = by (mutex_in ms.there m) refl
 
 -- a new mutex is one share
 pub mutex_made_worth : (ms : Mutexes) (v : Owned) → all_worth (make ms v) ≡ all_worth ms + 1
-mutex_made_worth ms v = omega (arith, tot_append mutex_worth ms.there (record { number = Rattle.mutex_home.specs.Mutexes.next_mutex ms; content = Some v; shares = 1; queue = [] } ∷ []))
+mutex_made_worth ms v = omega (arith, tot_append mutex_worth ms.there (record { number = Rattle.local_law.specs.Below.mutex_home.Mutexes.next_mutex ms; content = Some v; shares = 1; queue = [] } ∷ []))
 
 -- TASKS
 

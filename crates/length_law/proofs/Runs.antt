@@ -1,13 +1,13 @@
 -- A run is as short as its events cost, and its threads.
 use Rattle.std.proofs.Common.{◌≡◌, ◌≤◌, ℕ, zero, suc, ◌+◌, ◌*◌, List, [], ◌∷◌, length, Option, Some, None, refl, arith}
-use Rattle.fr_base.specs.Lists.{tot}
-use Rattle.fr_base.specs.declared.settings.Options.{Options}
-use Rattle.journal.specs.View.{EntryView}
-use Rattle.server_model.specs.declared.event.Event.{Event}
-use Rattle.server_model.specs.Servers.{Server, Cluster, empty_servers, with_main}
-use Rattle.server_model.specs.Clusters.{apply}
-use Rattle.event_law.specs.Laws.{Gives}
-use Rattle.event_law.proofs.Results.{bind_gives, over_gives}
+use Rattle.local_law.specs.Below.fr_base.Lists.{tot}
+use Rattle.local_law.specs.Below.fr_base.declared.settings.Options.{Options}
+use Rattle.local_law.specs.Below.journal.View.{EntryView}
+use Rattle.local_law.specs.Below.server_model.declared.event.Event.{Event}
+use Rattle.local_law.specs.Below.server_model.Servers.{Server, Cluster, empty_servers, with_main}
+use Rattle.local_law.specs.Below.server_model.Clusters.{apply}
+use Rattle.local_law.specs.Below.event_law.Laws.{Gives}
+use Rattle.local_law.proofs.Below.event_law.Results.{bind_gives, over_gives}
 use Rattle.length_law.specs.Credit.{server_worth, credit, begun}
 use Rattle.length_law.specs.Spending.{cost, After, one_more, after_all, StartsWithLittle, RunsAreShort}
 use Rattle.length_law.proofs.Events.{events_spend}
@@ -40,7 +40,7 @@ spent (e ∷ es) k =
 pub runs_are_short : RunsAreShort
 runs_are_short code o es =
     let start = starts_with_little code o in
-    let k : Cluster = Rattle.server_model.specs.Servers.start_of code o in
+    let k : Cluster = Rattle.local_law.specs.Below.server_model.Servers.start_of code o in
     over k (after_all es k) (spent es k) start.0 start.1
   where
     over : (k : Cluster) (x : Option After) → Gives (λ (x : After). credit x.cluster + 5 * begun k + length x.journal ≤ credit k + 5 * begun x.cluster + x.costs) x → credit k ≤ 2 → begun k ≡ 0

@@ -1,32 +1,32 @@
 -- A step of a thread, done or not, costs at most three more than it takes, the threads that it starts aside.
 use Rattle.std.proofs.Common.{◌≡◌, ◌≤◌, ℕ, ◌+◌, ◌*◌, ◌-◌, Bool, true, false, if◌then◌else◌, List, Some, ap, arith}
-use Rattle.fr_base.specs.declared.instruction.Instr.{Instr}
-use Rattle.heap_partition.specs.declared.value.Cell.{Cell}
-use Rattle.heap_partition.specs.declared.value.Owned.{Owned}
-use Rattle.heap_partition.specs.declared.value.Owned.TheVariants as owned
-use Rattle.owner_box.specs.Partition.{stored, made, renewed}
-use Rattle.read_cache.specs.Cache.{Copy, pin, unpin, users}
-use Rattle.migration.specs.Packing.{unpin_all}
-use Rattle.mutex_home.specs.Mutexes.{can_make, make}
-use Rattle.join_home.specs.Tasks.{Task, can_begin, begin, can_begin_pair, begin_pair}
-use Rattle.thread_state.specs.View.{ThreadState, new_thread}
-use Rattle.thread_state.specs.declared.phase.Phase.TheVariants as phase
-use Rattle.thread_state.specs.declared.value.Value.{Value}
-use Rattle.thread_state.specs.declared.value.Value.TheVariants as value
-use Rattle.server_msgs.specs.declared.message.Message.{Message}
-use Rattle.server_msgs.specs.declared.message.Message.TheVariants as message
-use Rattle.journal.specs.declared.act.Act.TheVariants as act
-use Rattle.server_model.specs.Servers.{Rest}
-use Rattle.server_model.specs.Work.{Work, Hand, sent_from, with_phase}
-use Rattle.server_model.specs.NewWords.{NewWord, can_grow, issue_placed}
-use Rattle.server_model.specs.Start.{next_thread, server_for, start_thread, capture}
-use Rattle.server_model.specs.Drop.{home_of, give_up}
-use Rattle.server_model.specs.Commit.{go_on, next_object, push_box, begun, pair_begun, spawn_with, end_with, label_dropped, ask_join, ask_dup, ask_lock}
-use Rattle.server_model.specs.Prepare.{ask_copy, ask_object}
-use Rattle.global_addr.specs.Words.{server_of}
-use Rattle.server_model.specs.Events.{step}
-use Rattle.event_law.specs.Laws.{Gives}
-use Rattle.event_law.proofs.Results.{then_gives, over_gives, test_gives}
+use Rattle.local_law.specs.Below.fr_base.declared.instruction.Instr.{Instr}
+use Rattle.local_law.specs.Below.heap_partition.declared.value.Cell.{Cell}
+use Rattle.local_law.specs.Below.heap_partition.declared.value.Owned.{Owned}
+use Rattle.local_law.specs.Below.heap_partition.declared.value.Owned.TheVariants as owned
+use Rattle.local_law.specs.Below.owner_box.Partition.{stored, made, renewed}
+use Rattle.local_law.specs.Below.read_cache.Cache.{Copy, pin, unpin, users}
+use Rattle.local_law.specs.Below.migration.Packing.{unpin_all}
+use Rattle.local_law.specs.Below.mutex_home.Mutexes.{can_make, make}
+use Rattle.local_law.specs.Below.join_home.Tasks.{Task, can_begin, begin, can_begin_pair, begin_pair}
+use Rattle.local_law.specs.Below.thread_state.View.{ThreadState, new_thread}
+use Rattle.local_law.specs.Below.thread_state.declared.phase.Phase.TheVariants as phase
+use Rattle.local_law.specs.Below.thread_state.declared.value.Value.{Value}
+use Rattle.local_law.specs.Below.thread_state.declared.value.Value.TheVariants as value
+use Rattle.local_law.specs.Below.server_msgs.declared.message.Message.{Message}
+use Rattle.local_law.specs.Below.server_msgs.declared.message.Message.TheVariants as message
+use Rattle.local_law.specs.Below.journal.declared.act.Act.TheVariants as act
+use Rattle.local_law.specs.Below.server_model.Servers.{Rest}
+use Rattle.local_law.specs.Below.server_model.Work.{Work, Hand, sent_from, with_phase}
+use Rattle.local_law.specs.Below.server_model.NewWords.{NewWord, can_grow, issue_placed}
+use Rattle.local_law.specs.Below.server_model.Start.{next_thread, server_for, start_thread, capture}
+use Rattle.local_law.specs.Below.server_model.Drop.{home_of, give_up}
+use Rattle.local_law.specs.Below.server_model.Commit.{go_on, next_object, push_box, begun, pair_begun, spawn_with, end_with, label_dropped, ask_join, ask_dup, ask_lock}
+use Rattle.local_law.specs.Below.server_model.Prepare.{ask_copy, ask_object}
+use Rattle.local_law.specs.Below.global_addr.Words.{server_of}
+use Rattle.local_law.specs.Below.server_model.Events.{step}
+use Rattle.local_law.specs.Below.event_law.Laws.{Gives}
+use Rattle.local_law.proofs.Below.event_law.Results.{then_gives, over_gives, test_gives}
 use Rattle.local_law.proofs.Small.{Of, Places, Small}
 use Rattle.local_law.proofs.Plainly.{Settles, moves_by, Acts, EndsStep, steps}
 use Rattle.local_law.proofs.Goes.{Any, AnyWord, puts_by}

@@ -1,16 +1,16 @@
 -- WHAT A CLUSTER IS WORTH (this project's rule): how many events it may still do without another step of a thread. Each thing is worth the events that it
 -- can still cause: a message its delivery and its answer's, a copy its eviction, an object the delivery of its `drop`, a mutex value that of its `release`.
 use Rattle.std.specs.Prelude.{ℕ, ◌+◌, ◌*◌, true, false, if◌then◌else◌, length, Option, Some, None}
-use Rattle.fr_base.specs.Lists.{tot}
-use Rattle.heap_partition.specs.declared.value.Owned.{Owned}
-use Rattle.owner_box.specs.Partition.{live_count}
-use Rattle.mutex_home.specs.Mutexes.{Mutex}
-use Rattle.join_home.specs.Tasks.{Task, TaskState, going, let_go, kept, asked, in_pair}
-use Rattle.thread_state.specs.View.{ThreadState}
-use Rattle.server_msgs.specs.declared.message.Message.{Message}
-use Rattle.server_msgs.specs.declared.message.Message.TheVariants as message
-use Rattle.server_model.specs.Servers.{Rest, Server, Cluster}
-use Rattle.server_model.specs.Laws.{sum_at}
+use Rattle.local_law.specs.Below.fr_base.Lists.{tot}
+use Rattle.local_law.specs.Below.heap_partition.declared.value.Owned.{Owned}
+use Rattle.local_law.specs.Below.owner_box.Partition.{live_count}
+use Rattle.local_law.specs.Below.mutex_home.Mutexes.{Mutex}
+use Rattle.local_law.specs.Below.join_home.Tasks.{Task, TaskState, going, let_go, kept, asked, in_pair}
+use Rattle.local_law.specs.Below.thread_state.View.{ThreadState}
+use Rattle.local_law.specs.Below.server_msgs.declared.message.Message.{Message}
+use Rattle.local_law.specs.Below.server_msgs.declared.message.Message.TheVariants as message
+use Rattle.local_law.specs.Below.server_model.Servers.{Rest, Server, Cluster}
+use Rattle.local_law.specs.Below.server_model.Laws.{sum_at}
 
 -- a thread that hasn't moved since its last plain step may move once: it leaves, and its parcel comes
 abbrev pub thread_worth : ThreadState → ℕ

@@ -1,15 +1,15 @@
 -- HOW LONG A DRIVEN RUN GETS (this project's rules): a thread does a plain step between two moves.
 use Rattle.std.specs.Prelude.{◌≡◌, ◌≤◌, ℕ, ◌+◌, ◌*◌, true, is_some, List, [], ◌∷◌, length}
-use Rattle.fr_base.specs.Lists.{tot, one}
-use Rattle.fr_base.specs.declared.instruction.Instr.{Instr}
-use Rattle.fr_base.specs.declared.settings.Options.{Options}
-use Rattle.journal.specs.View.{EntryView}
-use Rattle.coloured_heap.specs.Driven.{departing, resting, is_driven}
-use Rattle.server_model.specs.declared.event.Event.{Event}
-use Rattle.server_model.specs.declared.event.What.{What}
-use Rattle.server_model.specs.declared.event.What.TheVariants.{Step}
-use Rattle.server_model.specs.Servers.{start_of}
-use Rattle.event_law.specs.Laws.{Gives}
+use Rattle.local_law.specs.Below.fr_base.Lists.{tot, one}
+use Rattle.local_law.specs.Below.fr_base.declared.instruction.Instr.{Instr}
+use Rattle.local_law.specs.Below.fr_base.declared.settings.Options.{Options}
+use Rattle.local_law.specs.Below.journal.View.{EntryView}
+use Rattle.local_law.specs.Below.coloured_heap.Driven.{departing, resting, is_driven}
+use Rattle.local_law.specs.Below.server_model.declared.event.Event.{Event}
+use Rattle.local_law.specs.Below.server_model.declared.event.What.{What}
+use Rattle.local_law.specs.Below.server_model.declared.event.What.TheVariants.{Step}
+use Rattle.local_law.specs.Below.server_model.Servers.{start_of}
+use Rattle.local_law.specs.Below.event_law.Laws.{Gives}
 use Rattle.length_law.specs.Credit.{begun}
 use Rattle.length_law.specs.Spending.{After, after_all}
 

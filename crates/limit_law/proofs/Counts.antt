@@ -2,34 +2,34 @@
 use Rattle.std.proofs.Common.{◌≡◌, ◌≤◌, ℕ, zero, suc, ◌+◌, ◌*◌, ◌==◌, not, Bool, true, false, if◌then◌else◌, List, [], ◌∷◌, ◌++◌, reverse, length, Option, Some, None, refl, sym, ap, subst, ◌∙◌, arith}
 use Rattle.std.specs.Prelude.{slice_get}
 use Rattle.std.proofs.lemmas.List.{length-reverse}
-use Rattle.fr_base.specs.Lists.{last_of}
-use Rattle.fr_base.specs.declared.instruction.Instr.{Instr}
-use Rattle.fr_base.specs.declared.instruction.Instr.TheVariants as instr
-use Rattle.mut_borrow.specs.declared.mutable.MutRef.{MutRef}
-use Rattle.thread_state.specs.View.{ThreadState, is_over}
-use Rattle.thread_state.specs.declared.value.Value.{Value}
-use Rattle.thread_state.specs.declared.value.Value.TheVariants as value
-use Rattle.server_model.specs.Servers.{Server, Cluster, server_at}
-use Rattle.server_model.specs.Work.{thread_in}
-use Rattle.fr_typing.specs.Places.{Env}
-use Rattle.fr_code.specs.CodeTypes.{Entry, Table, InstrTypes, i_assign, i_move}
-use Rattle.fr_code.specs.CodeTable.{Successors, Leads, to_next, ends as ends_thread}
-use Rattle.heap_law.specs.Names.{tot, one, other, if_so, Among}
-use Rattle.heap_law.specs.Things.{Thing, stands, things_of, things_at, slot_things, temp_things, gift_things, walk_things, thread_things}
-use Rattle.heap_law.specs.Follow.{Standing}
-use Rattle.heap_law.specs.Sight.{sight}
-use Rattle.heap_law.specs.Walking.{hop_count, too_far}
-use Rattle.heap_law.specs.Paths.{Path, writes, ends, ending, path_of, written_place}
-use Rattle.heap_law.specs.Rooted.{dressed}
-use Rattle.heap_law.specs.Naming.{events_of, many_names, long_holder}
-use Rattle.heap_law.specs.Coherent.{IsSound}
-use Rattle.heap_law.proofs.Sums.{tot-append, server_parts}
-use Rattle.event_law.proofs.Each.{at_most}
-use Rattle.event_law.proofs.Bags.{counts_of, tot-without}
-use Rattle.event_law.proofs.Events.{tot-server}
-use Rattle.event_law.proofs.ThreadThere.{thread_there}
-use Rattle.type_law.specs.Names.{NameTypes, names_of}
-use Rattle.type_law.specs.ClusterTypes.{IsCoherent, Types, slots_wrong, entry_wrong, gives_other, forms_of}
+use Rattle.local_law.specs.Below.fr_base.Lists.{last_of}
+use Rattle.local_law.specs.Below.fr_base.declared.instruction.Instr.{Instr}
+use Rattle.local_law.specs.Below.fr_base.declared.instruction.Instr.TheVariants as instr
+use Rattle.local_law.specs.Below.mut_borrow.declared.mutable.MutRef.{MutRef}
+use Rattle.local_law.specs.Below.thread_state.View.{ThreadState, is_over}
+use Rattle.local_law.specs.Below.thread_state.declared.value.Value.{Value}
+use Rattle.local_law.specs.Below.thread_state.declared.value.Value.TheVariants as value
+use Rattle.local_law.specs.Below.server_model.Servers.{Server, Cluster, server_at}
+use Rattle.local_law.specs.Below.server_model.Work.{thread_in}
+use Rattle.local_law.specs.Below.fr_typing.Places.{Env}
+use Rattle.local_law.specs.Below.fr_code.CodeTypes.{Entry, Table, InstrTypes, i_assign, i_move}
+use Rattle.local_law.specs.Below.fr_code.CodeTable.{Successors, Leads, to_next, ends as ends_thread}
+use Rattle.local_law.specs.Below.heap_law.Names.{tot, one, other, if_so, Among}
+use Rattle.local_law.specs.Below.heap_law.Things.{Thing, stands, things_of, things_at, slot_things, temp_things, gift_things, walk_things, thread_things}
+use Rattle.local_law.specs.Below.heap_law.Follow.{Standing}
+use Rattle.local_law.specs.Below.heap_law.Sight.{sight}
+use Rattle.local_law.specs.Below.heap_law.Walking.{hop_count, too_far}
+use Rattle.local_law.specs.Below.heap_law.Paths.{Path, writes, ends, ending, path_of, written_place}
+use Rattle.local_law.specs.Below.heap_law.Rooted.{dressed}
+use Rattle.local_law.specs.Below.heap_law.Naming.{events_of, many_names, long_holder}
+use Rattle.local_law.specs.Below.heap_law.Coherent.{IsSound}
+use Rattle.local_law.proofs.Below.heap_law.Sums.{tot-append, server_parts}
+use Rattle.local_law.proofs.Below.event_law.Each.{at_most}
+use Rattle.local_law.proofs.Below.event_law.Bags.{counts_of, tot-without}
+use Rattle.local_law.proofs.Below.event_law.Events.{tot-server}
+use Rattle.local_law.proofs.Below.event_law.ThreadThere.{thread_there}
+use Rattle.local_law.specs.Below.type_law.Names.{NameTypes, names_of}
+use Rattle.local_law.specs.Below.type_law.ClusterTypes.{IsCoherent, Types, slots_wrong, entry_wrong, gives_other, forms_of}
 use Rattle.path_law.proofs.Contained.{among_thread}
 use Rattle.path_law.proofs.Forms.{none_of}
 use Rattle.limit_law.specs.Counts.{events_in, IsThreadSmall, IsServerSmall, CountsAreSmall, FewAreFew}
@@ -78,12 +78,12 @@ path_short : (y : ThreadState) → ((i : ℕ) (r : MutRef) → slice_get y.slots
     → {table : Table} {x z : Entry} (i : Instr) → InstrTypes table x i z → Short (path_of (Some i) y)
 path_short y f g (instr.Assign w o) (i_assign t h a b c d) = by w.depth h.short
   where
-    by : (n : ℕ) → n ≤ 8 → Short (Rattle.heap_law.specs.Paths.assigning y.slots w n)
+    by : (n : ℕ) → n ≤ 8 → Short (Rattle.local_law.specs.Below.heap_law.Paths.assigning y.slots w n)
     by zero l = ending_short (slice_get y.slots w.slot) (f w.slot)
     by (suc n) l = h.short
 path_short y f g (instr.Read w true) (i_move a h c b o) = by w.depth
   where
-    by : (n : ℕ) → Short (Rattle.heap_law.specs.Paths.taking w n)
+    by : (n : ℕ) → Short (Rattle.local_law.specs.Below.heap_law.Paths.taking w n)
     by zero = omega arith
     by (suc n) = h.short
 path_short y f g instr.Discard t = ending_short (last_of y.temps) (g _)
@@ -180,7 +180,7 @@ module _ (k : Cluster) (number : ℕ) (s : Server) (c : IsCoherent k) (here : se
         by : (b : Bool) → is_over y.phase ≡ b → length y.slots ≤ 2 * length k.code
         by true e =
             let all = none_of (dressed (sight k)) standing (sight k).ground.threads sound.rooted.over_are_bare among in
-            let bare = sym (ap (λ b. if_so b (other (Rattle.heap_law.specs.Rooted.is_end (slice_get k.code y.pc)) + length y.slots + length y.temps + one (Rattle.std.specs.Prelude.is_some y.gift))) e) ∙ all in
+            let bare = sym (ap (λ b. if_so b (other (Rattle.local_law.specs.Below.heap_law.Rooted.is_end (slice_get k.code y.pc)) + length y.slots + length y.temps + one (Rattle.std.specs.Prelude.is_some y.gift))) e) ∙ all in
             omega (arith, bare)
         by false e =
             let names = names_of types.object types.typing.gives in

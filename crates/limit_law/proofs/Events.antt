@@ -1,20 +1,20 @@
 -- An event sends at most two messages to other servers, whatever event it is and wherever it is done.
 use Rattle.std.proofs.Common.{ℕ, true, List, Option, Some, None, arith}
 use Rattle.std.specs.Prelude.{slice_get, option_map}
-use Rattle.fr_base.specs.declared.instruction.Instr.{Instr}
-use Rattle.fr_base.specs.declared.settings.Options.{Options}
-use Rattle.read_cache.specs.Cache.{can_evict}
-use Rattle.thread_state.specs.View.{ThreadState}
-use Rattle.server_msgs.specs.declared.message.Message.TheVariants as message
-use Rattle.journal.specs.View.{EntryView}
-use Rattle.server_model.specs.declared.event.What.TheVariants.{Step, Deliver, Evict, Migrate}
-use Rattle.server_model.specs.Servers.{Rest, Server}
-use Rattle.server_model.specs.Work.{Work, Hand, then_some, thread_in, beside_threads}
-use Rattle.migration.specs.Packing.{pack_thread}
-use Rattle.server_model.specs.Moving.{migrate}
-use Rattle.server_model.specs.Events.{Stepped, begin_work, begin_at, left_by, received, deliver_message, deliver, evict_copy, step, step_in, stepped, does}
-use Rattle.event_law.specs.Laws.{Gives}
-use Rattle.event_law.proofs.Results.{map_gives, test_gives, over_gives, then_gives}
+use Rattle.local_law.specs.Below.fr_base.declared.instruction.Instr.{Instr}
+use Rattle.local_law.specs.Below.fr_base.declared.settings.Options.{Options}
+use Rattle.local_law.specs.Below.read_cache.Cache.{can_evict}
+use Rattle.local_law.specs.Below.thread_state.View.{ThreadState}
+use Rattle.local_law.specs.Below.server_msgs.declared.message.Message.TheVariants as message
+use Rattle.local_law.specs.Below.journal.View.{EntryView}
+use Rattle.local_law.specs.Below.server_model.declared.event.What.TheVariants.{Step, Deliver, Evict, Migrate}
+use Rattle.local_law.specs.Below.server_model.Servers.{Rest, Server}
+use Rattle.local_law.specs.Below.server_model.Work.{Work, Hand, then_some, thread_in, beside_threads}
+use Rattle.local_law.specs.Below.migration.Packing.{pack_thread}
+use Rattle.local_law.specs.Below.server_model.Moving.{migrate}
+use Rattle.local_law.specs.Below.server_model.Events.{Stepped, begin_work, begin_at, left_by, received, deliver_message, deliver, evict_copy, step, step_in, stepped, does}
+use Rattle.local_law.specs.Below.event_law.Laws.{Gives}
+use Rattle.local_law.proofs.Below.event_law.Results.{map_gives, test_gives, over_gives, then_gives}
 use Rattle.limit_law.specs.Sending.{SendsFew, EventsSendFew}
 use Rattle.limit_law.proofs.Sent.{at_most, sends_none, sends_more}
 use Rattle.limit_law.proofs.Steps.{step_sends}

@@ -1,16 +1,16 @@
 -- Typing knows of few slots before an instruction: each is dropped by one that comes later in the code, since a thread ends without slots.
 use Rattle.std.proofs.Common.{◌≡◌, ◌≤◌, ◌<◌, ℕ, zero, suc, ◌+◌, ◌*◌, Bool, true, false, if◌then◌else◌, List, [], ◌∷◌, length, Some, refl, ap, ◌∙◌, arith}
 use Rattle.std.specs.Prelude.{slice_get}
-use Rattle.fr_base.specs.declared.place.Lval.{Lval}
-use Rattle.fr_base.specs.declared.instruction.Instr.{Instr}
-use Rattle.fr_typing.specs.Kinds.{Kind, whole, gone}
-use Rattle.fr_typing.specs.Places.{Env, on_path, is_mutable, put_at}
-use Rattle.fr_typing.specs.Checks.{set_through}
-use Rattle.fr_typing.specs.Captures.{Capturer, Captures, captures_copy, captures_move}
-use Rattle.fr_store.proofs.PutAt.{length_put}
-use Rattle.fr_code.specs.CodeTypes.{Entry, Table, SlotPasses, passes, SlotsPass, pass_none, pass_next, InstrTypes, i_let, i_assign, i_copy, i_move, i_borrow, i_borrow_mut, i_box, i_arith, i_print, i_discard, i_drop, i_spawn, i_join, i_mutex, i_dup, i_lock, i_unlock, i_par, i_par_end}
-use Rattle.fr_code.specs.Joins.{have_names, JoinsTo, alone, first, second}
-use Rattle.fr_code.specs.CodeTable.{Successors, Leads, to_next, ends, AllEnter, IsTable}
+use Rattle.local_law.specs.Below.fr_base.declared.place.Lval.{Lval}
+use Rattle.local_law.specs.Below.fr_base.declared.instruction.Instr.{Instr}
+use Rattle.local_law.specs.Below.fr_typing.Kinds.{Kind, whole, gone}
+use Rattle.local_law.specs.Below.fr_typing.Places.{Env, on_path, is_mutable, put_at}
+use Rattle.local_law.specs.Below.fr_typing.Checks.{set_through}
+use Rattle.local_law.specs.Below.fr_typing.Captures.{Capturer, Captures, captures_copy, captures_move}
+use Rattle.local_law.proofs.Below.fr_store.PutAt.{length_put}
+use Rattle.local_law.specs.Below.fr_code.CodeTypes.{Entry, Table, SlotPasses, passes, SlotsPass, pass_none, pass_next, InstrTypes, i_let, i_assign, i_copy, i_move, i_borrow, i_borrow_mut, i_box, i_arith, i_print, i_discard, i_drop, i_spawn, i_join, i_mutex, i_dup, i_lock, i_unlock, i_par, i_par_end}
+use Rattle.local_law.specs.Below.fr_code.Joins.{have_names, JoinsTo, alone, first, second}
+use Rattle.local_law.specs.Below.fr_code.CodeTable.{Successors, Leads, to_next, ends, AllEnter, IsTable}
 
 -- as many slots have a name or none
 names_long : (e f : Env) → have_names e ≡ have_names f → length f ≡ length e

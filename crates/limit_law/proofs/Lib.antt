@@ -1,3 +1,4 @@
+pub mod Below
 mod Sent
 mod Steps
 mod Deliveries

@@ -1,21 +1,21 @@
 -- The events of a cluster are those of its servers: nothing else counts any.
 use Rattle.std.proofs.Common.{◌≡◌, ℕ, ◌+◌, Bool, true, false, if◌then◌else◌, List, [], ◌∷◌, ◌++◌, Option, Some, None, refl, arith}
-use Rattle.heap_partition.specs.declared.value.Cell.{Cell}
-use Rattle.heap_partition.specs.declared.value.Owned.{Owned}
-use Rattle.fr_base.specs.declared.name.MutexNo.{MutexNo}
-use Rattle.thread_state.specs.View.{ThreadState}
-use Rattle.thread_state.specs.declared.value.Value.{Value}
-use Rattle.thread_state.specs.declared.value.Value.TheVariants as value
-use Rattle.mut_borrow.specs.declared.shared.SharedRef.{SharedRef}
-use Rattle.mutex_home.specs.Mutexes.{Mutex}
-use Rattle.join_home.specs.Tasks.{Task, TaskState, kept}
-use Rattle.server_msgs.specs.declared.message.Message.{Message}
-use Rattle.server_msgs.specs.declared.message.Message.TheVariants.{Moved, Granted, Unlock, Joined, Finished, Start, Migrate}
-use Rattle.server_model.specs.Servers.{Server, Sent}
-use Rattle.heap_law.specs.Names.{tot}
-use Rattle.heap_law.specs.Things.{Thing, uses, retired, Location, Spot, things_at, pin_things, value_things, slot_things, temp_things, gift_things, walk_things, thread_things, standing_things, message_things, waiting_things, leaving_things, is_free, cell_things, free_things, partition_things, copy_things, content_things, queue_things, mutex_things, result_things, task_things, server_things, servers_things}
-use Rattle.heap_law.specs.Naming.{event_count}
-use Rattle.heap_law.proofs.Sums.{tot-append}
+use Rattle.local_law.specs.Below.heap_partition.declared.value.Cell.{Cell}
+use Rattle.local_law.specs.Below.heap_partition.declared.value.Owned.{Owned}
+use Rattle.local_law.specs.Below.fr_base.declared.name.MutexNo.{MutexNo}
+use Rattle.local_law.specs.Below.thread_state.View.{ThreadState}
+use Rattle.local_law.specs.Below.thread_state.declared.value.Value.{Value}
+use Rattle.local_law.specs.Below.thread_state.declared.value.Value.TheVariants as value
+use Rattle.local_law.specs.Below.mut_borrow.declared.shared.SharedRef.{SharedRef}
+use Rattle.local_law.specs.Below.mutex_home.Mutexes.{Mutex}
+use Rattle.local_law.specs.Below.join_home.Tasks.{Task, TaskState, kept}
+use Rattle.local_law.specs.Below.server_msgs.declared.message.Message.{Message}
+use Rattle.local_law.specs.Below.server_msgs.declared.message.Message.TheVariants.{Moved, Granted, Unlock, Joined, Finished, Start, Migrate}
+use Rattle.local_law.specs.Below.server_model.Servers.{Server, Sent}
+use Rattle.local_law.specs.Below.heap_law.Names.{tot}
+use Rattle.local_law.specs.Below.heap_law.Things.{Thing, uses, retired, Location, Spot, things_at, pin_things, value_things, slot_things, temp_things, gift_things, walk_things, thread_things, standing_things, message_things, waiting_things, leaving_things, is_free, cell_things, free_things, partition_things, copy_things, content_things, queue_things, mutex_things, result_things, task_things, server_things, servers_things}
+use Rattle.local_law.specs.Below.heap_law.Naming.{event_count}
+use Rattle.local_law.proofs.Below.heap_law.Sums.{tot-append}
 use Rattle.limit_law.specs.Counts.{events_in}
 
 abbrev None_in : List Thing → Type 0

@@ -1,9 +1,9 @@
 -- Messages that an event has sent, at most so many.
 use Rattle.std.proofs.Common.{◌≡◌, ◌≤◌, ℕ, suc, ◌==◌, Bool, true, false, if◌then◌else◌, List, [], ◌∷◌, ◌++◌, refl, sym, ap, subst, ◌∙◌, arith, append-nil, append_assoc, length-append}
 use Rattle.std.specs.List.{AllByRecursion}
-use Rattle.server_msgs.specs.declared.message.Message.{Message}
-use Rattle.server_model.specs.Servers.{Sent, Rest}
-use Rattle.server_model.specs.Work.{sent_from}
+use Rattle.local_law.specs.Below.server_msgs.declared.message.Message.{Message}
+use Rattle.local_law.specs.Below.server_model.Servers.{Sent, Rest}
+use Rattle.local_law.specs.Below.server_model.Work.{sent_from}
 use Rattle.limit_law.specs.Sending.{AddsFew, SendsFew}
 
 abbrev pub Others : ℕ → List Sent → Type 0

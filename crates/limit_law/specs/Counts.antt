@@ -1,11 +1,11 @@
 -- HOW LARGE COUNTS GET in a coherent cluster (this project's rule): a small multiple of the number of events, or of the length of the code.
 use Rattle.std.specs.Prelude.{◌≡◌, ◌<◌, ◌≤◌, ◌+◌, ◌*◌, ℕ, List, [], ◌∷◌, length, Some}
-use Rattle.fr_base.specs.declared.instruction.Instr.{Instr}
-use Rattle.thread_state.specs.View.{ThreadState}
-use Rattle.server_model.specs.Servers.{Server, Cluster, server_at}
-use Rattle.server_model.specs.Work.{thread_in}
-use Rattle.event_law.specs.Laws.{FewEvents}
-use Rattle.type_law.specs.ClusterTypes.{IsCoherent}
+use Rattle.local_law.specs.Below.fr_base.declared.instruction.Instr.{Instr}
+use Rattle.local_law.specs.Below.thread_state.View.{ThreadState}
+use Rattle.local_law.specs.Below.server_model.Servers.{Server, Cluster, server_at}
+use Rattle.local_law.specs.Below.server_model.Work.{thread_in}
+use Rattle.local_law.specs.Below.event_law.Laws.{FewEvents}
+use Rattle.local_law.specs.Below.type_law.ClusterTypes.{IsCoherent}
 
 -- how many events these servers have done
 abbrev pub events_in : List Server → ℕ

@@ -1,13 +1,13 @@
 -- HOW MUCH AN EVENT SENDS (this project's rules): at most two messages to other servers.
 use Rattle.std.specs.Prelude.{◌≡◌, ◌≤◌, ◌==◌, ℕ, false, List, ◌++◌, length}
 use Rattle.std.specs.List.{AllByRecursion}
-use Rattle.fr_base.specs.declared.instruction.Instr.{Instr}
-use Rattle.fr_base.specs.declared.settings.Options.{Options}
-use Rattle.journal.specs.View.{EntryView}
-use Rattle.server_model.specs.declared.event.What.{What}
-use Rattle.server_model.specs.Servers.{Sent, Rest, Server}
-use Rattle.server_model.specs.Events.{does}
-use Rattle.event_law.specs.Laws.{Gives}
+use Rattle.local_law.specs.Below.fr_base.declared.instruction.Instr.{Instr}
+use Rattle.local_law.specs.Below.fr_base.declared.settings.Options.{Options}
+use Rattle.local_law.specs.Below.journal.View.{EntryView}
+use Rattle.local_law.specs.Below.server_model.declared.event.What.{What}
+use Rattle.local_law.specs.Below.server_model.Servers.{Sent, Rest, Server}
+use Rattle.local_law.specs.Below.server_model.Events.{does}
+use Rattle.local_law.specs.Below.event_law.Laws.{Gives}
 
 -- a server after an event: its number, and its outbox, into which at most so many messages came last, none of them to the server itself
 pub record AddsFew (most : ℕ) (r : Rest) (number : ℕ) (outbox : List Sent) : Type 0 where

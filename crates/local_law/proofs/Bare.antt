@@ -2,30 +2,30 @@
 use Rattle.std.proofs.Common.{◌≡◌, inl, inr, ℕ, ◌+◌, ◌≤◌, not, is_some, Bool, true, false, List, [], ◌∷◌, length, reverse, Option, Some, None, refl, sym, ap, subst, ◌∙◌, arith}
 use Rattle.std.specs.Prelude.{slice_get}
 use Rattle.std.proofs.lemmas.List.{length-reverse}
-use Rattle.fr_base.specs.declared.instruction.Instr.{Instr}
-use Rattle.fr_base.specs.declared.instruction.Instr.TheVariants as instr
-use Rattle.fr_base.specs.declared.instruction.Operand.{Operand}
-use Rattle.fr_base.specs.declared.instruction.Operand.TheVariants as operand
-use Rattle.fr_typing.specs.Kinds.{Kind}
-use Rattle.fr_code.specs.CodeTypes.{Entry, Table, Takes, takes_const, takes_unit, takes_pop, InstrTypes, i_par_end}
-use Rattle.fr_code.specs.CodeTable.{Successors, Leads, to_next, ends, IsTable}
-use Rattle.heap_partition.specs.declared.value.Owned.{Owned}
-use Rattle.thread_state.specs.View.{ThreadState, is_over}
-use Rattle.thread_state.specs.declared.phase.Phase.{Phase}
-use Rattle.thread_state.specs.declared.phase.Phase.TheVariants as phase
-use Rattle.thread_state.specs.declared.value.Value.{Value}
-use Rattle.server_model.specs.Servers.{Server, Cluster, server_at}
-use Rattle.server_model.specs.Work.{thread_in, front_of}
-use Rattle.server_model.specs.Events.{is_ready}
-use Rattle.heap_law.specs.Names.{one, other, if_so}
-use Rattle.heap_law.specs.Follow.{Standing}
-use Rattle.heap_law.specs.Sight.{sight}
-use Rattle.heap_law.specs.Requests.{gift_fits, gift_there}
-use Rattle.heap_law.specs.Rooted.{is_end, dressed}
-use Rattle.heap_law.specs.Coherent.{IsSound, over_are_bare}
+use Rattle.event_law.specs.Below.fr_base.declared.instruction.Instr.{Instr}
+use Rattle.event_law.specs.Below.fr_base.declared.instruction.Instr.TheVariants as instr
+use Rattle.event_law.specs.Below.fr_base.declared.instruction.Operand.{Operand}
+use Rattle.event_law.specs.Below.fr_base.declared.instruction.Operand.TheVariants as operand
+use Rattle.event_law.specs.Below.fr_typing.Kinds.{Kind}
+use Rattle.event_law.specs.Below.fr_code.CodeTypes.{Entry, Table, Takes, takes_const, takes_unit, takes_pop, InstrTypes, i_par_end}
+use Rattle.event_law.specs.Below.fr_code.CodeTable.{Successors, Leads, to_next, ends, IsTable}
+use Rattle.event_law.specs.Below.heap_partition.declared.value.Owned.{Owned}
+use Rattle.event_law.specs.Below.thread_state.View.{ThreadState, is_over}
+use Rattle.event_law.specs.Below.thread_state.declared.phase.Phase.{Phase}
+use Rattle.event_law.specs.Below.thread_state.declared.phase.Phase.TheVariants as phase
+use Rattle.event_law.specs.Below.thread_state.declared.value.Value.{Value}
+use Rattle.event_law.specs.Below.server_model.Servers.{Server, Cluster, server_at}
+use Rattle.event_law.specs.Below.server_model.Work.{thread_in, front_of}
+use Rattle.event_law.specs.Below.server_model.Events.{is_ready}
+use Rattle.event_law.specs.Below.heap_law.Names.{one, other, if_so}
+use Rattle.event_law.specs.Below.heap_law.Follow.{Standing}
+use Rattle.event_law.specs.Below.heap_law.Sight.{sight}
+use Rattle.event_law.specs.Below.heap_law.Requests.{gift_fits, gift_there}
+use Rattle.event_law.specs.Below.heap_law.Rooted.{is_end, dressed}
+use Rattle.event_law.specs.Below.heap_law.Coherent.{IsSound, over_are_bare}
 use Rattle.type_law.specs.ClusterTypes.{slots_wrong, temps_wrong, entry_wrong, forms_of, Types, IsCoherent}
 use Rattle.type_law.specs.Names.{NameTypes, names_of}
-use Rattle.migration.specs.Packing.{packed}
+use Rattle.event_law.specs.Below.migration.Packing.{packed}
 use Rattle.local_law.specs.Laws.{EachCoherentEventKeeps}
 use Rattle.local_law.proofs.Goes.{AsksHome, HasCell, Without, Left, Goes, on, waits_pair, is_over as ends_there, asks_cell, asks_home, gets_cell, gets_gift, goes_pair}
 use Rattle.local_law.proofs.Handed.{ThreadsKeep, threads_keep, standing, known}

@@ -2,41 +2,41 @@
 use Rattle.std.proofs.Common.{◌≡◌, ◌⊎◌, inl, inr, ℕ, zero, suc, ◌+◌, ◌-◌, ◌==◌, Bool, true, false, nat_lt, if◌then◌else◌, List, [], length, Option, Some, None, refl, sym, ap, subst, ◌∙◌}
 use Rattle.std.specs.Prelude.{slice_get, slice_set, option_map, ◌||◌}
 use Rattle.std.specs.Bool.{⊤}
-use Rattle.fr_base.specs.Rooms.{WithRoom}
-use Rattle.fr_base.specs.declared.name.MutexNo.{MutexNo}
-use Rattle.fr_base.specs.declared.place.Lval.{Lval}
-use Rattle.fr_base.specs.declared.instruction.Instr.{Instr}
-use Rattle.fr_base.specs.declared.instruction.Instr.TheVariants as instr
-use Rattle.fr_base.specs.declared.instruction.Operand.{Operand}
-use Rattle.fr_base.specs.declared.instruction.Operand.TheVariants as operand
-use Rattle.fr_base.specs.declared.step.Fresh.TheVariants as fresh
-use Rattle.migration.specs.Packing.{unpin_all}
-use Rattle.server_model.specs.Events.{Stepped, done_step, committed, step}
-use Rattle.heap_partition.specs.declared.value.Cell.{Cell}
-use Rattle.heap_partition.specs.declared.value.Owned.{Owned}
-use Rattle.heap_partition.specs.declared.value.Owned.TheVariants as owned
-use Rattle.heap_law.proofs.Names.{same_mutexes}
-use Rattle.owner_box.specs.Partition.{stored}
-use Rattle.read_cache.specs.Cache.{Copy, can_pin, can_fill}
-use Rattle.mutex_home.specs.Mutexes.{can_make}
-use Rattle.join_home.specs.Tasks.{can_begin, can_begin_pair}
-use Rattle.thread_state.specs.View.{ThreadState}
-use Rattle.thread_state.specs.declared.phase.Phase.{Phase}
-use Rattle.thread_state.specs.declared.phase.Phase.TheVariants as phase
-use Rattle.thread_state.specs.declared.value.Value.{Value}
-use Rattle.thread_state.specs.declared.value.Value.TheVariants as value
-use Rattle.journal.specs.declared.act.Act.TheVariants as act
-use Rattle.server_model.specs.Servers.{Rest}
-use Rattle.server_model.specs.Work.{Hand, leads_here, working, with_partition, with_phase, used_once, Popped, pop, pop_owned, owned_of, last_of, front_of, then_some, with_cache}
-use Rattle.fr_base.specs.Lists.{is_in}
-use Rattle.server_model.specs.NewWords.{NewWord, can_grow, issue_placed}
-use Rattle.server_model.specs.Places.{Spot, in_slot, on_top, in_cell, in_copy, nowhere, note_write, value_at, put_at, with_word, set_pointer}
-use Rattle.server_model.specs.Start.{next_thread, capture}
-use Rattle.server_model.specs.Commit.{go_on, next_object, push_box, begun, pair_begun, spawn_with, end_with, done_where}
-use Rattle.server_model.specs.Prepare.{Access, ReadTo, ReadPointer, WriteTo, LendTo, EndRef, access_of, passing, write_stars}
-use Rattle.server_model.specs.Objects.{waits_for_cell, filled, deliver_fetched, chased, waits_under, arrived_at, arrived_slot, passed_spot, arrived_write, arrived_lend, arrived_end, arrived, instr_access, deliver_moved}
-use Rattle.server_model.specs.Sharing.{given, waits_for_lock, deliver_granted, waits_for_dup, deliver_dupped}
-use Rattle.server_model.specs.Joining.{waits_for_join, deliver_joined, got_par, pair_over}
+use Rattle.event_law.specs.Below.fr_base.Rooms.{WithRoom}
+use Rattle.event_law.specs.Below.fr_base.declared.name.MutexNo.{MutexNo}
+use Rattle.event_law.specs.Below.fr_base.declared.place.Lval.{Lval}
+use Rattle.event_law.specs.Below.fr_base.declared.instruction.Instr.{Instr}
+use Rattle.event_law.specs.Below.fr_base.declared.instruction.Instr.TheVariants as instr
+use Rattle.event_law.specs.Below.fr_base.declared.instruction.Operand.{Operand}
+use Rattle.event_law.specs.Below.fr_base.declared.instruction.Operand.TheVariants as operand
+use Rattle.event_law.specs.Below.fr_base.declared.step.Fresh.TheVariants as fresh
+use Rattle.event_law.specs.Below.migration.Packing.{unpin_all}
+use Rattle.event_law.specs.Below.server_model.Events.{Stepped, done_step, committed, step}
+use Rattle.event_law.specs.Below.heap_partition.declared.value.Cell.{Cell}
+use Rattle.event_law.specs.Below.heap_partition.declared.value.Owned.{Owned}
+use Rattle.event_law.specs.Below.heap_partition.declared.value.Owned.TheVariants as owned
+use Rattle.event_law.proofs.Below.heap_law.Names.{same_mutexes}
+use Rattle.event_law.specs.Below.owner_box.Partition.{stored}
+use Rattle.event_law.specs.Below.read_cache.Cache.{Copy, can_pin, can_fill}
+use Rattle.event_law.specs.Below.mutex_home.Mutexes.{can_make}
+use Rattle.event_law.specs.Below.join_home.Tasks.{can_begin, can_begin_pair}
+use Rattle.event_law.specs.Below.thread_state.View.{ThreadState}
+use Rattle.event_law.specs.Below.thread_state.declared.phase.Phase.{Phase}
+use Rattle.event_law.specs.Below.thread_state.declared.phase.Phase.TheVariants as phase
+use Rattle.event_law.specs.Below.thread_state.declared.value.Value.{Value}
+use Rattle.event_law.specs.Below.thread_state.declared.value.Value.TheVariants as value
+use Rattle.event_law.specs.Below.journal.declared.act.Act.TheVariants as act
+use Rattle.event_law.specs.Below.server_model.Servers.{Rest}
+use Rattle.event_law.specs.Below.server_model.Work.{Hand, leads_here, working, with_partition, with_phase, used_once, Popped, pop, pop_owned, owned_of, last_of, front_of, then_some, with_cache}
+use Rattle.event_law.specs.Below.fr_base.Lists.{is_in}
+use Rattle.event_law.specs.Below.server_model.NewWords.{NewWord, can_grow, issue_placed}
+use Rattle.event_law.specs.Below.server_model.Places.{Spot, in_slot, on_top, in_cell, in_copy, nowhere, note_write, value_at, put_at, with_word, set_pointer}
+use Rattle.event_law.specs.Below.server_model.Start.{next_thread, capture}
+use Rattle.event_law.specs.Below.server_model.Commit.{go_on, next_object, push_box, begun, pair_begun, spawn_with, end_with, done_where}
+use Rattle.event_law.specs.Below.server_model.Prepare.{Access, ReadTo, ReadPointer, WriteTo, LendTo, EndRef, access_of, passing, write_stars}
+use Rattle.event_law.specs.Below.server_model.Objects.{waits_for_cell, filled, deliver_fetched, chased, waits_under, arrived_at, arrived_slot, passed_spot, arrived_write, arrived_lend, arrived_end, arrived, instr_access, deliver_moved}
+use Rattle.event_law.specs.Below.server_model.Sharing.{given, waits_for_lock, deliver_granted, waits_for_dup, deliver_dupped}
+use Rattle.event_law.specs.Below.server_model.Joining.{waits_for_join, deliver_joined, got_par, pair_over}
 use Rattle.event_law.specs.Laws.{Gives}
 use Rattle.event_law.proofs.Results.{then_gives, map_gives, over_gives, bind_gives, test_gives, both_give, weaker}
 use Rattle.local_law.proofs.Small.{Of, Places, Small, Passes, Follows, Writes}

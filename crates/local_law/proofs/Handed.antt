@@ -1,21 +1,21 @@
 -- A weight of threads that each thread of a server keeps at nothing is nothing over the cluster, once the messages are handed over.
 use Rattle.std.proofs.Common.{◌≡◌, ℕ, ◌+◌, true, false, List, [], ◌∷◌, Some, refl, sym, subst, append-nil, arith}
 use Rattle.std.specs.List.{AllByRecursion}
-use Rattle.fr_base.specs.declared.instruction.Instr.{Instr}
-use Rattle.thread_state.specs.View.{ThreadState}
-use Rattle.server_msgs.specs.declared.message.Message.{Message}
-use Rattle.server_msgs.specs.declared.message.Message.TheVariants as message
-use Rattle.journal.specs.View.{EntryView}
-use Rattle.server_model.specs.declared.event.Event.{Event}
-use Rattle.server_model.specs.Servers.{Sent, Server, Cluster, server_at}
-use Rattle.server_model.specs.Work.{thread_in}
-use Rattle.server_model.specs.Events.{enabled}
-use Rattle.server_model.specs.Clusters.{done_at, act_at, apply}
-use Rattle.heap_law.specs.Names.{tot}
-use Rattle.heap_law.specs.Things.{Thing, things_at, waiting_things, leaving_things, standing_things, message_things, server_things, things_of}
-use Rattle.heap_law.specs.Follow.{Standing, threads_in}
-use Rattle.heap_law.specs.Coherent.{IsSound}
-use Rattle.heap_law.proofs.Sums.{tot-append}
+use Rattle.event_law.specs.Below.fr_base.declared.instruction.Instr.{Instr}
+use Rattle.event_law.specs.Below.thread_state.View.{ThreadState}
+use Rattle.event_law.specs.Below.server_msgs.declared.message.Message.{Message}
+use Rattle.event_law.specs.Below.server_msgs.declared.message.Message.TheVariants as message
+use Rattle.event_law.specs.Below.journal.View.{EntryView}
+use Rattle.event_law.specs.Below.server_model.declared.event.Event.{Event}
+use Rattle.event_law.specs.Below.server_model.Servers.{Sent, Server, Cluster, server_at}
+use Rattle.event_law.specs.Below.server_model.Work.{thread_in}
+use Rattle.event_law.specs.Below.server_model.Events.{enabled}
+use Rattle.event_law.specs.Below.server_model.Clusters.{done_at, act_at, apply}
+use Rattle.event_law.specs.Below.heap_law.Names.{tot}
+use Rattle.event_law.specs.Below.heap_law.Things.{Thing, things_at, waiting_things, leaving_things, standing_things, message_things, server_things, things_of}
+use Rattle.event_law.specs.Below.heap_law.Follow.{Standing, threads_in}
+use Rattle.event_law.specs.Below.heap_law.Coherent.{IsSound}
+use Rattle.event_law.proofs.Below.heap_law.Sums.{tot-append}
 use Rattle.event_law.specs.Laws.{Gives, FewEvents}
 use Rattle.event_law.proofs.Results.{then_gives, map_gives, over_gives, test_gives, both_give, weaker}
 use Rattle.event_law.proofs.KnownSound.{on_standing, sum_standing}

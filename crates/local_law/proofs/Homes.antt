@@ -3,25 +3,25 @@ use Rattle.std.proofs.Common.{◌≡◌, ℕ, ◌+◌, ◌-◌, ◌==◌, ◌&&�
 use Rattle.std.specs.List.{AllByRecursion}
 use Rattle.std.proofs.lemmas.Bool.{eq-eqb}
 use Rattle.std.proofs.lemmas.Bool.Decides.{nat_tests}
-use Rattle.fr_base.specs.declared.name.MutexNo.{MutexNo}
-use Rattle.heap_partition.specs.declared.value.Owned.{Owned}
-use Rattle.mutex_home.specs.Mutexes.{Mutex, Mutexes, mutex_in, put_mutex, end_mutex, asked_of, asked_in, ask, back_to, back_out, back_in, give_back, more_in, more, last_less, less_of, less_in, less}
-use Rattle.mutex_home.specs.declared.answers.Back.{Back}
-use Rattle.server_msgs.specs.declared.message.Message.{Message}
-use Rattle.journal.specs.View.{EntryView}
-use Rattle.server_model.specs.declared.event.Event.{Event}
-use Rattle.server_model.specs.Servers.{Rest, Server, Cluster, server_at}
-use Rattle.server_model.specs.Events.{enabled}
-use Rattle.server_model.specs.Clusters.{done_at, act_at}
-use Rattle.heap_law.specs.Names.{tot, other}
-use Rattle.heap_law.specs.Things.{things_at, content_things, queue_things, mutex_things, standing_things, waiting_things, leaving_things, message_things, task_things, server_things, things_of}
-use Rattle.heap_law.specs.Sight.{Sight, sight}
-use Rattle.heap_law.specs.Sharing.{elsewhere}
-use Rattle.heap_law.specs.Naming.{servers_wrong, pinned_parcel}
-use Rattle.heap_law.specs.Walking.{sum_threads}
-use Rattle.heap_law.specs.Coherent.{IsSound, at_their_home}
-use Rattle.heap_law.proofs.Names.{left_none}
-use Rattle.heap_law.proofs.Sums.{tot-append, server_parts}
+use Rattle.event_law.specs.Below.fr_base.declared.name.MutexNo.{MutexNo}
+use Rattle.event_law.specs.Below.heap_partition.declared.value.Owned.{Owned}
+use Rattle.event_law.specs.Below.mutex_home.Mutexes.{Mutex, Mutexes, mutex_in, put_mutex, end_mutex, asked_of, asked_in, ask, back_to, back_out, back_in, give_back, more_in, more, last_less, less_of, less_in, less}
+use Rattle.event_law.specs.Below.mutex_home.declared.answers.Back.{Back}
+use Rattle.event_law.specs.Below.server_msgs.declared.message.Message.{Message}
+use Rattle.event_law.specs.Below.journal.View.{EntryView}
+use Rattle.event_law.specs.Below.server_model.declared.event.Event.{Event}
+use Rattle.event_law.specs.Below.server_model.Servers.{Rest, Server, Cluster, server_at}
+use Rattle.event_law.specs.Below.server_model.Events.{enabled}
+use Rattle.event_law.specs.Below.server_model.Clusters.{done_at, act_at}
+use Rattle.event_law.specs.Below.heap_law.Names.{tot, other}
+use Rattle.event_law.specs.Below.heap_law.Things.{things_at, content_things, queue_things, mutex_things, standing_things, waiting_things, leaving_things, message_things, task_things, server_things, things_of}
+use Rattle.event_law.specs.Below.heap_law.Sight.{Sight, sight}
+use Rattle.event_law.specs.Below.heap_law.Sharing.{elsewhere}
+use Rattle.event_law.specs.Below.heap_law.Naming.{servers_wrong, pinned_parcel}
+use Rattle.event_law.specs.Below.heap_law.Walking.{sum_threads}
+use Rattle.event_law.specs.Below.heap_law.Coherent.{IsSound, at_their_home}
+use Rattle.event_law.proofs.Below.heap_law.Names.{left_none}
+use Rattle.event_law.proofs.Below.heap_law.Sums.{tot-append, server_parts}
 use Rattle.event_law.specs.Laws.{Gives, FewEvents}
 use Rattle.event_law.proofs.Results.{then_gives, over_gives, test_gives}
 use Rattle.event_law.proofs.Known.{all_append}
@@ -69,7 +69,7 @@ module _ (n : ℕ) where
   backs : (ms : Mutexes) (m : MutexNo) (v : Owned) → AtHome n ms → Gives Left (give_back ms m v)
   backs ms m v a = by (mutex_in ms.there m) (found Own ms.there m a.there)
     where
-      alone : (x : Mutex) (b : Bool) → Own x → Left (if b then (end_mutex ms x.number, Rattle.mutex_home.specs.declared.answers.Back.TheVariants.Ended v) else (put_mutex ms (record x { content = Some v }), Rattle.mutex_home.specs.declared.answers.Back.TheVariants.Kept))
+      alone : (x : Mutex) (b : Bool) → Own x → Left (if b then (end_mutex ms x.number, Rattle.event_law.specs.Below.mutex_home.declared.answers.Back.TheVariants.Ended v) else (put_mutex ms (record x { content = Some v }), Rattle.event_law.specs.Below.mutex_home.declared.answers.Back.TheVariants.Kept))
       alone x true p = ends ms x.number a
       alone x false p = puts ms (record x { content = Some v }) p a
 
@@ -124,8 +124,8 @@ mutex_alone n i m =
     omega (arith, content_none elsewhere n (unseen n) m, none_at elsewhere n (unseen n) (queue_things m.number) (λ j x. refl) 0 m.queue, tot-append elsewhere (content_things m.number m.content) (things_at (queue_things m.number) 0 m.queue))
 
 message_none : (n : ℕ) (m : Message) → tot elsewhere (message_things n m) ≡ 0
-message_none n (Rattle.server_msgs.specs.declared.message.Message.TheVariants.Start t) = omega (arith, thread_alone elsewhere n (unseen n) n true t)
-message_none n (Rattle.server_msgs.specs.declared.message.Message.TheVariants.Migrate t) = omega (arith, thread_alone elsewhere n (unseen n) n true t)
+message_none n (Rattle.event_law.specs.Below.server_msgs.declared.message.Message.TheVariants.Start t) = omega (arith, thread_alone elsewhere n (unseen n) n true t)
+message_none n (Rattle.event_law.specs.Below.server_msgs.declared.message.Message.TheVariants.Migrate t) = omega (arith, thread_alone elsewhere n (unseen n) n true t)
 message_none n _ = refl
 
 -- of a server it sees the mutexes

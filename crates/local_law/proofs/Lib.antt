@@ -1,3 +1,4 @@
+pub mod Below
 pub mod Small
 pub mod Plainly
 pub mod Goes

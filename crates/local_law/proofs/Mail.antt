@@ -2,51 +2,51 @@
 use Rattle.std.proofs.Common.{◌≡◌, ◌⊎◌, inl, inr, ℕ, zero, suc, ◌+◌, ◌-◌, ◌==◌, Bool, true, false, if◌then◌else◌, List, [], ◌∷◌, ◌++◌, Option, Some, None, refl, sym, ap, subst, ◌∙◌, append_assoc}
 use Rattle.std.specs.Prelude.{slice_get, option_map}
 use Rattle.std.specs.List.{AllByRecursion}
-use Rattle.fr_base.specs.Lists.{is_in}
-use Rattle.fr_base.specs.declared.name.MutexNo.{MutexNo}
-use Rattle.fr_base.specs.declared.name.ObjNo.{ObjNo}
-use Rattle.fr_base.specs.declared.place.Lval.{Lval}
-use Rattle.fr_base.specs.declared.instruction.Instr.{Instr}
-use Rattle.fr_base.specs.declared.instruction.Instr.TheVariants as instr
-use Rattle.fr_base.specs.declared.instruction.Operand.{Operand}
-use Rattle.fr_base.specs.declared.release.Released.{Released}
-use Rattle.fr_base.specs.declared.release.Released.TheVariants as released
-use Rattle.global_addr.specs.Words.{server_of}
-use Rattle.heap_partition.specs.declared.value.BoxPtr.{BoxPtr}
-use Rattle.heap_partition.specs.declared.value.Cell.{Cell}
-use Rattle.heap_partition.specs.declared.value.Owned.{Owned}
-use Rattle.heap_partition.specs.declared.value.Owned.TheVariants as owned
-use Rattle.owner_box.specs.Partition.{freed}
-use Rattle.read_cache.specs.Cache.{can_pin, can_fill}
-use Rattle.mutex_home.specs.Mutexes.{Mutexes, can_make, ask, give_back, more, less}
-use Rattle.mutex_home.specs.declared.answers.Asked.{Asked}
-use Rattle.mutex_home.specs.declared.answers.Asked.TheVariants as asked
-use Rattle.mutex_home.specs.declared.answers.Back.{Back}
-use Rattle.mutex_home.specs.declared.answers.Back.TheVariants as back
-use Rattle.join_home.specs.Tasks.{Task, can_begin, can_begin_pair, ended, let_go_of}
-use Rattle.join_home.specs.Tasks as tasks
-use Rattle.join_home.specs.declared.answers.EndedAs.{EndedAs}
-use Rattle.join_home.specs.declared.answers.EndedAs.TheVariants as over
-use Rattle.thread_state.specs.View.{ThreadState, new_thread}
-use Rattle.thread_state.specs.declared.phase.Phase.TheVariants as phase
-use Rattle.thread_state.specs.declared.value.Value.{Value}
-use Rattle.thread_state.specs.declared.value.Value.TheVariants as value
-use Rattle.server_msgs.specs.declared.message.Message.{Message}
-use Rattle.server_msgs.specs.declared.message.Message.TheVariants as message
-use Rattle.journal.specs.declared.act.Act.TheVariants as act
-use Rattle.server_model.specs.Servers.{Sent, Rest}
-use Rattle.server_model.specs.Work.{Work, Hand, Site, sent_from, send, working, with_phase, with_mutexes, with_tasks, with_partition, then_some, put_back, thread_in, at_thread, beside_threads, look_object, used_once, note}
-use Rattle.server_model.specs.NewWords.{NewWord, can_grow, issue_placed}
-use Rattle.server_model.specs.Places.{Spot, in_slot, value_at, set_pointer}
-use Rattle.server_model.specs.Start.{next_thread, server_for, start_thread, capture}
-use Rattle.server_model.specs.Drop.{home_of, give_up}
-use Rattle.server_model.specs.Commit.{go_on, next_object, push_box, begun, pair_begun, spawn_with, end_with, label_dropped}
-use Rattle.server_model.specs.Prepare.{Access, ReadTo, ReadPointer, WriteTo, LendTo, EndRef, passing, write_stars}
-use Rattle.server_model.specs.Objects.{deliver_fetch, waits_for_cell, filled, deliver_fetched, deliver_move, chased, waits_under, arrived_at, arrived_slot, passed_spot, arrived_write, arrived_lend, arrived_end, arrived, instr_access, deliver_moved, deliver_drop}
-use Rattle.server_model.specs.Sharing.{given, answer_lock, deliver_lock, waits_for_lock, deliver_granted, answer_back, deliver_unlock, deliver_dup, waits_for_dup, deliver_dupped, give_up_left}
-use Rattle.server_model.specs.Joining.{answer_join, deliver_join, waits_for_join, deliver_joined, got_par, pair_over, end_answer, deliver_finished}
-use Rattle.server_model.specs.Events.{release, deliver_message, step}
-use Rattle.heap_law.proofs.Names.{same_number}
+use Rattle.event_law.specs.Below.fr_base.Lists.{is_in}
+use Rattle.event_law.specs.Below.fr_base.declared.name.MutexNo.{MutexNo}
+use Rattle.event_law.specs.Below.fr_base.declared.name.ObjNo.{ObjNo}
+use Rattle.event_law.specs.Below.fr_base.declared.place.Lval.{Lval}
+use Rattle.event_law.specs.Below.fr_base.declared.instruction.Instr.{Instr}
+use Rattle.event_law.specs.Below.fr_base.declared.instruction.Instr.TheVariants as instr
+use Rattle.event_law.specs.Below.fr_base.declared.instruction.Operand.{Operand}
+use Rattle.event_law.specs.Below.fr_base.declared.release.Released.{Released}
+use Rattle.event_law.specs.Below.fr_base.declared.release.Released.TheVariants as released
+use Rattle.event_law.specs.Below.global_addr.Words.{server_of}
+use Rattle.event_law.specs.Below.heap_partition.declared.value.BoxPtr.{BoxPtr}
+use Rattle.event_law.specs.Below.heap_partition.declared.value.Cell.{Cell}
+use Rattle.event_law.specs.Below.heap_partition.declared.value.Owned.{Owned}
+use Rattle.event_law.specs.Below.heap_partition.declared.value.Owned.TheVariants as owned
+use Rattle.event_law.specs.Below.owner_box.Partition.{freed}
+use Rattle.event_law.specs.Below.read_cache.Cache.{can_pin, can_fill}
+use Rattle.event_law.specs.Below.mutex_home.Mutexes.{Mutexes, can_make, ask, give_back, more, less}
+use Rattle.event_law.specs.Below.mutex_home.declared.answers.Asked.{Asked}
+use Rattle.event_law.specs.Below.mutex_home.declared.answers.Asked.TheVariants as asked
+use Rattle.event_law.specs.Below.mutex_home.declared.answers.Back.{Back}
+use Rattle.event_law.specs.Below.mutex_home.declared.answers.Back.TheVariants as back
+use Rattle.event_law.specs.Below.join_home.Tasks.{Task, can_begin, can_begin_pair, ended, let_go_of}
+use Rattle.event_law.specs.Below.join_home.Tasks as tasks
+use Rattle.event_law.specs.Below.join_home.declared.answers.EndedAs.{EndedAs}
+use Rattle.event_law.specs.Below.join_home.declared.answers.EndedAs.TheVariants as over
+use Rattle.event_law.specs.Below.thread_state.View.{ThreadState, new_thread}
+use Rattle.event_law.specs.Below.thread_state.declared.phase.Phase.TheVariants as phase
+use Rattle.event_law.specs.Below.thread_state.declared.value.Value.{Value}
+use Rattle.event_law.specs.Below.thread_state.declared.value.Value.TheVariants as value
+use Rattle.event_law.specs.Below.server_msgs.declared.message.Message.{Message}
+use Rattle.event_law.specs.Below.server_msgs.declared.message.Message.TheVariants as message
+use Rattle.event_law.specs.Below.journal.declared.act.Act.TheVariants as act
+use Rattle.event_law.specs.Below.server_model.Servers.{Sent, Rest}
+use Rattle.event_law.specs.Below.server_model.Work.{Work, Hand, Site, sent_from, send, working, with_phase, with_mutexes, with_tasks, with_partition, then_some, put_back, thread_in, at_thread, beside_threads, look_object, used_once, note}
+use Rattle.event_law.specs.Below.server_model.NewWords.{NewWord, can_grow, issue_placed}
+use Rattle.event_law.specs.Below.server_model.Places.{Spot, in_slot, value_at, set_pointer}
+use Rattle.event_law.specs.Below.server_model.Start.{next_thread, server_for, start_thread, capture}
+use Rattle.event_law.specs.Below.server_model.Drop.{home_of, give_up}
+use Rattle.event_law.specs.Below.server_model.Commit.{go_on, next_object, push_box, begun, pair_begun, spawn_with, end_with, label_dropped}
+use Rattle.event_law.specs.Below.server_model.Prepare.{Access, ReadTo, ReadPointer, WriteTo, LendTo, EndRef, passing, write_stars}
+use Rattle.event_law.specs.Below.server_model.Objects.{deliver_fetch, waits_for_cell, filled, deliver_fetched, deliver_move, chased, waits_under, arrived_at, arrived_slot, passed_spot, arrived_write, arrived_lend, arrived_end, arrived, instr_access, deliver_moved, deliver_drop}
+use Rattle.event_law.specs.Below.server_model.Sharing.{given, answer_lock, deliver_lock, waits_for_lock, deliver_granted, answer_back, deliver_unlock, deliver_dup, waits_for_dup, deliver_dupped, give_up_left}
+use Rattle.event_law.specs.Below.server_model.Joining.{answer_join, deliver_join, waits_for_join, deliver_joined, got_par, pair_over, end_answer, deliver_finished}
+use Rattle.event_law.specs.Below.server_model.Events.{release, deliver_message, step}
+use Rattle.event_law.proofs.Below.heap_law.Names.{same_number}
 use Rattle.event_law.specs.Laws.{Gives}
 use Rattle.event_law.proofs.Results.{then_gives, map_gives, over_gives, bind_gives, test_gives, stand_gives}
 use Rattle.event_law.proofs.Known.{all_append}

@@ -2,25 +2,25 @@
 use Rattle.std.proofs.Common.{◌≡◌, ℕ, true, false, List, [], Option, Some, None, refl, sym, subst, append-nil, arith}
 use Rattle.std.specs.Prelude.{slice_get, option_map}
 use Rattle.std.specs.List.{AllByRecursion}
-use Rattle.fr_base.specs.declared.instruction.Instr.{Instr}
-use Rattle.fr_base.specs.declared.settings.Options.{Options}
-use Rattle.read_cache.specs.Cache.{Copy, can_evict}
-use Rattle.thread_state.specs.View.{ThreadState}
-use Rattle.server_msgs.specs.declared.message.Message.{Message}
-use Rattle.server_msgs.specs.declared.message.Message.TheVariants as message
-use Rattle.migration.specs.Packing.{packed, unpin_all, used_words}
-use Rattle.journal.specs.View.{EntryView}
-use Rattle.server_model.specs.declared.event.Event.{Event}
-use Rattle.server_model.specs.declared.event.What.{What}
-use Rattle.server_model.specs.declared.event.What.TheVariants.{Step, Deliver, Evict, Migrate}
-use Rattle.server_model.specs.Servers.{Sent, Rest, Server, Cluster, server_at}
-use Rattle.server_model.specs.Work.{Work, Hand, Site, then_some, thread_in, beside_threads, without_thread}
-use Rattle.server_model.specs.Moving.{migrate, depart}
-use Rattle.server_model.specs.Events.{Stepped, has_phase, can_step, enabled, begin_work, begin_at, left_by, received, deliver_message, evict_copy, step, step_in, stepped, does}
-use Rattle.server_model.specs.Clusters.{done_at, act_at, apply}
-use Rattle.heap_law.specs.Names.{tot}
-use Rattle.heap_law.specs.Things.{Thing, sent, things_at, waiting_things, leaving_things, standing_things, message_things, server_things, things_of}
-use Rattle.heap_law.specs.Coherent.{IsSound}
+use Rattle.event_law.specs.Below.fr_base.declared.instruction.Instr.{Instr}
+use Rattle.event_law.specs.Below.fr_base.declared.settings.Options.{Options}
+use Rattle.event_law.specs.Below.read_cache.Cache.{Copy, can_evict}
+use Rattle.event_law.specs.Below.thread_state.View.{ThreadState}
+use Rattle.event_law.specs.Below.server_msgs.declared.message.Message.{Message}
+use Rattle.event_law.specs.Below.server_msgs.declared.message.Message.TheVariants as message
+use Rattle.event_law.specs.Below.migration.Packing.{packed, unpin_all, used_words}
+use Rattle.event_law.specs.Below.journal.View.{EntryView}
+use Rattle.event_law.specs.Below.server_model.declared.event.Event.{Event}
+use Rattle.event_law.specs.Below.server_model.declared.event.What.{What}
+use Rattle.event_law.specs.Below.server_model.declared.event.What.TheVariants.{Step, Deliver, Evict, Migrate}
+use Rattle.event_law.specs.Below.server_model.Servers.{Sent, Rest, Server, Cluster, server_at}
+use Rattle.event_law.specs.Below.server_model.Work.{Work, Hand, Site, then_some, thread_in, beside_threads, without_thread}
+use Rattle.event_law.specs.Below.server_model.Moving.{migrate, depart}
+use Rattle.event_law.specs.Below.server_model.Events.{Stepped, has_phase, can_step, enabled, begin_work, begin_at, left_by, received, deliver_message, evict_copy, step, step_in, stepped, does}
+use Rattle.event_law.specs.Below.server_model.Clusters.{done_at, act_at, apply}
+use Rattle.event_law.specs.Below.heap_law.Names.{tot}
+use Rattle.event_law.specs.Below.heap_law.Things.{Thing, sent, things_at, waiting_things, leaving_things, standing_things, message_things, server_things, things_of}
+use Rattle.event_law.specs.Below.heap_law.Coherent.{IsSound}
 use Rattle.event_law.specs.Laws.{Gives, FewEvents, EachEventHandedOver}
 use Rattle.event_law.proofs.Results.{then_gives, map_gives, over_gives, test_gives, both_give}
 use Rattle.event_law.proofs.Unseen.{Unseen, Unnoted, none_at, thread_alone, seen_of}

@@ -1,9 +1,9 @@
 -- Mutexes of a home, of which each has a property: one that is found has it, and they keep it where one is put, or goes.
 use Rattle.std.proofs.Common.{◌≡◌, Bool, true, false, if◌then◌else◌, List, [], ◌∷◌, Option, Some, None, subst}
 use Rattle.std.specs.List.{AllByRecursion}
-use Rattle.fr_base.specs.declared.name.MutexNo.{MutexNo}
-use Rattle.fr_base.specs.Names.{same_mutex}
-use Rattle.mutex_home.specs.Mutexes.{Mutex, mutex_in, with_mutex, without_mutex}
+use Rattle.event_law.specs.Below.fr_base.declared.name.MutexNo.{MutexNo}
+use Rattle.event_law.specs.Below.fr_base.Names.{same_mutex}
+use Rattle.event_law.specs.Below.mutex_home.Mutexes.{Mutex, mutex_in, with_mutex, without_mutex}
 use Rattle.event_law.specs.Laws.{Gives}
 
 module _ (P : Mutex → Type 0) where

@@ -2,23 +2,23 @@
 use Rattle.std.proofs.Common.{◌≡◌, inl, inr, ℕ, ◌+◌, not, is_some, Bool, true, false, List, length, Option, Some, None, refl, sym, ap, subst, ◌∙◌, arith}
 use Rattle.std.specs.Prelude.{slice_get}
 use Rattle.std.specs.Bool.{⊤}
-use Rattle.fr_base.specs.declared.instruction.Instr.{Instr}
-use Rattle.fr_base.specs.declared.instruction.Instr.TheVariants as instr
-use Rattle.fr_code.specs.CodeTypes.{Entry, Table, InstrTypes, i_spawn, i_par, i_par_end}
-use Rattle.fr_code.specs.CodeTable.{Successors, Leads, to_next, ends, AllEnter, IsTable}
-use Rattle.fr_code.specs.Joins.{JoinsTo, alone, first, second}
-use Rattle.thread_state.specs.View.{ThreadState, is_over}
-use Rattle.thread_state.specs.declared.phase.Phase.{Phase}
-use Rattle.thread_state.specs.declared.phase.Phase.TheVariants as phase
-use Rattle.server_model.specs.Servers.{Server, Cluster, server_at}
-use Rattle.server_model.specs.Work.{thread_in}
-use Rattle.server_model.specs.Prepare.{access_of}
-use Rattle.heap_law.specs.Names.{one, other, if_so}
-use Rattle.heap_law.specs.Follow.{Standing}
-use Rattle.heap_law.specs.Sight.{sight}
-use Rattle.heap_law.specs.Requests.{is_par_end, is_par, same_truth}
-use Rattle.heap_law.specs.Rooted.{is_end, dressed}
-use Rattle.heap_law.specs.Coherent.{IsSound, par_ends}
+use Rattle.event_law.specs.Below.fr_base.declared.instruction.Instr.{Instr}
+use Rattle.event_law.specs.Below.fr_base.declared.instruction.Instr.TheVariants as instr
+use Rattle.event_law.specs.Below.fr_code.CodeTypes.{Entry, Table, InstrTypes, i_spawn, i_par, i_par_end}
+use Rattle.event_law.specs.Below.fr_code.CodeTable.{Successors, Leads, to_next, ends, AllEnter, IsTable}
+use Rattle.event_law.specs.Below.fr_code.Joins.{JoinsTo, alone, first, second}
+use Rattle.event_law.specs.Below.thread_state.View.{ThreadState, is_over}
+use Rattle.event_law.specs.Below.thread_state.declared.phase.Phase.{Phase}
+use Rattle.event_law.specs.Below.thread_state.declared.phase.Phase.TheVariants as phase
+use Rattle.event_law.specs.Below.server_model.Servers.{Server, Cluster, server_at}
+use Rattle.event_law.specs.Below.server_model.Work.{thread_in}
+use Rattle.event_law.specs.Below.server_model.Prepare.{access_of}
+use Rattle.event_law.specs.Below.heap_law.Names.{one, other, if_so}
+use Rattle.event_law.specs.Below.heap_law.Follow.{Standing}
+use Rattle.event_law.specs.Below.heap_law.Sight.{sight}
+use Rattle.event_law.specs.Below.heap_law.Requests.{is_par_end, is_par, same_truth}
+use Rattle.event_law.specs.Below.heap_law.Rooted.{is_end, dressed}
+use Rattle.event_law.specs.Below.heap_law.Coherent.{IsSound, par_ends}
 use Rattle.type_law.specs.ClusterTypes.{entry_wrong, forms_of, Types, IsCoherent}
 use Rattle.local_law.specs.Laws.{EachCoherentEventKeeps}
 use Rattle.local_law.proofs.Small.{Follows}

@@ -2,18 +2,18 @@
 use Rattle.std.proofs.Common.{◌≡◌, ℕ, ◌+◌, ◌-◌, ◌==◌, ◌&&◌, nat_lt, ◌^◌, Bool, true, false, if◌then◌else◌, List, [], ◌∷◌, ◌++◌, Option, Some, None, refl, ap, ◌∙◌, arith}
 use Rattle.std.specs.List.{AllByRecursion}
 use Rattle.std.proofs.lemmas.Bool.Decides.{nat_tests}
-use Rattle.fr_base.specs.declared.name.MutexNo.{MutexNo}
-use Rattle.heap_partition.specs.declared.value.Owned.{Owned}
-use Rattle.mutex_home.specs.Mutexes.{Mutex, Mutexes, mutex_in, put_mutex, end_mutex, asked_of, asked_in, ask, back_to, back_out, back_in, give_back, more_in, more, last_less, less_of, less_in, less}
-use Rattle.mutex_home.specs.declared.answers.Back.{Back}
-use Rattle.server_msgs.specs.declared.message.Message.{Message}
-use Rattle.journal.specs.View.{EntryView}
-use Rattle.server_model.specs.declared.event.Event.{Event}
-use Rattle.server_model.specs.Servers.{Rest, Server, Cluster, server_at}
-use Rattle.server_model.specs.Events.{enabled}
-use Rattle.server_model.specs.Clusters.{done_at, act_at, apply}
-use Rattle.heap_law.specs.Things.{things_at, content_things, queue_things, mutex_things, standing_things, waiting_things, leaving_things, message_things, task_things, server_things, things_of}
-use Rattle.heap_law.proofs.Sums.{tot-append, server_parts}
+use Rattle.event_law.specs.Below.fr_base.declared.name.MutexNo.{MutexNo}
+use Rattle.event_law.specs.Below.heap_partition.declared.value.Owned.{Owned}
+use Rattle.event_law.specs.Below.mutex_home.Mutexes.{Mutex, Mutexes, mutex_in, put_mutex, end_mutex, asked_of, asked_in, ask, back_to, back_out, back_in, give_back, more_in, more, last_less, less_of, less_in, less}
+use Rattle.event_law.specs.Below.mutex_home.declared.answers.Back.{Back}
+use Rattle.event_law.specs.Below.server_msgs.declared.message.Message.{Message}
+use Rattle.event_law.specs.Below.journal.View.{EntryView}
+use Rattle.event_law.specs.Below.server_model.declared.event.Event.{Event}
+use Rattle.event_law.specs.Below.server_model.Servers.{Rest, Server, Cluster, server_at}
+use Rattle.event_law.specs.Below.server_model.Events.{enabled}
+use Rattle.event_law.specs.Below.server_model.Clusters.{done_at, act_at, apply}
+use Rattle.event_law.specs.Below.heap_law.Things.{things_at, content_things, queue_things, mutex_things, standing_things, waiting_things, leaving_things, message_things, task_things, server_things, things_of}
+use Rattle.event_law.proofs.Below.heap_law.Sums.{tot-append, server_parts}
 use Rattle.event_law.specs.Laws.{Gives, FewEvents}
 use Rattle.event_law.proofs.Results.{then_gives, over_gives, test_gives, weaker}
 use Rattle.event_law.proofs.Known.{all_append}
@@ -25,10 +25,10 @@ use Rattle.local_law.specs.Laws.{EachEventKeeps}
 use Rattle.local_law.proofs.Handed.{all_none, none_all}
 use Rattle.local_law.proofs.Rests.{Parts, rests}
 use Rattle.local_law.proofs.MutexLists.{found, put_all, ends_all, given}
-use Rattle.heap_law.specs.Names.{tot, one, if_so}
-use Rattle.heap_law.specs.Things.{Thing, at_home}
-use Rattle.heap_law.specs.Sharing.{queued_inside, kept_for_none}
-use Rattle.heap_law.specs.Coherent.{IsSound, queue_while_out, content_without_shares}
+use Rattle.event_law.specs.Below.heap_law.Names.{tot, one, if_so}
+use Rattle.event_law.specs.Below.heap_law.Things.{Thing, at_home}
+use Rattle.event_law.specs.Below.heap_law.Sharing.{queued_inside, kept_for_none}
+use Rattle.event_law.specs.Below.heap_law.Coherent.{IsSound, queue_while_out, content_without_shares}
 use Rattle.std.specs.Prelude.{is_some, length}
 
 -- nobody waits where the content is in, and where it is in there is a share
@@ -73,7 +73,7 @@ asks ms m s t a = by (mutex_in ms.there m)
 backs : (ms : Mutexes) (m : MutexNo) (v : Owned) → All ms → Gives Left (give_back ms m v)
 backs ms m v a = by (mutex_in ms.there m)
   where
-    alone : (x : Mutex) (b : Bool) → (x.shares == 0) ≡ b → x.queue ≡ [] → Left (if b then (end_mutex ms x.number, Rattle.mutex_home.specs.declared.answers.Back.TheVariants.Ended v) else (put_mutex ms (record x { content = Some v }), Rattle.mutex_home.specs.declared.answers.Back.TheVariants.Kept))
+    alone : (x : Mutex) (b : Bool) → (x.shares == 0) ≡ b → x.queue ≡ [] → Left (if b then (end_mutex ms x.number, Rattle.event_law.specs.Below.mutex_home.declared.answers.Back.TheVariants.Ended v) else (put_mutex ms (record x { content = Some v }), Rattle.event_law.specs.Below.mutex_home.declared.answers.Back.TheVariants.Kept))
     alone x true e q = ends_all Calm ms.there x.number a
     alone x false e q = put_all Calm ms.there (record x { content = Some v }) a (calm_in (record x { content = Some v }) (ap length q) e)
 
@@ -170,8 +170,8 @@ mutex_alone n i m =
     omega (arith, content_none restless n (unseen n) m, none_at restless n (unseen n) (queue_things m.number) (λ j x. refl) 0 m.queue, tot-append restless (content_things m.number m.content) (things_at (queue_things m.number) 0 m.queue))
 
 message_none : (n : ℕ) (m : Message) → tot restless (message_things n m) ≡ 0
-message_none n (Rattle.server_msgs.specs.declared.message.Message.TheVariants.Start t) = omega (arith, thread_alone restless n (unseen n) n true t)
-message_none n (Rattle.server_msgs.specs.declared.message.Message.TheVariants.Migrate t) = omega (arith, thread_alone restless n (unseen n) n true t)
+message_none n (Rattle.event_law.specs.Below.server_msgs.declared.message.Message.TheVariants.Start t) = omega (arith, thread_alone restless n (unseen n) n true t)
+message_none n (Rattle.event_law.specs.Below.server_msgs.declared.message.Message.TheVariants.Migrate t) = omega (arith, thread_alone restless n (unseen n) n true t)
 message_none n _ = refl
 
 mutexes_alone : (s : Server) → tot restless (server_things s) ≡ tot restless (things_at (mutex_things s.rest.number) 0 s.rest.mutexes.there)

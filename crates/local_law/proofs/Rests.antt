@@ -1,52 +1,52 @@
 -- What the rest of a server keeps in each event, whatever is said and whatever its threads are.
 use Rattle.std.proofs.Common.{◌≡◌, ℕ, zero, suc, ◌+◌, ◌-◌, ◌==◌, ◌&&◌, Bool, true, false, nat_lt, if◌then◌else◌, List, length, Option, Some, None, refl}
 use Rattle.std.specs.Prelude.{slice_get, option_map}
-use Rattle.fr_base.specs.Lists.{is_in}
-use Rattle.fr_base.specs.declared.name.MutexNo.{MutexNo}
-use Rattle.fr_base.specs.declared.name.ObjNo.{ObjNo}
-use Rattle.fr_base.specs.declared.place.Lval.{Lval}
-use Rattle.fr_base.specs.declared.instruction.Instr.{Instr}
-use Rattle.fr_base.specs.declared.release.Released.{Released}
-use Rattle.fr_base.specs.declared.release.Released.TheVariants as released
-use Rattle.heap_partition.specs.declared.value.Cell.{Cell}
-use Rattle.heap_partition.specs.declared.value.Owned.{Owned}
-use Rattle.heap_partition.specs.declared.value.Owned.TheVariants as owned
-use Rattle.owner_box.specs.Partition.{stored, freed, made, renewed}
-use Rattle.read_cache.specs.Cache.{Copy, can_pin, pin, can_unpin, unpin, can_fill, fill, can_evict, evict}
-use Rattle.migration.specs.Packing.{unpin_all, used_words, packed}
-use Rattle.mutex_home.specs.Mutexes.{Mutexes, can_make, make, ask, give_back, more, less}
-use Rattle.mutex_home.specs.declared.answers.Asked.{Asked}
-use Rattle.mutex_home.specs.declared.answers.Asked.TheVariants as asked
-use Rattle.mutex_home.specs.declared.answers.Back.{Back}
-use Rattle.mutex_home.specs.declared.answers.Back.TheVariants as back
-use Rattle.join_home.specs.Tasks.{Task, can_begin, begin, can_begin_pair, begin_pair, ended, let_go_of}
-use Rattle.join_home.specs.Tasks as tasks
-use Rattle.join_home.specs.declared.answers.EndedAs.{EndedAs}
-use Rattle.join_home.specs.declared.answers.EndedAs.TheVariants as over
-use Rattle.thread_state.specs.View.{ThreadState}
-use Rattle.thread_state.specs.declared.phase.Phase.TheVariants as phase
-use Rattle.thread_state.specs.declared.value.Value.{Value}
-use Rattle.thread_state.specs.declared.value.Value.TheVariants as value
-use Rattle.server_msgs.specs.declared.message.Message.{Message}
-use Rattle.server_msgs.specs.declared.message.Message.TheVariants as message
-use Rattle.journal.specs.declared.act.Act.TheVariants as act
-use Rattle.journal.specs.View.{EntryView}
-use Rattle.fr_base.specs.declared.settings.Options.{Options}
-use Rattle.server_model.specs.declared.event.What.{What}
-use Rattle.server_model.specs.declared.event.What.TheVariants.{Step, Deliver, Evict, Migrate}
-use Rattle.server_model.specs.Servers.{Rest, Server}
-use Rattle.server_model.specs.Work.{Work, Hand, Site, sent_from, receive, leads_here, working, with_phase, with_mutexes, with_tasks, with_partition, then_some, put_back, thread_in, without_thread, at_thread, beside_threads, look_object, used_once, note}
-use Rattle.server_model.specs.NewWords.{NewWord, can_grow, is_last, issue_placed}
-use Rattle.server_model.specs.Places.{Spot, in_slot, on_top, in_cell, in_copy, nowhere, note_write, value_at, put_at, with_word, set_pointer}
-use Rattle.server_model.specs.Start.{next_thread, start_thread, capture}
-use Rattle.server_model.specs.Drop.{give_up}
-use Rattle.server_model.specs.Moving.{migrate, depart}
-use Rattle.server_model.specs.Commit.{go_on, next_object, push_box, begun, pair_begun, spawn_with, end_with, label_dropped}
-use Rattle.server_model.specs.Prepare.{Access, ReadTo, ReadPointer, WriteTo, LendTo, EndRef, passing, write_stars}
-use Rattle.server_model.specs.Objects.{deliver_fetch, waits_for_cell, filled, deliver_fetched, deliver_move, chased, waits_under, arrived_at, arrived_slot, passed_spot, arrived_write, arrived_lend, arrived_end, arrived, instr_access, deliver_moved, deliver_drop}
-use Rattle.server_model.specs.Sharing.{given, answer_lock, deliver_lock, waits_for_lock, deliver_granted, answer_back, deliver_unlock, deliver_dup, waits_for_dup, deliver_dupped, give_up_left}
-use Rattle.server_model.specs.Joining.{answer_join, deliver_join, waits_for_join, deliver_joined, got_par, pair_over, end_answer, deliver_finished}
-use Rattle.server_model.specs.Events.{begin_work, begin_at, left_by, received, release, deliver_message, evict_copy, step, step_in, stepped, does, deliver}
+use Rattle.event_law.specs.Below.fr_base.Lists.{is_in}
+use Rattle.event_law.specs.Below.fr_base.declared.name.MutexNo.{MutexNo}
+use Rattle.event_law.specs.Below.fr_base.declared.name.ObjNo.{ObjNo}
+use Rattle.event_law.specs.Below.fr_base.declared.place.Lval.{Lval}
+use Rattle.event_law.specs.Below.fr_base.declared.instruction.Instr.{Instr}
+use Rattle.event_law.specs.Below.fr_base.declared.release.Released.{Released}
+use Rattle.event_law.specs.Below.fr_base.declared.release.Released.TheVariants as released
+use Rattle.event_law.specs.Below.heap_partition.declared.value.Cell.{Cell}
+use Rattle.event_law.specs.Below.heap_partition.declared.value.Owned.{Owned}
+use Rattle.event_law.specs.Below.heap_partition.declared.value.Owned.TheVariants as owned
+use Rattle.event_law.specs.Below.owner_box.Partition.{stored, freed, made, renewed}
+use Rattle.event_law.specs.Below.read_cache.Cache.{Copy, can_pin, pin, can_unpin, unpin, can_fill, fill, can_evict, evict}
+use Rattle.event_law.specs.Below.migration.Packing.{unpin_all, used_words, packed}
+use Rattle.event_law.specs.Below.mutex_home.Mutexes.{Mutexes, can_make, make, ask, give_back, more, less}
+use Rattle.event_law.specs.Below.mutex_home.declared.answers.Asked.{Asked}
+use Rattle.event_law.specs.Below.mutex_home.declared.answers.Asked.TheVariants as asked
+use Rattle.event_law.specs.Below.mutex_home.declared.answers.Back.{Back}
+use Rattle.event_law.specs.Below.mutex_home.declared.answers.Back.TheVariants as back
+use Rattle.event_law.specs.Below.join_home.Tasks.{Task, can_begin, begin, can_begin_pair, begin_pair, ended, let_go_of}
+use Rattle.event_law.specs.Below.join_home.Tasks as tasks
+use Rattle.event_law.specs.Below.join_home.declared.answers.EndedAs.{EndedAs}
+use Rattle.event_law.specs.Below.join_home.declared.answers.EndedAs.TheVariants as over
+use Rattle.event_law.specs.Below.thread_state.View.{ThreadState}
+use Rattle.event_law.specs.Below.thread_state.declared.phase.Phase.TheVariants as phase
+use Rattle.event_law.specs.Below.thread_state.declared.value.Value.{Value}
+use Rattle.event_law.specs.Below.thread_state.declared.value.Value.TheVariants as value
+use Rattle.event_law.specs.Below.server_msgs.declared.message.Message.{Message}
+use Rattle.event_law.specs.Below.server_msgs.declared.message.Message.TheVariants as message
+use Rattle.event_law.specs.Below.journal.declared.act.Act.TheVariants as act
+use Rattle.event_law.specs.Below.journal.View.{EntryView}
+use Rattle.event_law.specs.Below.fr_base.declared.settings.Options.{Options}
+use Rattle.event_law.specs.Below.server_model.declared.event.What.{What}
+use Rattle.event_law.specs.Below.server_model.declared.event.What.TheVariants.{Step, Deliver, Evict, Migrate}
+use Rattle.event_law.specs.Below.server_model.Servers.{Rest, Server}
+use Rattle.event_law.specs.Below.server_model.Work.{Work, Hand, Site, sent_from, receive, leads_here, working, with_phase, with_mutexes, with_tasks, with_partition, then_some, put_back, thread_in, without_thread, at_thread, beside_threads, look_object, used_once, note}
+use Rattle.event_law.specs.Below.server_model.NewWords.{NewWord, can_grow, is_last, issue_placed}
+use Rattle.event_law.specs.Below.server_model.Places.{Spot, in_slot, on_top, in_cell, in_copy, nowhere, note_write, value_at, put_at, with_word, set_pointer}
+use Rattle.event_law.specs.Below.server_model.Start.{next_thread, start_thread, capture}
+use Rattle.event_law.specs.Below.server_model.Drop.{give_up}
+use Rattle.event_law.specs.Below.server_model.Moving.{migrate, depart}
+use Rattle.event_law.specs.Below.server_model.Commit.{go_on, next_object, push_box, begun, pair_begun, spawn_with, end_with, label_dropped}
+use Rattle.event_law.specs.Below.server_model.Prepare.{Access, ReadTo, ReadPointer, WriteTo, LendTo, EndRef, passing, write_stars}
+use Rattle.event_law.specs.Below.server_model.Objects.{deliver_fetch, waits_for_cell, filled, deliver_fetched, deliver_move, chased, waits_under, arrived_at, arrived_slot, passed_spot, arrived_write, arrived_lend, arrived_end, arrived, instr_access, deliver_moved, deliver_drop}
+use Rattle.event_law.specs.Below.server_model.Sharing.{given, answer_lock, deliver_lock, waits_for_lock, deliver_granted, answer_back, deliver_unlock, deliver_dup, waits_for_dup, deliver_dupped, give_up_left}
+use Rattle.event_law.specs.Below.server_model.Joining.{answer_join, deliver_join, waits_for_join, deliver_joined, got_par, pair_over, end_answer, deliver_finished}
+use Rattle.event_law.specs.Below.server_model.Events.{begin_work, begin_at, left_by, received, release, deliver_message, evict_copy, step, step_in, stepped, does, deliver}
 use Rattle.event_law.specs.Laws.{Gives}
 use Rattle.event_law.proofs.Results.{then_gives, map_gives, over_gives, bind_gives, test_gives, stand_gives}
 use Rattle.local_law.proofs.Small.{Places, Small}
@@ -314,7 +314,7 @@ module _ {R : ℕ → Rest → Type 0} (k : Changes R) where
       test_gives OfHand (waits_for_cell h.thread.phase old) _ (λ z. bind_gives (λ (m : NewWord). OfWork m.work) OfHand (issue_placed (act.Take c.object old) c h.work) _
       (test_gives (λ (m : NewWord). OfWork m.work) (can_grow h.work.rest.partition) _ (λ p. k.makes c h.work.rest p a)) (λ m b. comes_for (instr_access h (slice_get code h.thread.pc)) old m.word (record h { work = m.work }) b))
 
-  gives_it : (v : Owned) (g : Option Owned) (h : Hand) → OfHand h → Gives OfHand (Rattle.server_model.specs.Sharing.given v g h)
+  gives_it : (v : Owned) (g : Option Owned) (h : Hand) → OfHand h → Gives OfHand (Rattle.event_law.specs.Below.server_model.Sharing.given v g h)
   gives_it v None h a = a
   gives_it v (Some u) h a = tt
 

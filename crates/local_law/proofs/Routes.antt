@@ -5,24 +5,24 @@ use Rattle.std.specs.List.{AllByRecursion}
 use Rattle.std.specs.Bool.{⊤}
 use Rattle.std.proofs.lemmas.Bool.{eq-eqb}
 use Rattle.std.proofs.lemmas.Bool.Decides.{nat_tests}
-use Rattle.fr_typing.proofs.PlaceLemmas.{eq_cases}
-use Rattle.thread_state.specs.View.{ThreadState}
-use Rattle.server_msgs.specs.declared.message.Message.{Message}
-use Rattle.journal.specs.View.{EntryView}
-use Rattle.server_model.specs.declared.event.Event.{Event}
-use Rattle.server_model.specs.Servers.{Sent, Rest, Server, Cluster, server_at}
-use Rattle.server_model.specs.Events.{enabled}
-use Rattle.server_model.specs.Start.{next_thread, server_for}
-use Rattle.server_model.specs.Clusters.{with_server, done_at, act_at, apply}
-use Rattle.heap_law.specs.Names.{tot, one, other}
-use Rattle.heap_law.specs.Things.{Thing, sent, server_things, things_of}
-use Rattle.heap_law.specs.Sight.{Sight, sight}
-use Rattle.heap_law.specs.Requests.{home_of, goal, is_goal, misrouted}
-use Rattle.heap_law.specs.Sharing.{other_home}
-use Rattle.heap_law.specs.Naming.{options_out, servers_wrong, pinned_parcel}
-use Rattle.heap_law.specs.Walking.{asks_itself, own_request, sum_threads}
-use Rattle.heap_law.specs.Coherent.{IsSound, asks_others, go_right, options_in_range}
-use Rattle.heap_law.proofs.Names.{left_none}
+use Rattle.event_law.proofs.Below.fr_typing.PlaceLemmas.{eq_cases}
+use Rattle.event_law.specs.Below.thread_state.View.{ThreadState}
+use Rattle.event_law.specs.Below.server_msgs.declared.message.Message.{Message}
+use Rattle.event_law.specs.Below.journal.View.{EntryView}
+use Rattle.event_law.specs.Below.server_model.declared.event.Event.{Event}
+use Rattle.event_law.specs.Below.server_model.Servers.{Sent, Rest, Server, Cluster, server_at}
+use Rattle.event_law.specs.Below.server_model.Events.{enabled}
+use Rattle.event_law.specs.Below.server_model.Start.{next_thread, server_for}
+use Rattle.event_law.specs.Below.server_model.Clusters.{with_server, done_at, act_at, apply}
+use Rattle.event_law.specs.Below.heap_law.Names.{tot, one, other}
+use Rattle.event_law.specs.Below.heap_law.Things.{Thing, sent, server_things, things_of}
+use Rattle.event_law.specs.Below.heap_law.Sight.{Sight, sight}
+use Rattle.event_law.specs.Below.heap_law.Requests.{home_of, goal, is_goal, misrouted}
+use Rattle.event_law.specs.Below.heap_law.Sharing.{other_home}
+use Rattle.event_law.specs.Below.heap_law.Naming.{options_out, servers_wrong, pinned_parcel}
+use Rattle.event_law.specs.Below.heap_law.Walking.{asks_itself, own_request, sum_threads}
+use Rattle.event_law.specs.Below.heap_law.Coherent.{IsSound, asks_others, go_right, options_in_range}
+use Rattle.event_law.proofs.Below.heap_law.Names.{left_none}
 use Rattle.event_law.specs.Laws.{Gives, GoTo, FewEvents, EachEventHandedOver}
 use Rattle.event_law.proofs.Results.{then_gives, map_gives, over_gives, test_gives, weaker, both_give}
 use Rattle.event_law.proofs.Known.{all_append}
@@ -34,7 +34,7 @@ use Rattle.local_law.specs.Laws.{EachEventKeeps}
 use Rattle.local_law.proofs.Mail.{Mailed, Replies, Requests}
 use Rattle.local_law.proofs.Handed.{known}
 use Rattle.local_law.proofs.Messages.{Letters, posts, on_sent, Light, letters_from, letters_to, MessagesKeep, messages_keep}
-use Rattle.fr_base.specs.declared.instruction.Instr.{Instr}
+use Rattle.event_law.specs.Below.fr_base.declared.instruction.Instr.{Instr}
 
 -- A LIGHTER WEIGHT
 

@@ -3,25 +3,25 @@ use Rattle.std.proofs.Common.{◌≡◌, ℕ, ◌==◌, ◌&&◌, not, nat_le, B
 use Rattle.std.specs.Prelude.{slice_get}
 use Rattle.std.proofs.lemmas.Bool.{eq-eqb}
 use Rattle.std.proofs.lemmas.Bool.Decides.{nat_tests}
-use Rattle.fr_base.specs.declared.instruction.Instr.{Instr}
-use Rattle.fr_base.specs.declared.instruction.Instr.TheVariants as instr
-use Rattle.thread_state.specs.View.{ThreadState}
-use Rattle.thread_state.specs.declared.phase.Phase.{Phase}
-use Rattle.thread_state.specs.declared.phase.Phase.TheVariants as phase
-use Rattle.server_model.specs.Servers.{Server, Cluster, server_at}
-use Rattle.server_model.specs.Work.{thread_in}
-use Rattle.server_model.specs.Prepare.{access_of}
-use Rattle.server_model.specs.Events.{is_ready}
-use Rattle.heap_law.specs.Names.{one, other, if_so}
-use Rattle.heap_law.specs.Follow.{Standing}
-use Rattle.heap_law.specs.Sight.{sight}
-use Rattle.heap_law.specs.Paths.{path_of, written_place}
-use Rattle.heap_law.specs.Requests.{home_of}
-use Rattle.heap_law.specs.Sharing.{other_home}
-use Rattle.heap_law.specs.Walking.{is_join, in_walk, walks_not, early, still_walks, busy_parcel, hop_count, too_far, in_turn, not_asked, out_of_turn, turn_wrong}
-use Rattle.heap_law.specs.Walking as walking
-use Rattle.heap_law.specs.Coherent.{IsSound, join_walks_nothing, parcels_ready, passed_in_a_walk, thread_homes, walk_empty}
-use Rattle.heap_law.proofs.Turn.{turn_law}
+use Rattle.event_law.specs.Below.fr_base.declared.instruction.Instr.{Instr}
+use Rattle.event_law.specs.Below.fr_base.declared.instruction.Instr.TheVariants as instr
+use Rattle.event_law.specs.Below.thread_state.View.{ThreadState}
+use Rattle.event_law.specs.Below.thread_state.declared.phase.Phase.{Phase}
+use Rattle.event_law.specs.Below.thread_state.declared.phase.Phase.TheVariants as phase
+use Rattle.event_law.specs.Below.server_model.Servers.{Server, Cluster, server_at}
+use Rattle.event_law.specs.Below.server_model.Work.{thread_in}
+use Rattle.event_law.specs.Below.server_model.Prepare.{access_of}
+use Rattle.event_law.specs.Below.server_model.Events.{is_ready}
+use Rattle.event_law.specs.Below.heap_law.Names.{one, other, if_so}
+use Rattle.event_law.specs.Below.heap_law.Follow.{Standing}
+use Rattle.event_law.specs.Below.heap_law.Sight.{sight}
+use Rattle.event_law.specs.Below.heap_law.Paths.{path_of, written_place}
+use Rattle.event_law.specs.Below.heap_law.Requests.{home_of}
+use Rattle.event_law.specs.Below.heap_law.Sharing.{other_home}
+use Rattle.event_law.specs.Below.heap_law.Walking.{is_join, in_walk, walks_not, early, still_walks, busy_parcel, hop_count, too_far, in_turn, not_asked, out_of_turn, turn_wrong}
+use Rattle.event_law.specs.Below.heap_law.Walking as walking
+use Rattle.event_law.specs.Below.heap_law.Coherent.{IsSound, join_walks_nothing, parcels_ready, passed_in_a_walk, thread_homes, walk_empty}
+use Rattle.event_law.proofs.Below.heap_law.Turn.{turn_law}
 use Rattle.local_law.specs.Laws.{EachEventKeeps}
 use Rattle.local_law.proofs.Small.{Follows}
 use Rattle.local_law.proofs.Goes.{Same, AsksHome, Joins, HasCell, Goes, on, waits_pair, is_over, asks_cell, asks_home, gets_cell, gets_gift, goes_pair}

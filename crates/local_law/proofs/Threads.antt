@@ -3,34 +3,34 @@ use Rattle.std.proofs.Common.{◌≡◌, ℕ, zero, suc, ◌==◌, ◌&&◌, not
 use Rattle.std.specs.Prelude.{slice_get, option_map, remove, drop}
 use Rattle.std.specs.Bool.{⊤}
 use Rattle.std.specs.List.{AllByRecursion}
-use Rattle.fr_base.specs.declared.instruction.Instr.{Instr}
-use Rattle.fr_base.specs.declared.settings.Options.{Options}
-use Rattle.read_cache.specs.Cache.{Copy, can_evict}
-use Rattle.join_home.specs.Tasks.{Task, ended}
-use Rattle.join_home.specs.declared.answers.EndedAs.{EndedAs}
-use Rattle.join_home.specs.declared.answers.EndedAs.TheVariants as over
-use Rattle.thread_state.specs.View.{ThreadState, new_thread}
-use Rattle.thread_state.specs.declared.value.Value.{Value}
-use Rattle.server_msgs.specs.declared.message.Message.{Message}
-use Rattle.server_msgs.specs.declared.message.Message.TheVariants as message
-use Rattle.migration.specs.Packing.{unpin_all, used_words, packed, pack_thread}
-use Rattle.journal.specs.View.{EntryView}
-use Rattle.server_model.specs.declared.event.What.{What}
-use Rattle.server_model.specs.declared.event.What.TheVariants.{Step, Deliver, Evict, Migrate}
-use Rattle.server_model.specs.Servers.{Sent, Server}
-use Rattle.server_model.specs.Work.{Work, Hand, Site, then_some, thread_in, set_thread, without_thread, with_thread, put_back, at_thread, beside_threads, with_tasks}
-use Rattle.server_model.specs.Objects.{deliver_fetch, deliver_fetched, deliver_move, deliver_moved, deliver_drop}
-use Rattle.server_model.specs.Sharing.{deliver_lock, deliver_granted, deliver_unlock, deliver_dup, deliver_dupped}
-use Rattle.server_model.specs.Joining.{deliver_join, deliver_joined, pair_over, end_answer, deliver_finished, arrive}
-use Rattle.server_model.specs.Moving.{depart}
-use Rattle.server_model.specs.Events.{Stepped, has_phase, can_step, is_ready, enabled, begin_work, begin_at, left_by, received, release, deliver_message, evict_copy, step, step_in, stepped, does}
-use Rattle.heap_law.proofs.Names.{and_left}
+use Rattle.event_law.specs.Below.fr_base.declared.instruction.Instr.{Instr}
+use Rattle.event_law.specs.Below.fr_base.declared.settings.Options.{Options}
+use Rattle.event_law.specs.Below.read_cache.Cache.{Copy, can_evict}
+use Rattle.event_law.specs.Below.join_home.Tasks.{Task, ended}
+use Rattle.event_law.specs.Below.join_home.declared.answers.EndedAs.{EndedAs}
+use Rattle.event_law.specs.Below.join_home.declared.answers.EndedAs.TheVariants as over
+use Rattle.event_law.specs.Below.thread_state.View.{ThreadState, new_thread}
+use Rattle.event_law.specs.Below.thread_state.declared.value.Value.{Value}
+use Rattle.event_law.specs.Below.server_msgs.declared.message.Message.{Message}
+use Rattle.event_law.specs.Below.server_msgs.declared.message.Message.TheVariants as message
+use Rattle.event_law.specs.Below.migration.Packing.{unpin_all, used_words, packed, pack_thread}
+use Rattle.event_law.specs.Below.journal.View.{EntryView}
+use Rattle.event_law.specs.Below.server_model.declared.event.What.{What}
+use Rattle.event_law.specs.Below.server_model.declared.event.What.TheVariants.{Step, Deliver, Evict, Migrate}
+use Rattle.event_law.specs.Below.server_model.Servers.{Sent, Server}
+use Rattle.event_law.specs.Below.server_model.Work.{Work, Hand, Site, then_some, thread_in, set_thread, without_thread, with_thread, put_back, at_thread, beside_threads, with_tasks}
+use Rattle.event_law.specs.Below.server_model.Objects.{deliver_fetch, deliver_fetched, deliver_move, deliver_moved, deliver_drop}
+use Rattle.event_law.specs.Below.server_model.Sharing.{deliver_lock, deliver_granted, deliver_unlock, deliver_dup, deliver_dupped}
+use Rattle.event_law.specs.Below.server_model.Joining.{deliver_join, deliver_joined, pair_over, end_answer, deliver_finished, arrive}
+use Rattle.event_law.specs.Below.server_model.Moving.{depart}
+use Rattle.event_law.specs.Below.server_model.Events.{Stepped, has_phase, can_step, is_ready, enabled, begin_work, begin_at, left_by, received, release, deliver_message, evict_copy, step, step_in, stepped, does}
+use Rattle.event_law.proofs.Below.heap_law.Names.{and_left}
 use Rattle.event_law.specs.Laws.{Gives}
 use Rattle.event_law.proofs.Results.{then_gives, map_gives, over_gives, test_gives, stand_gives, both_give, weaker}
 use Rattle.event_law.proofs.Known.{all_at, all_append, all_take}
 use Rattle.local_law.proofs.Goes.{Goes, IsGotten, GoesOn, thread_goes, moved_goes, fetched_goes, granted_goes, dupped_goes, joined_goes, pair_goes}
 use Rattle.local_law.proofs.Mail.{Mailed, mail_sent, Replies, Requests, StartsAt, Begins, message_says, step_says}
-use Rattle.heap_partition.specs.declared.value.Owned.{Owned}
+use Rattle.event_law.specs.Below.heap_partition.declared.value.Owned.{Owned}
 
 -- THREADS OF A SERVER
 

@@ -1,9 +1,9 @@
 -- What each event of a sound cluster keeps, sentence by sentence.
-use Rattle.journal.specs.View.{EntryView}
-use Rattle.server_model.specs.declared.event.Event.{Event}
-use Rattle.server_model.specs.Servers.{Cluster}
-use Rattle.server_model.specs.Clusters.{apply}
-use Rattle.heap_law.specs.Coherent.{Sentence, Holds, IsSound}
+use Rattle.event_law.specs.Below.journal.View.{EntryView}
+use Rattle.event_law.specs.Below.server_model.declared.event.Event.{Event}
+use Rattle.event_law.specs.Below.server_model.Servers.{Cluster}
+use Rattle.event_law.specs.Below.server_model.Clusters.{apply}
+use Rattle.event_law.specs.Below.heap_law.Coherent.{Sentence, Holds, IsSound}
 use Rattle.event_law.specs.Laws.{Gives, FewEvents}
 use Rattle.type_law.specs.ClusterTypes.{IsCoherent}
 

@@ -1,6 +1,6 @@
 //! What each event keeps of a sound cluster, one clause for each sentence.
 
-ghost use Rattle.heap_law.specs.Coherent.{asks_others, at_their_home, content_without_shares, go_right, join_walks_nothing, options_in_range, over_are_bare, par_ends, parcels_ready, passed_in_a_walk, queue_while_out, thread_homes, walk_empty};
+ghost use Rattle.event_law.specs.Below.heap_law.Coherent.{asks_others, at_their_home, content_without_shares, go_right, join_walks_nothing, options_in_range, over_are_bare, par_ends, parcels_ready, passed_in_a_walk, queue_while_out, thread_homes, walk_empty};
 ghost use Rattle.local_law.specs.Laws.{EachCoherentEventKeeps, EachEventKeeps};
 
 /// What a thread keeps by itself, whatever its values are: where it doesn't walk, and at a join, its walk is empty; it has passed hops in a walk alone; one that

@@ -3,17 +3,17 @@ use Rattle.std.proofs.Common.{◌≡◌, ◌≢◌, ℕ, ◌+◌, ◌==◌, ◌|
 use Rattle.std.specs.Bool.{⊤}
 use Rattle.std.specs.List.{AllByRecursion}
 use Rattle.std.proofs.lemmas.List.{append_assoc}
-use Rattle.fr_typing.proofs.PlaceLemmas.{eq_cases}
-use Rattle.fr_base.specs.declared.name.MutexNo.{MutexNo}
-use Rattle.heap_partition.specs.declared.value.Owned.{Owned}
-use Rattle.thread_state.specs.View.{ThreadState}
-use Rattle.heap_law.specs.Names.{tot, one, some, if_so}
-use Rattle.heap_law.specs.Things.{as_gift, Thing, holds, stands, noted, lies, flies, things_at, walk_things, slot_things, temp_things, gift_things, thread_things}
-use Rattle.heap_law.specs.Follow.{Standing, threads_in, thread_at, cells_in}
-use Rattle.heap_law.specs.Sight.{Sight}
-use Rattle.heap_law.specs.OneHeap.{Node, mutex_n, a_thread, owns, names, owner_of, named_in, any_named, pair_over, or_else, first_shown, share_in}
-use Rattle.event_law.proofs.Bags.{had_by}
-use Rattle.event_law.proofs.Trades.{tot-append}
+use Rattle.turn_law.proofs.Below.fr_typing.PlaceLemmas.{eq_cases}
+use Rattle.turn_law.specs.Below.fr_base.declared.name.MutexNo.{MutexNo}
+use Rattle.turn_law.specs.Below.heap_partition.declared.value.Owned.{Owned}
+use Rattle.turn_law.specs.Below.thread_state.View.{ThreadState}
+use Rattle.turn_law.specs.Below.heap_law.Names.{tot, one, some, if_so}
+use Rattle.turn_law.specs.Below.heap_law.Things.{as_gift, Thing, holds, stands, noted, lies, flies, things_at, walk_things, slot_things, temp_things, gift_things, thread_things}
+use Rattle.turn_law.specs.Below.heap_law.Follow.{Standing, threads_in, thread_at, cells_in}
+use Rattle.turn_law.specs.Below.heap_law.Sight.{Sight}
+use Rattle.turn_law.specs.Below.heap_law.OneHeap.{Node, mutex_n, a_thread, owns, names, owner_of, named_in, any_named, pair_over, or_else, first_shown, share_in}
+use Rattle.turn_law.proofs.Below.event_law.Bags.{had_by}
+use Rattle.turn_law.proofs.Below.event_law.Trades.{tot-append}
 use Rattle.turn_law.proofs.Parts.{shown_both, any_both, Own, own_all, none_shown, none_counted, same_counted, no_threads, no_cells, any_told, owned_in, own_named}
 
 -- without its gift

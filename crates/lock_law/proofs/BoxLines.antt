@@ -1,48 +1,48 @@
 -- A box of a new object, at the server and on the plain machine: the value on top goes into it, and the box comes in its place.
 use Rattle.std.proofs.Common.{◌≡◌, ℕ, ◌+◌, Bool, true, false, if◌then◌else◌, List, [], ◌∷◌, ◌++◌, length, Option, Some, None, option_map, refl, sym, ap, subst, ◌∙◌, arith}
-use Rattle.fr_base.specs.declared.name.ObjNo.{ObjNo}
-use Rattle.fr_base.specs.declared.label.Label.TheVariants as label
-use Rattle.fr_base.specs.declared.label.Plain.TheVariants as plain
-use Rattle.fr_base.specs.declared.step.Fresh.{Fresh}
-use Rattle.fr_base.specs.declared.step.Fresh.TheVariants as fresh
-use Rattle.fr_base.specs.declared.instruction.Operand.{Operand}
-use Rattle.fr_base.specs.declared.instruction.Instr.{Instr}
-use Rattle.fr_base.specs.declared.instruction.Instr.TheVariants as instr
-use Rattle.fr_plain.specs.declared.value.Value.{Value as PlainValue}
-use Rattle.fr_plain.specs.declared.value.Value.TheVariants as plain_v
-use Rattle.fr_plain.specs.MachineActs.{do_box}
-use Rattle.fr_plain.specs.PlainState.{SameState, plain_state}
-use Rattle.fr_code.specs.Machine.{CodeWhole, CodeRunning}
-use Rattle.fr_code.specs.Steps.{Place, over_at, run_instr, loud}
-use Rattle.heap_partition.specs.Plain.{plain_of}
-use Rattle.heap_partition.specs.declared.value.Cell.{Cell}
-use Rattle.heap_partition.specs.declared.value.Owned.{Owned}
-use Rattle.heap_partition.specs.declared.value.Owned.TheVariants as owned
-use Rattle.colour_retire.specs.Colours.{picked}
-use Rattle.owner_box.specs.View.{PartitionState}
-use Rattle.owner_box.specs.Partition.{made, new_word}
-use Rattle.read_cache.specs.Cache.{Copy}
-use Rattle.migration.specs.Packing.{unpin_all}
-use Rattle.thread_state.specs.View.{ThreadState}
-use Rattle.thread_state.specs.declared.value.Value.{Value}
-use Rattle.thread_state.specs.declared.value.Value.TheVariants as value
-use Rattle.journal.specs.declared.act.Act.TheVariants as act
-use Rattle.server_model.specs.declared.event.Event.{Event}
-use Rattle.server_model.specs.Servers.{Server, Cluster}
-use Rattle.server_model.specs.Work.{Hand, Popped, note, with_partition, with_temps, with_cache, pop_owned, then_some}
-use Rattle.server_model.specs.NewWords.{NewWord, can_grow}
-use Rattle.server_model.specs.Commit.{goes_on, go_on, push_box, make_box}
-use Rattle.server_model.specs.Events.{Stepped, begin_work, committed, step}
-use Rattle.heap_law.specs.Things.{Thing}
-use Rattle.heap_law.specs.OneHeap.{running_at, one_heap, state_of}
-use Rattle.type_law.specs.ClusterTypes.{IsCoherent}
-use Rattle.event_law.specs.Laws.{Gives}
-use Rattle.event_law.proofs.Bags.{of_partition}
-use Rattle.event_law.proofs.Objects.{makes}
-use Rattle.still_law.specs.Shows.{sign_of}
-use Rattle.still_law.proofs.Addresses.{InPlace, in_place, next_empty, no_vacancy}
-use Rattle.still_law.proofs.Leaving.{others, placed_here}
-use Rattle.still_law.proofs.Readied.{copies_ready}
+use Rattle.turn_law.specs.Below.fr_base.declared.name.ObjNo.{ObjNo}
+use Rattle.turn_law.specs.Below.fr_base.declared.label.Label.TheVariants as label
+use Rattle.turn_law.specs.Below.fr_base.declared.label.Plain.TheVariants as plain
+use Rattle.turn_law.specs.Below.fr_base.declared.step.Fresh.{Fresh}
+use Rattle.turn_law.specs.Below.fr_base.declared.step.Fresh.TheVariants as fresh
+use Rattle.turn_law.specs.Below.fr_base.declared.instruction.Operand.{Operand}
+use Rattle.turn_law.specs.Below.fr_base.declared.instruction.Instr.{Instr}
+use Rattle.turn_law.specs.Below.fr_base.declared.instruction.Instr.TheVariants as instr
+use Rattle.turn_law.specs.Below.fr_plain.declared.value.Value.{Value as PlainValue}
+use Rattle.turn_law.specs.Below.fr_plain.declared.value.Value.TheVariants as plain_v
+use Rattle.turn_law.specs.Below.fr_plain.MachineActs.{do_box}
+use Rattle.turn_law.specs.Below.fr_plain.PlainState.{SameState, plain_state}
+use Rattle.turn_law.specs.Below.fr_code.Machine.{CodeWhole, CodeRunning}
+use Rattle.turn_law.specs.Below.fr_code.Steps.{Place, over_at, run_instr, loud}
+use Rattle.turn_law.specs.Below.heap_partition.Plain.{plain_of}
+use Rattle.turn_law.specs.Below.heap_partition.declared.value.Cell.{Cell}
+use Rattle.turn_law.specs.Below.heap_partition.declared.value.Owned.{Owned}
+use Rattle.turn_law.specs.Below.heap_partition.declared.value.Owned.TheVariants as owned
+use Rattle.turn_law.specs.Below.colour_retire.Colours.{picked}
+use Rattle.turn_law.specs.Below.owner_box.View.{PartitionState}
+use Rattle.turn_law.specs.Below.owner_box.Partition.{made, new_word}
+use Rattle.turn_law.specs.Below.read_cache.Cache.{Copy}
+use Rattle.turn_law.specs.Below.migration.Packing.{unpin_all}
+use Rattle.turn_law.specs.Below.thread_state.View.{ThreadState}
+use Rattle.turn_law.specs.Below.thread_state.declared.value.Value.{Value}
+use Rattle.turn_law.specs.Below.thread_state.declared.value.Value.TheVariants as value
+use Rattle.turn_law.specs.Below.journal.declared.act.Act.TheVariants as act
+use Rattle.turn_law.specs.Below.server_model.declared.event.Event.{Event}
+use Rattle.turn_law.specs.Below.server_model.Servers.{Server, Cluster}
+use Rattle.turn_law.specs.Below.server_model.Work.{Hand, Popped, note, with_partition, with_temps, with_cache, pop_owned, then_some}
+use Rattle.turn_law.specs.Below.server_model.NewWords.{NewWord, can_grow}
+use Rattle.turn_law.specs.Below.server_model.Commit.{goes_on, go_on, push_box, make_box}
+use Rattle.turn_law.specs.Below.server_model.Events.{Stepped, begin_work, committed, step}
+use Rattle.turn_law.specs.Below.heap_law.Things.{Thing}
+use Rattle.turn_law.specs.Below.heap_law.OneHeap.{running_at, one_heap, state_of}
+use Rattle.undone_law.specs.Below.type_law.ClusterTypes.{IsCoherent}
+use Rattle.turn_law.specs.Below.event_law.Laws.{Gives}
+use Rattle.turn_law.proofs.Below.event_law.Bags.{of_partition}
+use Rattle.turn_law.proofs.Below.event_law.Objects.{makes}
+use Rattle.turn_law.specs.Below.still_law.Shows.{sign_of}
+use Rattle.turn_law.proofs.Below.still_law.Addresses.{InPlace, in_place, next_empty, no_vacancy}
+use Rattle.turn_law.proofs.Below.still_law.Leaving.{others, placed_here}
+use Rattle.turn_law.proofs.Below.still_law.Readied.{copies_ready}
 use Rattle.turn_law.specs.Turns.{StepsTo}
 use Rattle.turn_law.proofs.OneTurn.{after}
 use Rattle.turn_law.proofs.Instructions.{shown_last, shown_push, Pops, PopsTo}

@@ -1,19 +1,19 @@
 -- All that is known of a thread's turn at a mutex, in one record, and what follows for the plain state.
 use Rattle.std.proofs.Common.{◌≡◌, ◌≢◌, ℕ, ◌+◌, ◌≤◌, Bool, true, false, List, Option, Some, is_some}
 use Rattle.std.specs.List.{AllByRecursion}
-use Rattle.fr_base.specs.declared.name.MutexNo.{MutexNo}
-use Rattle.fr_base.specs.declared.name.ObjNo.{ObjNo}
-use Rattle.heap_partition.specs.declared.value.Owned.{Owned}
-use Rattle.thread_state.specs.View.{ThreadState}
-use Rattle.thread_state.specs.declared.value.Value.{Value}
-use Rattle.server_model.specs.Servers.{Cluster}
-use Rattle.heap_law.specs.Names.{tot}
-use Rattle.heap_law.specs.Things.{Thing}
-use Rattle.heap_law.specs.Naming.{started_at}
-use Rattle.heap_law.specs.OneHeap.{Node, object_n, mutex_n, task_n, any_named, is_in_state, or_else, first_shown, object_value, content_value, result_value, share_in, is_given_thread, running_at, state_of}
-use Rattle.still_law.proofs.Alike.{Once}
-use Rattle.still_law.proofs.Counting.{shown_result}
-use Rattle.still_law.proofs.Told.{told, ones}
+use Rattle.turn_law.specs.Below.fr_base.declared.name.MutexNo.{MutexNo}
+use Rattle.turn_law.specs.Below.fr_base.declared.name.ObjNo.{ObjNo}
+use Rattle.turn_law.specs.Below.heap_partition.declared.value.Owned.{Owned}
+use Rattle.turn_law.specs.Below.thread_state.View.{ThreadState}
+use Rattle.turn_law.specs.Below.thread_state.declared.value.Value.{Value}
+use Rattle.turn_law.specs.Below.server_model.Servers.{Cluster}
+use Rattle.turn_law.specs.Below.heap_law.Names.{tot}
+use Rattle.turn_law.specs.Below.heap_law.Things.{Thing}
+use Rattle.turn_law.specs.Below.heap_law.Naming.{started_at}
+use Rattle.turn_law.specs.Below.heap_law.OneHeap.{Node, object_n, mutex_n, task_n, any_named, is_in_state, or_else, first_shown, object_value, content_value, result_value, share_in, is_given_thread, running_at, state_of}
+use Rattle.turn_law.proofs.Below.still_law.Alike.{Once}
+use Rattle.turn_law.proofs.Below.still_law.Counting.{shown_result}
+use Rattle.turn_law.proofs.Below.still_law.Told.{told, ones}
 use Rattle.turn_law.proofs.Parts.{owned_in}
 use Rattle.turn_law.proofs.OneTurn.{of_thread, Calm, after}
 use Rattle.lock_law.proofs.Reach.{NoneUnder, with_extra}

@@ -2,36 +2,36 @@
 -- in their place.
 use Rattle.std.proofs.Common.{◌≡◌, ℕ, ◌+◌, ◌≤◌, ◌==◌, ◌&&◌, ◌||◌, not, Bool, true, false, List, [], ◌∷◌, ◌++◌, length, take, drop, Option, Some, None, is_some, option_map, refl, sym, ap, ap₂, ◌∙◌, arith}
 use Rattle.std.specs.List.{AllByRecursion}
-use Rattle.heap_partition.specs.declared.value.Owned.{Owned}
-use Rattle.fr_plain.specs.PlainState.{SameState}
-use Rattle.thread_state.specs.View.{ThreadState}
-use Rattle.server_model.specs.declared.event.Event.{Event}
-use Rattle.server_model.specs.Servers.{Server, Cluster, server_at}
-use Rattle.server_model.specs.Work.{thread_in, set_thread, without_thread, put_back}
-use Rattle.server_model.specs.Events.{Stepped, stepped}
-use Rattle.server_model.specs.Clusters.{with_server, hand_over_newer}
-use Rattle.heap_law.specs.Names.{tot, one, some, if_so}
-use Rattle.heap_law.specs.Things.{Spot, as_gift, Thing, holds, stands, gift_things, servers_things, things_of}
-use Rattle.heap_law.specs.Follow.{threads_in, thread_at, locate}
-use Rattle.heap_law.specs.Sight.{Sight, sight, with_things}
-use Rattle.heap_law.specs.Requests.{home_of}
-use Rattle.heap_law.specs.Naming.{count_of, threads, started_at, uncounted_thread, zeroth_thread, named_mutexes, uncounted_mutex, zeroth_mutex}
-use Rattle.heap_law.specs.Weights.{is_thread}
-use Rattle.heap_law.specs.OneHeap.{Node, is_in_state, is_given_thread, one_heap, state_of, spot_owner}
-use Rattle.heap_law.specs.Coherent.{IsSound}
-use Rattle.event_law.specs.Laws.{GoTo}
-use Rattle.event_law.proofs.Trades.{Same, tot-append}
-use Rattle.event_law.proofs.Bags.{counts_of, body_things, all_standing, rest_things, had_by, tot-without, tot-set, server_same}
-use Rattle.event_law.proofs.Events.{others_of, tot-server}
-use Rattle.event_law.proofs.Applied.{go_with}
-use Rattle.event_law.proofs.Handing.{hand_over_newer_law}
-use Rattle.still_law.specs.Shows.{sign_of, ShowAlike, gift_spot}
-use Rattle.still_law.proofs.Alike.{Once, same_state, same_once, same_spots, same_threads, same_places, same_nodes, same_gifts}
-use Rattle.still_law.proofs.Counting.{nought, stray, no_stray, no_stray_in}
-use Rattle.still_law.proofs.Gifts.{placed, telling, places_told}
-use Rattle.still_law.proofs.Once.{shown_once}
-use Rattle.still_law.proofs.PlainValues.{shown_of}
-use Rattle.still_law.proofs.Sites.{Moves, ends}
+use Rattle.turn_law.specs.Below.heap_partition.declared.value.Owned.{Owned}
+use Rattle.turn_law.specs.Below.fr_plain.PlainState.{SameState}
+use Rattle.turn_law.specs.Below.thread_state.View.{ThreadState}
+use Rattle.turn_law.specs.Below.server_model.declared.event.Event.{Event}
+use Rattle.turn_law.specs.Below.server_model.Servers.{Server, Cluster, server_at}
+use Rattle.turn_law.specs.Below.server_model.Work.{thread_in, set_thread, without_thread, put_back}
+use Rattle.turn_law.specs.Below.server_model.Events.{Stepped, stepped}
+use Rattle.turn_law.specs.Below.server_model.Clusters.{with_server, hand_over_newer}
+use Rattle.turn_law.specs.Below.heap_law.Names.{tot, one, some, if_so}
+use Rattle.turn_law.specs.Below.heap_law.Things.{Spot, as_gift, Thing, holds, stands, gift_things, servers_things, things_of}
+use Rattle.turn_law.specs.Below.heap_law.Follow.{threads_in, thread_at, locate}
+use Rattle.turn_law.specs.Below.heap_law.Sight.{Sight, sight, with_things}
+use Rattle.turn_law.specs.Below.heap_law.Requests.{home_of}
+use Rattle.turn_law.specs.Below.heap_law.Naming.{count_of, threads, started_at, uncounted_thread, zeroth_thread, named_mutexes, uncounted_mutex, zeroth_mutex}
+use Rattle.turn_law.specs.Below.heap_law.Weights.{is_thread}
+use Rattle.turn_law.specs.Below.heap_law.OneHeap.{Node, is_in_state, is_given_thread, one_heap, state_of, spot_owner}
+use Rattle.turn_law.specs.Below.heap_law.Coherent.{IsSound}
+use Rattle.turn_law.specs.Below.event_law.Laws.{GoTo}
+use Rattle.turn_law.proofs.Below.event_law.Trades.{Same, tot-append}
+use Rattle.turn_law.proofs.Below.event_law.Bags.{counts_of, body_things, all_standing, rest_things, had_by, tot-without, tot-set, server_same}
+use Rattle.turn_law.proofs.Below.event_law.Events.{others_of, tot-server}
+use Rattle.turn_law.proofs.Below.event_law.Applied.{go_with}
+use Rattle.turn_law.proofs.Below.event_law.Handing.{hand_over_newer_law}
+use Rattle.turn_law.specs.Below.still_law.Shows.{sign_of, ShowAlike, gift_spot}
+use Rattle.turn_law.proofs.Below.still_law.Alike.{Once, same_state, same_once, same_spots, same_threads, same_places, same_nodes, same_gifts}
+use Rattle.turn_law.proofs.Below.still_law.Counting.{nought, stray, no_stray, no_stray_in}
+use Rattle.turn_law.proofs.Below.still_law.Gifts.{placed, telling, places_told}
+use Rattle.turn_law.proofs.Below.still_law.Once.{shown_once}
+use Rattle.turn_law.proofs.Below.still_law.PlainValues.{shown_of}
+use Rattle.turn_law.proofs.Below.still_law.Sites.{Moves, ends}
 use Rattle.turn_law.proofs.Parts.{Own}
 use Rattle.turn_law.proofs.OneTurn.{of_thread}
 use Rattle.turn_law.proofs.Events.{gift_at, placed_at, told_at, told_by, all_of as of_both, itself_counts, given_by_count}

@@ -1,12 +1,12 @@
 -- Each kind of instruction whose line stands.
 use Rattle.std.proofs.Common.{◌≡◌, true, Some, length, refl, subst}
-use Rattle.fr_base.specs.declared.instruction.Instr.{Instr}
-use Rattle.fr_base.specs.declared.instruction.Instr.TheVariants as instr
-use Rattle.server_model.specs.Events.{Stepped, stepped, begin_work, step}
-use Rattle.server_model.specs.Clusters.{hand_over_newer, apply}
-use Rattle.heap_law.specs.Coherent.{IsSound}
-use Rattle.type_law.specs.ClusterTypes.{IsCoherent}
-use Rattle.event_law.specs.Laws.{Gives}
+use Rattle.turn_law.specs.Below.fr_base.declared.instruction.Instr.{Instr}
+use Rattle.turn_law.specs.Below.fr_base.declared.instruction.Instr.TheVariants as instr
+use Rattle.turn_law.specs.Below.server_model.Events.{Stepped, stepped, begin_work, step}
+use Rattle.turn_law.specs.Below.server_model.Clusters.{hand_over_newer, apply}
+use Rattle.turn_law.specs.Below.heap_law.Coherent.{IsSound}
+use Rattle.undone_law.specs.Below.type_law.ClusterTypes.{IsCoherent}
+use Rattle.turn_law.specs.Below.event_law.Laws.{Gives}
 use Rattle.turn_law.specs.Turns.{IsPlainStep, instr_of, ArePlainSteps}
 use Rattle.lock_law.specs.Locks.{dups_mutex, locks_mutex, makes_box, makes_mutex, marked, IsThere, UnlocksArePlain}
 use Rattle.lock_law.proofs.ThreadTurns.{turn_steps}

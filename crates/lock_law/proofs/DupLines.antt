@@ -1,41 +1,41 @@
 -- A dup whose answer came: the mutex has one share more, on the server and on the plain machine.
 use Rattle.std.proofs.Common.{◌≡◌, ℕ, ◌+◌, Bool, true, false, List, [], ◌∷◌, ◌++◌, map, reverse, Option, Some, None, option_map, refl, sym, ap, ap₂, subst, ◌∙◌, arith}
-use Rattle.fr_base.specs.declared.name.MutexNo.{MutexNo}
-use Rattle.fr_base.specs.declared.place.Lval.{Lval}
-use Rattle.fr_base.specs.declared.label.Plain.{Plain}
-use Rattle.fr_base.specs.declared.label.Plain.TheVariants as plain
-use Rattle.fr_base.specs.declared.step.Fresh.{Fresh}
-use Rattle.fr_base.specs.declared.instruction.Instr.{Instr}
-use Rattle.fr_base.specs.declared.instruction.Instr.TheVariants as instr
-use Rattle.fr_plain.specs.declared.value.Value.{Value as PlainValue}
-use Rattle.fr_plain.specs.declared.value.Value.TheVariants as plain_v
-use Rattle.fr_plain.specs.MachineThreads.{with_mutex}
-use Rattle.fr_plain.specs.MachineActs.{do_dup}
-use Rattle.fr_code.specs.Machine.{CodeRunning}
-use Rattle.heap_partition.specs.Plain.{plain_of}
-use Rattle.heap_partition.specs.declared.value.Owned.{Owned}
-use Rattle.heap_partition.specs.declared.value.Owned.TheVariants as owned
-use Rattle.thread_state.specs.View.{ThreadState}
-use Rattle.thread_state.specs.declared.value.Value.{Value}
-use Rattle.thread_state.specs.declared.value.Value.TheVariants as value
-use Rattle.server_model.specs.declared.event.Event.{Event}
-use Rattle.server_model.specs.Servers.{Server, Cluster}
-use Rattle.server_model.specs.Work.{Hand, push_temp}
-use Rattle.server_model.specs.Places.{Spot, value_at, load_at}
-use Rattle.server_model.specs.Prepare.{ReadTo, Prepared, ready, requested, nothing, prepare}
-use Rattle.server_model.specs.Commit.{waiting, take_gift, ask_dup, dup, mutex_at}
-use Rattle.server_model.specs.Events.{Stepped, committed, prepared, step}
-use Rattle.heap_law.specs.Names.{tot, one, other, if_so}
-use Rattle.heap_law.specs.Things.{as_gift, Thing}
-use Rattle.heap_law.specs.Sight.{Sight, sight}
+use Rattle.turn_law.specs.Below.fr_base.declared.name.MutexNo.{MutexNo}
+use Rattle.turn_law.specs.Below.fr_base.declared.place.Lval.{Lval}
+use Rattle.turn_law.specs.Below.fr_base.declared.label.Plain.{Plain}
+use Rattle.turn_law.specs.Below.fr_base.declared.label.Plain.TheVariants as plain
+use Rattle.turn_law.specs.Below.fr_base.declared.step.Fresh.{Fresh}
+use Rattle.turn_law.specs.Below.fr_base.declared.instruction.Instr.{Instr}
+use Rattle.turn_law.specs.Below.fr_base.declared.instruction.Instr.TheVariants as instr
+use Rattle.turn_law.specs.Below.fr_plain.declared.value.Value.{Value as PlainValue}
+use Rattle.turn_law.specs.Below.fr_plain.declared.value.Value.TheVariants as plain_v
+use Rattle.turn_law.specs.Below.fr_plain.MachineThreads.{with_mutex}
+use Rattle.turn_law.specs.Below.fr_plain.MachineActs.{do_dup}
+use Rattle.turn_law.specs.Below.fr_code.Machine.{CodeRunning}
+use Rattle.turn_law.specs.Below.heap_partition.Plain.{plain_of}
+use Rattle.turn_law.specs.Below.heap_partition.declared.value.Owned.{Owned}
+use Rattle.turn_law.specs.Below.heap_partition.declared.value.Owned.TheVariants as owned
+use Rattle.turn_law.specs.Below.thread_state.View.{ThreadState}
+use Rattle.turn_law.specs.Below.thread_state.declared.value.Value.{Value}
+use Rattle.turn_law.specs.Below.thread_state.declared.value.Value.TheVariants as value
+use Rattle.turn_law.specs.Below.server_model.declared.event.Event.{Event}
+use Rattle.turn_law.specs.Below.server_model.Servers.{Server, Cluster}
+use Rattle.turn_law.specs.Below.server_model.Work.{Hand, push_temp}
+use Rattle.turn_law.specs.Below.server_model.Places.{Spot, value_at, load_at}
+use Rattle.turn_law.specs.Below.server_model.Prepare.{ReadTo, Prepared, ready, requested, nothing, prepare}
+use Rattle.turn_law.specs.Below.server_model.Commit.{waiting, take_gift, ask_dup, dup, mutex_at}
+use Rattle.turn_law.specs.Below.server_model.Events.{Stepped, committed, prepared, step}
+use Rattle.turn_law.specs.Below.heap_law.Names.{tot, one, other, if_so}
+use Rattle.turn_law.specs.Below.heap_law.Things.{as_gift, Thing}
+use Rattle.turn_law.specs.Below.heap_law.Sight.{Sight, sight}
 use Rattle.turn_law.proofs.ReadWalk.{At, loads_of, passed_loads}
-use Rattle.heap_law.specs.Requests.{is_value_of, gift_fits, gift_there}
-use Rattle.heap_law.specs.OneHeap.{mutex_n, outside, owns, owner_in, named_in, is_in_state, or_else, first_shown, content_value, share_in, spot_owner, running_at, plain_value, state_of}
-use Rattle.type_law.specs.ClusterTypes.{IsCoherent}
-use Rattle.event_law.specs.Laws.{Gives}
-use Rattle.event_law.proofs.GiftsTaken.{none_here}
-use Rattle.read_law.specs.Reading.{dups}
-use Rattle.still_law.proofs.Readied.{Readied}
+use Rattle.turn_law.specs.Below.heap_law.Requests.{is_value_of, gift_fits, gift_there}
+use Rattle.turn_law.specs.Below.heap_law.OneHeap.{mutex_n, outside, owns, owner_in, named_in, is_in_state, or_else, first_shown, content_value, share_in, spot_owner, running_at, plain_value, state_of}
+use Rattle.undone_law.specs.Below.type_law.ClusterTypes.{IsCoherent}
+use Rattle.turn_law.specs.Below.event_law.Laws.{Gives}
+use Rattle.turn_law.proofs.Below.event_law.GiftsTaken.{none_here}
+use Rattle.turn_law.specs.Below.read_law.Reading.{dups}
+use Rattle.turn_law.proofs.Below.still_law.Readied.{Readied}
 use Rattle.turn_law.proofs.Instructions.{shown_last, shown_push, owned_push}
 use Rattle.turn_law.proofs.StarLines.{h0}
 use Rattle.turn_law.proofs.StarSteps.{alike_owned}

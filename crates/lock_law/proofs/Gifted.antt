@@ -1,24 +1,24 @@
 -- What a thread's gift at a lock or a dup, and the counts of its server, show in the one heap.
 use Rattle.std.proofs.Common.{◌≡◌, ℕ, ◌||◌, Bool, true, false, List, [], ◌∷◌, ◌++◌, Option, Some, None, is_some, refl, sym, ap, ◌∙◌, subst, arith}
-use Rattle.fr_base.specs.declared.name.MutexNo.{MutexNo}
-use Rattle.fr_base.specs.declared.instruction.Instr.{Instr}
-use Rattle.heap_partition.specs.Plain.{plain_of}
-use Rattle.heap_partition.specs.declared.value.Owned.{Owned}
-use Rattle.thread_state.specs.View.{ThreadState}
-use Rattle.server_model.specs.declared.event.Event.{Event}
-use Rattle.server_model.specs.Servers.{Server, Cluster}
-use Rattle.server_model.specs.Work.{thread_in}
-use Rattle.heap_law.specs.Names.{tot, one, some, if_so}
-use Rattle.heap_law.specs.Things.{as_gift, Thing, holds, gift_things}
-use Rattle.heap_law.specs.Follow.{Standing, thread_at}
-use Rattle.heap_law.specs.Sight.{Sight, sight}
-use Rattle.heap_law.specs.Paths.{joined_thread}
-use Rattle.heap_law.specs.Requests.{is_mutex, is_task, locked_mutex, is_par_end}
-use Rattle.heap_law.specs.Naming.{started_at, made_at}
-use Rattle.heap_law.specs.OneHeap.{Node, mutex_n, gift_owner, gift_owner_of, spot_owner, owns, owner_in, named_in, any_named, is_in_state, if_in, or_else, first_shown, content_value, is_gift_of, is_joined_by, result_value, share_in}
-use Rattle.heap_law.specs.Coherent.{IsSound}
-use Rattle.event_law.proofs.Bags.{counts_of}
-use Rattle.event_law.proofs.ThreadThere.{thread_there}
+use Rattle.turn_law.specs.Below.fr_base.declared.name.MutexNo.{MutexNo}
+use Rattle.turn_law.specs.Below.fr_base.declared.instruction.Instr.{Instr}
+use Rattle.turn_law.specs.Below.heap_partition.Plain.{plain_of}
+use Rattle.turn_law.specs.Below.heap_partition.declared.value.Owned.{Owned}
+use Rattle.turn_law.specs.Below.thread_state.View.{ThreadState}
+use Rattle.turn_law.specs.Below.server_model.declared.event.Event.{Event}
+use Rattle.turn_law.specs.Below.server_model.Servers.{Server, Cluster}
+use Rattle.turn_law.specs.Below.server_model.Work.{thread_in}
+use Rattle.turn_law.specs.Below.heap_law.Names.{tot, one, some, if_so}
+use Rattle.turn_law.specs.Below.heap_law.Things.{as_gift, Thing, holds, gift_things}
+use Rattle.turn_law.specs.Below.heap_law.Follow.{Standing, thread_at}
+use Rattle.turn_law.specs.Below.heap_law.Sight.{Sight, sight}
+use Rattle.turn_law.specs.Below.heap_law.Paths.{joined_thread}
+use Rattle.turn_law.specs.Below.heap_law.Requests.{is_mutex, is_task, locked_mutex, is_par_end}
+use Rattle.turn_law.specs.Below.heap_law.Naming.{started_at, made_at}
+use Rattle.turn_law.specs.Below.heap_law.OneHeap.{Node, mutex_n, gift_owner, gift_owner_of, spot_owner, owns, owner_in, named_in, any_named, is_in_state, if_in, or_else, first_shown, content_value, is_gift_of, is_joined_by, result_value, share_in}
+use Rattle.turn_law.specs.Below.heap_law.Coherent.{IsSound}
+use Rattle.turn_law.proofs.Below.event_law.Bags.{counts_of}
+use Rattle.turn_law.proofs.Below.event_law.ThreadThere.{thread_there}
 use Rattle.turn_law.proofs.Events.{AtStep}
 use Rattle.lock_law.proofs.Beside.{IsBeside, IsLoose, loose_beside, all_so, gift_uncounted, itself}
 use Rattle.lock_law.proofs.ThreadTurns.{G, R, before, loose}

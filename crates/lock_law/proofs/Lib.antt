@@ -1,3 +1,4 @@
+pub mod Below
 pub mod Reach
 pub mod Beside
 pub mod TwoSights

@@ -1,40 +1,40 @@
 -- A lock whose answer came: the content comes out of the mutex, on the server and on the plain machine.
 use Rattle.std.proofs.Common.{◌≡◌, ℕ, ◌+◌, true, false, List, [], ◌∷◌, ◌++◌, map, reverse, Option, Some, None, option_map, refl, sym, ap, ap₂, subst, ◌∙◌, arith}
-use Rattle.fr_base.specs.declared.name.MutexNo.{MutexNo}
-use Rattle.fr_base.specs.declared.place.Lval.{Lval}
-use Rattle.fr_base.specs.declared.label.Label.TheVariants as label
-use Rattle.fr_base.specs.declared.label.Plain.TheVariants as plain
-use Rattle.fr_base.specs.declared.step.Fresh.{Fresh}
-use Rattle.fr_base.specs.declared.instruction.Instr.{Instr}
-use Rattle.fr_base.specs.declared.instruction.Instr.TheVariants as instr
-use Rattle.fr_plain.specs.declared.value.Value.{Value as PlainValue}
-use Rattle.fr_plain.specs.declared.value.Value.TheVariants as plain_v
-use Rattle.fr_plain.specs.MachineThreads.{with_mutex}
-use Rattle.fr_plain.specs.MachineActs.{do_lock}
-use Rattle.heap_partition.specs.Plain.{plain_of}
-use Rattle.heap_partition.specs.declared.value.Owned.{Owned}
-use Rattle.thread_state.specs.View.{ThreadState}
-use Rattle.thread_state.specs.declared.value.Value.{Value}
-use Rattle.thread_state.specs.declared.value.Value.TheVariants as value
-use Rattle.server_model.specs.declared.event.Event.{Event}
-use Rattle.server_model.specs.Servers.{Server, Cluster}
-use Rattle.server_model.specs.Work.{Hand}
-use Rattle.server_model.specs.Places.{Spot, value_at, load_at}
-use Rattle.server_model.specs.Prepare.{ReadTo, Prepared, ready, requested, nothing, prepare}
-use Rattle.server_model.specs.Commit.{waiting, take_gift, ask_lock, push_content, lock, mutex_at}
-use Rattle.server_model.specs.Events.{Stepped, committed, prepared, step}
-use Rattle.heap_law.specs.Names.{tot, one, some, if_so}
-use Rattle.heap_law.specs.Follow.{Standing}
-use Rattle.heap_law.specs.Things.{as_gift, Thing}
-use Rattle.heap_law.specs.Sight.{Sight, sight}
+use Rattle.turn_law.specs.Below.fr_base.declared.name.MutexNo.{MutexNo}
+use Rattle.turn_law.specs.Below.fr_base.declared.place.Lval.{Lval}
+use Rattle.turn_law.specs.Below.fr_base.declared.label.Label.TheVariants as label
+use Rattle.turn_law.specs.Below.fr_base.declared.label.Plain.TheVariants as plain
+use Rattle.turn_law.specs.Below.fr_base.declared.step.Fresh.{Fresh}
+use Rattle.turn_law.specs.Below.fr_base.declared.instruction.Instr.{Instr}
+use Rattle.turn_law.specs.Below.fr_base.declared.instruction.Instr.TheVariants as instr
+use Rattle.turn_law.specs.Below.fr_plain.declared.value.Value.{Value as PlainValue}
+use Rattle.turn_law.specs.Below.fr_plain.declared.value.Value.TheVariants as plain_v
+use Rattle.turn_law.specs.Below.fr_plain.MachineThreads.{with_mutex}
+use Rattle.turn_law.specs.Below.fr_plain.MachineActs.{do_lock}
+use Rattle.turn_law.specs.Below.heap_partition.Plain.{plain_of}
+use Rattle.turn_law.specs.Below.heap_partition.declared.value.Owned.{Owned}
+use Rattle.turn_law.specs.Below.thread_state.View.{ThreadState}
+use Rattle.turn_law.specs.Below.thread_state.declared.value.Value.{Value}
+use Rattle.turn_law.specs.Below.thread_state.declared.value.Value.TheVariants as value
+use Rattle.turn_law.specs.Below.server_model.declared.event.Event.{Event}
+use Rattle.turn_law.specs.Below.server_model.Servers.{Server, Cluster}
+use Rattle.turn_law.specs.Below.server_model.Work.{Hand}
+use Rattle.turn_law.specs.Below.server_model.Places.{Spot, value_at, load_at}
+use Rattle.turn_law.specs.Below.server_model.Prepare.{ReadTo, Prepared, ready, requested, nothing, prepare}
+use Rattle.turn_law.specs.Below.server_model.Commit.{waiting, take_gift, ask_lock, push_content, lock, mutex_at}
+use Rattle.turn_law.specs.Below.server_model.Events.{Stepped, committed, prepared, step}
+use Rattle.turn_law.specs.Below.heap_law.Names.{tot, one, some, if_so}
+use Rattle.turn_law.specs.Below.heap_law.Follow.{Standing}
+use Rattle.turn_law.specs.Below.heap_law.Things.{as_gift, Thing}
+use Rattle.turn_law.specs.Below.heap_law.Sight.{Sight, sight}
 use Rattle.turn_law.proofs.ReadWalk.{At, loads_of, passed_loads}
-use Rattle.heap_law.specs.Requests.{locked_mutex, is_mutex}
-use Rattle.heap_law.specs.OneHeap.{mutex_n, inside, content_owner, gift_owner, gift_owner_of, if_in, owns, owner_in, named_in, is_in_state, or_else, first_shown, content_value, share_in, spot_owner, running_at, plain_value, state_of}
-use Rattle.type_law.specs.ClusterTypes.{IsCoherent}
-use Rattle.event_law.specs.Laws.{Gives}
+use Rattle.turn_law.specs.Below.heap_law.Requests.{locked_mutex, is_mutex}
+use Rattle.turn_law.specs.Below.heap_law.OneHeap.{mutex_n, inside, content_owner, gift_owner, gift_owner_of, if_in, owns, owner_in, named_in, is_in_state, or_else, first_shown, content_value, share_in, spot_owner, running_at, plain_value, state_of}
+use Rattle.undone_law.specs.Below.type_law.ClusterTypes.{IsCoherent}
+use Rattle.turn_law.specs.Below.event_law.Laws.{Gives}
 use Rattle.plain_types.proofs.Mutexes.{mutex_cases}
-use Rattle.read_law.specs.Reading.{locks}
-use Rattle.still_law.proofs.Readied.{Readied}
+use Rattle.turn_law.specs.Below.read_law.Reading.{locks}
+use Rattle.turn_law.proofs.Below.still_law.Readied.{Readied}
 use Rattle.turn_law.proofs.Instructions.{shown_last, shown_push, owned_push}
 use Rattle.turn_law.proofs.StarLines.{h0}
 use Rattle.turn_law.proofs.StarSteps.{alike_owned}

@@ -2,51 +2,51 @@
 use Rattle.std.proofs.Common.{◌≡◌, ◌≢◌, ℕ, zero, suc, ◌+◌, ◌≤◌, ◌<◌, ◌==◌, ◌&&◌, nat_le, not, Bool, true, false, if◌then◌else◌, List, [], ◌∷◌, ◌++◌, Option, Some, None, is_some, option_map, refl, sym, ap, ap₂, subst, ◌∙◌, arith}
 use Rattle.std.specs.List.{AllByRecursion}
 use Rattle.std.proofs.lemmas.Bool.Decides.{nat_tests}
-use Rattle.fr_typing.proofs.PlaceLemmas.{eq_cases}
-use Rattle.fr_base.specs.declared.name.MutexNo.{MutexNo}
-use Rattle.fr_base.specs.declared.label.Plain.TheVariants as plain
-use Rattle.fr_base.specs.declared.step.Fresh.{Fresh}
-use Rattle.fr_base.specs.declared.step.Fresh.TheVariants as fresh
-use Rattle.fr_base.specs.declared.instruction.Operand.{Operand}
-use Rattle.fr_base.specs.declared.instruction.Instr.{Instr}
-use Rattle.fr_base.specs.declared.instruction.Instr.TheVariants as instr
-use Rattle.fr_plain.specs.declared.value.Value.{Value as PlainValue}
-use Rattle.fr_plain.specs.declared.value.Value.TheVariants as plain_v
-use Rattle.fr_plain.specs.PlainState.{SameState, plain_state}
-use Rattle.fr_plain.specs.MachineActs.{do_mutex}
-use Rattle.fr_plain.specs.MachineThreads.{Mutex as PlainMutex, Shared, mutex_at}
-use Rattle.fr_code.specs.Machine.{CodeWhole, CodeRunning}
-use Rattle.fr_code.specs.Steps.{Place, over_at, run_instr, loud}
-use Rattle.heap_partition.specs.Plain.{plain_of}
-use Rattle.heap_partition.specs.declared.value.Owned.{Owned}
-use Rattle.heap_partition.specs.declared.value.Owned.TheVariants as owned
-use Rattle.mutex_home.specs.Mutexes.{Mutex, Mutexes, make, can_make, next_mutex}
-use Rattle.read_cache.specs.Cache.{Copy}
-use Rattle.migration.specs.Packing.{unpin_all}
-use Rattle.thread_state.specs.View.{ThreadState}
-use Rattle.thread_state.specs.declared.value.Value.{Value}
-use Rattle.thread_state.specs.declared.value.Value.TheVariants as value
-use Rattle.server_model.specs.declared.event.Event.{Event}
-use Rattle.server_model.specs.Servers.{Server, Cluster}
-use Rattle.server_model.specs.Work.{Hand, Popped, working, with_mutexes, with_temps, with_cache, push_temp, pop, pop_owned, taken_as, owned_of, then_some}
-use Rattle.server_model.specs.Commit.{done_where, go_on, mutex_made}
-use Rattle.server_model.specs.Events.{Stepped, begin_work, committed, step}
-use Rattle.heap_law.specs.Names.{tot, one, some, if_so, same_mutex}
-use Rattle.heap_law.specs.Things.{Thing, holds, as_content, gift_things, things_at, mutex_things}
-use Rattle.heap_law.specs.Sight.{Sight}
-use Rattle.heap_law.specs.Naming.{started_at, made_at}
-use Rattle.heap_law.specs.OneHeap.{Node, object_n, mutex_n, task_n, inside, owns, named_in, any_named, is_in_state, if_in, or_else, first_shown, content_value, result_value, share_in, is_given_mutex, running_at, one_heap, state_of}
-use Rattle.heap_law.specs.Coherent.{IsSound}
-use Rattle.heap_law.proofs.Names.{same_mutexes}
-use Rattle.event_law.specs.Laws.{Gives}
-use Rattle.event_law.proofs.Trades.{Trade, trade_push}
-use Rattle.event_law.proofs.Bags.{counts_of, of_mutexes}
-use Rattle.event_law.proofs.GiftsTaken.{gift_fits}
-use Rattle.event_law.proofs.Results.{bind_gives}
-use Rattle.still_law.specs.Shows.{sign_of}
-use Rattle.still_law.proofs.Alike.{Once}
-use Rattle.still_law.proofs.Readied.{copies_ready}
-use Rattle.still_law.proofs.Told.{told, ones}
+use Rattle.turn_law.proofs.Below.fr_typing.PlaceLemmas.{eq_cases}
+use Rattle.turn_law.specs.Below.fr_base.declared.name.MutexNo.{MutexNo}
+use Rattle.turn_law.specs.Below.fr_base.declared.label.Plain.TheVariants as plain
+use Rattle.turn_law.specs.Below.fr_base.declared.step.Fresh.{Fresh}
+use Rattle.turn_law.specs.Below.fr_base.declared.step.Fresh.TheVariants as fresh
+use Rattle.turn_law.specs.Below.fr_base.declared.instruction.Operand.{Operand}
+use Rattle.turn_law.specs.Below.fr_base.declared.instruction.Instr.{Instr}
+use Rattle.turn_law.specs.Below.fr_base.declared.instruction.Instr.TheVariants as instr
+use Rattle.turn_law.specs.Below.fr_plain.declared.value.Value.{Value as PlainValue}
+use Rattle.turn_law.specs.Below.fr_plain.declared.value.Value.TheVariants as plain_v
+use Rattle.turn_law.specs.Below.fr_plain.PlainState.{SameState, plain_state}
+use Rattle.turn_law.specs.Below.fr_plain.MachineActs.{do_mutex}
+use Rattle.turn_law.specs.Below.fr_plain.MachineThreads.{Mutex as PlainMutex, Shared, mutex_at}
+use Rattle.turn_law.specs.Below.fr_code.Machine.{CodeWhole, CodeRunning}
+use Rattle.turn_law.specs.Below.fr_code.Steps.{Place, over_at, run_instr, loud}
+use Rattle.turn_law.specs.Below.heap_partition.Plain.{plain_of}
+use Rattle.turn_law.specs.Below.heap_partition.declared.value.Owned.{Owned}
+use Rattle.turn_law.specs.Below.heap_partition.declared.value.Owned.TheVariants as owned
+use Rattle.turn_law.specs.Below.mutex_home.Mutexes.{Mutex, Mutexes, make, can_make, next_mutex}
+use Rattle.turn_law.specs.Below.read_cache.Cache.{Copy}
+use Rattle.turn_law.specs.Below.migration.Packing.{unpin_all}
+use Rattle.turn_law.specs.Below.thread_state.View.{ThreadState}
+use Rattle.turn_law.specs.Below.thread_state.declared.value.Value.{Value}
+use Rattle.turn_law.specs.Below.thread_state.declared.value.Value.TheVariants as value
+use Rattle.turn_law.specs.Below.server_model.declared.event.Event.{Event}
+use Rattle.turn_law.specs.Below.server_model.Servers.{Server, Cluster}
+use Rattle.turn_law.specs.Below.server_model.Work.{Hand, Popped, working, with_mutexes, with_temps, with_cache, push_temp, pop, pop_owned, taken_as, owned_of, then_some}
+use Rattle.turn_law.specs.Below.server_model.Commit.{done_where, go_on, mutex_made}
+use Rattle.turn_law.specs.Below.server_model.Events.{Stepped, begin_work, committed, step}
+use Rattle.turn_law.specs.Below.heap_law.Names.{tot, one, some, if_so, same_mutex}
+use Rattle.turn_law.specs.Below.heap_law.Things.{Thing, holds, as_content, gift_things, things_at, mutex_things}
+use Rattle.turn_law.specs.Below.heap_law.Sight.{Sight}
+use Rattle.turn_law.specs.Below.heap_law.Naming.{started_at, made_at}
+use Rattle.turn_law.specs.Below.heap_law.OneHeap.{Node, object_n, mutex_n, task_n, inside, owns, named_in, any_named, is_in_state, if_in, or_else, first_shown, content_value, result_value, share_in, is_given_mutex, running_at, one_heap, state_of}
+use Rattle.turn_law.specs.Below.heap_law.Coherent.{IsSound}
+use Rattle.turn_law.proofs.Below.heap_law.Names.{same_mutexes}
+use Rattle.turn_law.specs.Below.event_law.Laws.{Gives}
+use Rattle.turn_law.proofs.Below.event_law.Trades.{Trade, trade_push}
+use Rattle.turn_law.proofs.Below.event_law.Bags.{counts_of, of_mutexes}
+use Rattle.turn_law.proofs.Below.event_law.GiftsTaken.{gift_fits}
+use Rattle.turn_law.proofs.Below.event_law.Results.{bind_gives}
+use Rattle.turn_law.specs.Below.still_law.Shows.{sign_of}
+use Rattle.turn_law.proofs.Below.still_law.Alike.{Once}
+use Rattle.turn_law.proofs.Below.still_law.Readied.{copies_ready}
+use Rattle.turn_law.proofs.Below.still_law.Told.{told, ones}
 use Rattle.plain_types.proofs.Mutexes.{mutex_cases}
 use Rattle.turn_law.specs.Turns.{StepsTo}
 use Rattle.turn_law.proofs.Parts.{Own, owned_in}

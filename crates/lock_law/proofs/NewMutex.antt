@@ -2,38 +2,38 @@
 use Rattle.std.proofs.Common.{◌≡◌, inl, inr, ℕ, zero, suc, ◌+◌, ◌≤◌, ◌<◌, ◌==◌, ◌&&◌, nat_le, not, Bool, true, false, if◌then◌else◌, List, [], ◌∷◌, ◌++◌, Option, Some, None, is_some, refl, sym, ap, ap₂, ◌∙◌, subst, arith}
 use Rattle.std.proofs.lemmas.Bool.Decides.{nat_tests}
 use Rattle.std.proofs.lemmas.Bool.{eqb-true}
-use Rattle.fr_typing.proofs.PlaceLemmas.{eq_cases}
-use Rattle.fr_base.specs.declared.name.MutexNo.{MutexNo}
-use Rattle.fr_base.specs.declared.instruction.Instr.{Instr}
-use Rattle.fr_base.specs.declared.instruction.Instr.TheVariants as instr
-use Rattle.heap_partition.specs.Plain.{plain_of}
-use Rattle.heap_partition.specs.declared.value.Owned.{Owned}
-use Rattle.heap_partition.specs.declared.value.Owned.TheVariants as owned
-use Rattle.mutex_home.specs.Mutexes.{next_mutex}
-use Rattle.thread_state.specs.View.{ThreadState}
-use Rattle.server_model.specs.declared.event.Event.{Event}
-use Rattle.server_model.specs.Servers.{Server, Cluster, server_at}
-use Rattle.server_model.specs.Work.{thread_in}
-use Rattle.heap_law.specs.Names.{tot, one, other, some, if_so, same_mutex, Among}
-use Rattle.heap_law.specs.Things.{in_slot, in_temp, as_gift, as_content, as_result, in_hand, Thing, holds, lies, flies, stands, at_home, counts, things_of}
-use Rattle.heap_law.specs.Follow.{Standing, threads_in, thread_at}
-use Rattle.heap_law.specs.Sight.{Sight, sight, with_things}
-use Rattle.heap_law.specs.Walking.{instr_of, sum_threads}
-use Rattle.heap_law.specs.Requests.{locked_mutex, is_mutex}
-use Rattle.heap_law.specs.Sharing.{owned_mutex, contents, gift_content}
-use Rattle.heap_law.specs.Naming.{made_at, threads, uncounted_thread, uncounted_mutex, named_mutexes, servers_wrong, pinned_parcel}
-use Rattle.heap_law.specs.Weights.{is_home_of}
-use Rattle.heap_law.specs.OneHeap.{Node, mutex_n, inside, content_owner, result_owner, gift_owner, gift_owner_of, owner_of, names, owns, if_in, content_value, is_gift_of, share_in, value_is_in, is_given_mutex}
-use Rattle.heap_law.specs.Coherent.{IsSound}
-use Rattle.heap_law.proofs.Names.{same_mutexes}
-use Rattle.event_law.specs.Sums.{is_server}
-use Rattle.event_law.proofs.KnownSound.{on_standing, sum_standing}
-use Rattle.event_law.proofs.Sound.{sound_has_sums}
-use Rattle.event_law.proofs.Trades.{tot-append}
-use Rattle.event_law.proofs.Bags.{counts_of, had_by}
-use Rattle.still_law.proofs.Counting.{stray, gifted}
-use Rattle.still_law.proofs.Told.{told, ones}
-use Rattle.path_law.proofs.Contained.{among_thread}
+use Rattle.turn_law.proofs.Below.fr_typing.PlaceLemmas.{eq_cases}
+use Rattle.turn_law.specs.Below.fr_base.declared.name.MutexNo.{MutexNo}
+use Rattle.turn_law.specs.Below.fr_base.declared.instruction.Instr.{Instr}
+use Rattle.turn_law.specs.Below.fr_base.declared.instruction.Instr.TheVariants as instr
+use Rattle.turn_law.specs.Below.heap_partition.Plain.{plain_of}
+use Rattle.turn_law.specs.Below.heap_partition.declared.value.Owned.{Owned}
+use Rattle.turn_law.specs.Below.heap_partition.declared.value.Owned.TheVariants as owned
+use Rattle.turn_law.specs.Below.mutex_home.Mutexes.{next_mutex}
+use Rattle.turn_law.specs.Below.thread_state.View.{ThreadState}
+use Rattle.turn_law.specs.Below.server_model.declared.event.Event.{Event}
+use Rattle.turn_law.specs.Below.server_model.Servers.{Server, Cluster, server_at}
+use Rattle.turn_law.specs.Below.server_model.Work.{thread_in}
+use Rattle.turn_law.specs.Below.heap_law.Names.{tot, one, other, some, if_so, same_mutex, Among}
+use Rattle.turn_law.specs.Below.heap_law.Things.{in_slot, in_temp, as_gift, as_content, as_result, in_hand, Thing, holds, lies, flies, stands, at_home, counts, things_of}
+use Rattle.turn_law.specs.Below.heap_law.Follow.{Standing, threads_in, thread_at}
+use Rattle.turn_law.specs.Below.heap_law.Sight.{Sight, sight, with_things}
+use Rattle.turn_law.specs.Below.heap_law.Walking.{instr_of, sum_threads}
+use Rattle.turn_law.specs.Below.heap_law.Requests.{locked_mutex, is_mutex}
+use Rattle.turn_law.specs.Below.heap_law.Sharing.{owned_mutex, contents, gift_content}
+use Rattle.turn_law.specs.Below.heap_law.Naming.{made_at, threads, uncounted_thread, uncounted_mutex, named_mutexes, servers_wrong, pinned_parcel}
+use Rattle.turn_law.specs.Below.heap_law.Weights.{is_home_of}
+use Rattle.turn_law.specs.Below.heap_law.OneHeap.{Node, mutex_n, inside, content_owner, result_owner, gift_owner, gift_owner_of, owner_of, names, owns, if_in, content_value, is_gift_of, share_in, value_is_in, is_given_mutex}
+use Rattle.turn_law.specs.Below.heap_law.Coherent.{IsSound}
+use Rattle.turn_law.proofs.Below.heap_law.Names.{same_mutexes}
+use Rattle.turn_law.specs.Below.event_law.Sums.{is_server}
+use Rattle.turn_law.proofs.Below.event_law.KnownSound.{on_standing, sum_standing}
+use Rattle.turn_law.proofs.Below.event_law.Sound.{sound_has_sums}
+use Rattle.turn_law.proofs.Below.event_law.Trades.{tot-append}
+use Rattle.turn_law.proofs.Below.event_law.Bags.{counts_of, had_by}
+use Rattle.turn_law.proofs.Below.still_law.Counting.{stray, gifted}
+use Rattle.turn_law.proofs.Below.still_law.Told.{told, ones}
+use Rattle.undone_law.proofs.Below.path_law.Contained.{among_thread}
 use Rattle.turn_law.proofs.Parts.{Own}
 use Rattle.turn_law.proofs.Events.{itself_counts}
 use Rattle.lock_law.proofs.Reach.{NoneUnder}

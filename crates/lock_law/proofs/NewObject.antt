@@ -2,45 +2,45 @@
 use Rattle.std.proofs.Common.{◌≡◌, ◌≢◌, ℕ, ◌+◌, ◌≤◌, ◌==◌, ◌&&◌, not, Bool, true, false, List, [], ◌∷◌, ◌++◌, Option, Some, None, is_some, option_map, refl, sym, ap, ap₂, ◌∙◌, subst, arith}
 use Rattle.std.specs.Prelude.{slice_get, if◌then◌else◌}
 use Rattle.std.specs.List.{AllByRecursion}
-use Rattle.fr_typing.proofs.PlaceLemmas.{eq_cases}
-use Rattle.fr_store.proofs.Keys.{object_cases}
-use Rattle.fr_base.specs.declared.name.MutexNo.{MutexNo}
-use Rattle.fr_base.specs.declared.name.ObjNo.{ObjNo}
-use Rattle.fr_base.specs.declared.label.Plain.{Plain}
-use Rattle.fr_base.specs.declared.instruction.Operand.{Operand}
-use Rattle.fr_base.specs.declared.instruction.Instr.{Instr}
-use Rattle.fr_base.specs.declared.instruction.Instr.TheVariants as instr
-use Rattle.heap_partition.specs.Plain.{plain_of}
-use Rattle.heap_partition.specs.declared.value.Cell.{Cell}
-use Rattle.heap_partition.specs.declared.value.Owned.{Owned}
-use Rattle.heap_partition.specs.declared.value.Owned.TheVariants as owned
-use Rattle.owner_box.specs.View.{PartitionState}
-use Rattle.thread_state.specs.View.{ThreadState, is_over}
-use Rattle.thread_state.specs.declared.value.Value.{Value}
-use Rattle.thread_state.specs.declared.value.Value.TheVariants as value
-use Rattle.server_model.specs.declared.event.Event.{Event}
-use Rattle.server_model.specs.Servers.{Server, Cluster}
-use Rattle.heap_law.specs.Names.{tot, one, if_so, same_object}
-use Rattle.heap_law.specs.Things.{Location, at_slot, at_temp, in_cell, in_slot, in_temp, as_gift, as_content, as_result, in_hand, Thing, holds, lies, flies, gift_things, things_of}
-use Rattle.heap_law.specs.Follow.{Standing, threads_in, thread_at, cells_in, cell_of, value_of, locate}
-use Rattle.heap_law.specs.Sight.{Sight, sight}
-use Rattle.heap_law.specs.Paths.{joined_thread}
-use Rattle.heap_law.specs.Walking.{instr_of}
-use Rattle.heap_law.specs.Requests.{locked_mutex}
-use Rattle.heap_law.specs.Weights.{cells}
-use Rattle.heap_law.specs.Naming.{started_at, made_at}
-use Rattle.heap_law.specs.OneHeap.{Node, object_n, mutex_n, task_n, inside, content_owner, result_owner, gift_owner, gift_owner_of, owner_of, owns, named_in, any_named, is_in_state, if_in, cell_value, or_else, first_shown, object_value, content_value, share_in, in_pair_of, result_value, is_given_mutex, running_at, state_of}
-use Rattle.type_law.specs.ClusterTypes.{IsCoherent}
-use Rattle.event_law.proofs.Bags.{counts_of}
-use Rattle.event_law.proofs.Boxes.{goes_as, all_new}
-use Rattle.event_law.proofs.GiftsTaken.{gift_fits}
-use Rattle.event_law.proofs.Sound.{sound_has_sums}
-use Rattle.still_law.proofs.Alike.{Once, SeenAt, LocksSeeIn}
-use Rattle.still_law.proofs.PlainValues.{shown_of}
-use Rattle.still_law.specs.Shows.{ShownThread}
-use Rattle.still_law.proofs.Told.{told, ones}
+use Rattle.turn_law.proofs.Below.fr_typing.PlaceLemmas.{eq_cases}
+use Rattle.turn_law.proofs.Below.fr_store.Keys.{object_cases}
+use Rattle.turn_law.specs.Below.fr_base.declared.name.MutexNo.{MutexNo}
+use Rattle.turn_law.specs.Below.fr_base.declared.name.ObjNo.{ObjNo}
+use Rattle.turn_law.specs.Below.fr_base.declared.label.Plain.{Plain}
+use Rattle.turn_law.specs.Below.fr_base.declared.instruction.Operand.{Operand}
+use Rattle.turn_law.specs.Below.fr_base.declared.instruction.Instr.{Instr}
+use Rattle.turn_law.specs.Below.fr_base.declared.instruction.Instr.TheVariants as instr
+use Rattle.turn_law.specs.Below.heap_partition.Plain.{plain_of}
+use Rattle.turn_law.specs.Below.heap_partition.declared.value.Cell.{Cell}
+use Rattle.turn_law.specs.Below.heap_partition.declared.value.Owned.{Owned}
+use Rattle.turn_law.specs.Below.heap_partition.declared.value.Owned.TheVariants as owned
+use Rattle.turn_law.specs.Below.owner_box.View.{PartitionState}
+use Rattle.turn_law.specs.Below.thread_state.View.{ThreadState, is_over}
+use Rattle.turn_law.specs.Below.thread_state.declared.value.Value.{Value}
+use Rattle.turn_law.specs.Below.thread_state.declared.value.Value.TheVariants as value
+use Rattle.turn_law.specs.Below.server_model.declared.event.Event.{Event}
+use Rattle.turn_law.specs.Below.server_model.Servers.{Server, Cluster}
+use Rattle.turn_law.specs.Below.heap_law.Names.{tot, one, if_so, same_object}
+use Rattle.turn_law.specs.Below.heap_law.Things.{Location, at_slot, at_temp, in_cell, in_slot, in_temp, as_gift, as_content, as_result, in_hand, Thing, holds, lies, flies, gift_things, things_of}
+use Rattle.turn_law.specs.Below.heap_law.Follow.{Standing, threads_in, thread_at, cells_in, cell_of, value_of, locate}
+use Rattle.turn_law.specs.Below.heap_law.Sight.{Sight, sight}
+use Rattle.turn_law.specs.Below.heap_law.Paths.{joined_thread}
+use Rattle.turn_law.specs.Below.heap_law.Walking.{instr_of}
+use Rattle.turn_law.specs.Below.heap_law.Requests.{locked_mutex}
+use Rattle.turn_law.specs.Below.heap_law.Weights.{cells}
+use Rattle.turn_law.specs.Below.heap_law.Naming.{started_at, made_at}
+use Rattle.turn_law.specs.Below.heap_law.OneHeap.{Node, object_n, mutex_n, task_n, inside, content_owner, result_owner, gift_owner, gift_owner_of, owner_of, owns, named_in, any_named, is_in_state, if_in, cell_value, or_else, first_shown, object_value, content_value, share_in, in_pair_of, result_value, is_given_mutex, running_at, state_of}
+use Rattle.undone_law.specs.Below.type_law.ClusterTypes.{IsCoherent}
+use Rattle.turn_law.proofs.Below.event_law.Bags.{counts_of}
+use Rattle.turn_law.proofs.Below.event_law.Boxes.{goes_as, all_new}
+use Rattle.turn_law.proofs.Below.event_law.GiftsTaken.{gift_fits}
+use Rattle.turn_law.proofs.Below.event_law.Sound.{sound_has_sums}
+use Rattle.turn_law.proofs.Below.still_law.Alike.{Once, SeenAt, LocksSeeIn}
+use Rattle.turn_law.proofs.Below.still_law.PlainValues.{shown_of}
+use Rattle.turn_law.specs.Below.still_law.Shows.{ShownThread}
+use Rattle.turn_law.proofs.Below.still_law.Told.{told, ones}
 use Rattle.undone_law.proofs.Locks.{locks_pass}
-use Rattle.path_law.proofs.Alike.{coherent_has_paths}
+use Rattle.undone_law.proofs.Below.path_law.Alike.{coherent_has_paths}
 use Rattle.turn_law.proofs.Parts.{Own, owned_in}
 use Rattle.turn_law.proofs.OneTurn.{of_thread, Calm, after}
 use Rattle.turn_law.proofs.Instructions.{Pops, owned_push}

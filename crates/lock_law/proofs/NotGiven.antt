@@ -1,23 +1,23 @@
 -- A thread that stands somewhere while its name wasn't given shows nothing: the state is the same with it and without it.
 use Rattle.std.proofs.Common.{◌≡◌, ◌≢◌, ℕ, zero, suc, ◌+◌, ◌≤◌, ◌==◌, ◌||◌, not, Bool, true, false, if◌then◌else◌, List, [], ◌∷◌, Option, Some, None, refl, sym, ap, ap₂, ◌∙◌, subst, arith}
 use Rattle.std.specs.Prelude.{◌%◌, ◌^◌, ◌&&◌}
-use Rattle.fr_typing.proofs.PlaceLemmas.{eq_cases}
-use Rattle.fr_base.specs.declared.label.Plain.TheVariants as plain
-use Rattle.fr_base.specs.declared.name.MutexNo.{MutexNo}
-use Rattle.fr_plain.specs.PlainState.{SameState}
-use Rattle.thread_state.specs.View.{ThreadState, is_over}
-use Rattle.server_model.specs.Servers.{Cluster}
-use Rattle.heap_law.specs.Names.{tot, one, some, if_so}
-use Rattle.heap_law.specs.Things.{Thing, stands}
-use Rattle.heap_law.specs.Follow.{Standing, threads_in, thread_at}
-use Rattle.heap_law.specs.Sight.{Sight, with_things}
-use Rattle.heap_law.specs.Requests.{home_of}
-use Rattle.heap_law.specs.Naming.{started_at, made_at}
-use Rattle.heap_law.specs.Weights.{is_thread}
-use Rattle.heap_law.specs.OneHeap.{Node, object_n, mutex_n, task_n, Owner, inside, a_thread, outside, names, owner_of, owner_in, is_in_state, if_in, cell_value, or_else, first_shown, content_value, share_in, if_there, in_pair_of, is_branch, branch_result, result_value, result_of, ended_with, running_at, life_of, life_at, made_of, pair_of, is_given_thread, if_given, state_of}
-use Rattle.still_law.proofs.Alike.{Once}
-use Rattle.still_law.proofs.Counting.{shown_result, stray}
-use Rattle.still_law.proofs.Told.{told, ones}
+use Rattle.turn_law.proofs.Below.fr_typing.PlaceLemmas.{eq_cases}
+use Rattle.turn_law.specs.Below.fr_base.declared.label.Plain.TheVariants as plain
+use Rattle.turn_law.specs.Below.fr_base.declared.name.MutexNo.{MutexNo}
+use Rattle.turn_law.specs.Below.fr_plain.PlainState.{SameState}
+use Rattle.turn_law.specs.Below.thread_state.View.{ThreadState, is_over}
+use Rattle.turn_law.specs.Below.server_model.Servers.{Cluster}
+use Rattle.turn_law.specs.Below.heap_law.Names.{tot, one, some, if_so}
+use Rattle.turn_law.specs.Below.heap_law.Things.{Thing, stands}
+use Rattle.turn_law.specs.Below.heap_law.Follow.{Standing, threads_in, thread_at}
+use Rattle.turn_law.specs.Below.heap_law.Sight.{Sight, with_things}
+use Rattle.turn_law.specs.Below.heap_law.Requests.{home_of}
+use Rattle.turn_law.specs.Below.heap_law.Naming.{started_at, made_at}
+use Rattle.turn_law.specs.Below.heap_law.Weights.{is_thread}
+use Rattle.turn_law.specs.Below.heap_law.OneHeap.{Node, object_n, mutex_n, task_n, Owner, inside, a_thread, outside, names, owner_of, owner_in, is_in_state, if_in, cell_value, or_else, first_shown, content_value, share_in, if_there, in_pair_of, is_branch, branch_result, result_value, result_of, ended_with, running_at, life_of, life_at, made_of, pair_of, is_given_thread, if_given, state_of}
+use Rattle.turn_law.proofs.Below.still_law.Alike.{Once}
+use Rattle.turn_law.proofs.Below.still_law.Counting.{shown_result, stray}
+use Rattle.turn_law.proofs.Below.still_law.Told.{told, ones}
 use Rattle.turn_law.proofs.OneTurn.{as_loose, as_owing, life_as, going_of, going_is, of_thread, none_at, Calm}
 use Rattle.lock_law.proofs.Reach.{SameOwners, closes, least, same_named}
 use Rattle.lock_law.proofs.TwoSights as two

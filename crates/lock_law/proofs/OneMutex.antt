@@ -1,25 +1,25 @@
 -- A thread's turn in which a value goes into a mutex, or comes out of it, or a share of the mutex is new: what is as it was.
 use Rattle.std.proofs.Common.{◌≡◌, ◌≢◌, ℕ, ◌+◌, ◌≤◌, Bool, true, false, List, [], ◌∷◌, Option, Some, None, is_some, refl, sym, ap, ap₂, ◌∙◌, arith}
 use Rattle.std.specs.List.{AllByRecursion}
-use Rattle.fr_base.specs.declared.name.MutexNo.{MutexNo}
-use Rattle.fr_base.specs.declared.name.ObjNo.{ObjNo}
-use Rattle.heap_partition.specs.declared.value.Owned.{Owned}
-use Rattle.heap_partition.specs.declared.value.Owned.TheVariants as owned
-use Rattle.thread_state.specs.View.{ThreadState}
-use Rattle.thread_state.specs.declared.value.Value.{Value}
-use Rattle.server_model.specs.Servers.{Cluster}
-use Rattle.heap_law.specs.Names.{tot, one, same_mutex}
-use Rattle.heap_law.specs.Things.{Thing, noted, lies, flies}
-use Rattle.fr_base.specs.declared.label.Plain.{Plain}
-use Rattle.fr_plain.specs.MachineThreads.{Shared}
-use Rattle.heap_law.specs.Naming.{started_at}
-use Rattle.heap_law.specs.Sight.{Sight}
-use Rattle.heap_law.specs.OneHeap.{Node, object_n, mutex_n, task_n, owns, any_named, is_in_state, cell_value, or_else, first_shown, object_value, content_value, share_in, if_there, in_pair_of, result_value, running_at, is_given_thread, state_of}
-use Rattle.still_law.proofs.Alike.{Once}
-use Rattle.still_law.proofs.Counting.{shown_result}
-use Rattle.still_law.proofs.Told.{told, ones}
+use Rattle.turn_law.specs.Below.fr_base.declared.name.MutexNo.{MutexNo}
+use Rattle.turn_law.specs.Below.fr_base.declared.name.ObjNo.{ObjNo}
+use Rattle.turn_law.specs.Below.heap_partition.declared.value.Owned.{Owned}
+use Rattle.turn_law.specs.Below.heap_partition.declared.value.Owned.TheVariants as owned
+use Rattle.turn_law.specs.Below.thread_state.View.{ThreadState}
+use Rattle.turn_law.specs.Below.thread_state.declared.value.Value.{Value}
+use Rattle.turn_law.specs.Below.server_model.Servers.{Cluster}
+use Rattle.turn_law.specs.Below.heap_law.Names.{tot, one, same_mutex}
+use Rattle.turn_law.specs.Below.heap_law.Things.{Thing, noted, lies, flies}
+use Rattle.turn_law.specs.Below.fr_base.declared.label.Plain.{Plain}
+use Rattle.turn_law.specs.Below.fr_plain.MachineThreads.{Shared}
+use Rattle.turn_law.specs.Below.heap_law.Naming.{started_at}
+use Rattle.turn_law.specs.Below.heap_law.Sight.{Sight}
+use Rattle.turn_law.specs.Below.heap_law.OneHeap.{Node, object_n, mutex_n, task_n, owns, any_named, is_in_state, cell_value, or_else, first_shown, object_value, content_value, share_in, if_there, in_pair_of, result_value, running_at, is_given_thread, state_of}
+use Rattle.turn_law.proofs.Below.still_law.Alike.{Once}
+use Rattle.turn_law.proofs.Below.still_law.Counting.{shown_result}
+use Rattle.turn_law.proofs.Below.still_law.Told.{told, ones}
 use Rattle.plain_types.proofs.Mutexes.{mutex_cases}
-use Rattle.heap_law.proofs.Names.{same_mutexes}
+use Rattle.turn_law.proofs.Below.heap_law.Names.{same_mutexes}
 use Rattle.turn_law.proofs.Parts.{Own, owned_in}
 use Rattle.turn_law.proofs.OneTurn.{of_thread, Calm, after}
 use Rattle.lock_law.proofs.Reach.{NoneUnder, with_extra}

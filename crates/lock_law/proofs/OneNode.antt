@@ -1,12 +1,12 @@
 -- A thread's turn in which a value goes to a node, or comes from it, or the thread has something new or loses it: who is in the state.
 use Rattle.std.proofs.Common.{◌≡◌, ℕ, zero, suc, ◌+◌, ◌≤◌, Bool, true, false, List, Option, Some, None, is_some, refl, sym, ◌∙◌, arith}
 use Rattle.std.specs.List.{AllByRecursion}
-use Rattle.heap_partition.specs.declared.value.Owned.{Owned}
-use Rattle.thread_state.specs.View.{ThreadState}
-use Rattle.server_model.specs.Servers.{Cluster}
-use Rattle.heap_law.specs.Names.{tot, one, some}
-use Rattle.heap_law.specs.Things.{Thing}
-use Rattle.heap_law.specs.OneHeap.{Node, inside, owns, named_in, any_named, is_in_state}
+use Rattle.turn_law.specs.Below.heap_partition.declared.value.Owned.{Owned}
+use Rattle.turn_law.specs.Below.thread_state.View.{ThreadState}
+use Rattle.turn_law.specs.Below.server_model.Servers.{Cluster}
+use Rattle.turn_law.specs.Below.heap_law.Names.{tot, one, some}
+use Rattle.turn_law.specs.Below.heap_law.Things.{Thing}
+use Rattle.turn_law.specs.Below.heap_law.OneHeap.{Node, inside, owns, named_in, any_named, is_in_state}
 use Rattle.turn_law.proofs.Parts.{owned_in}
 use Rattle.turn_law.proofs.OneTurn.{of_thread}
 use Rattle.lock_law.proofs.Reach.{or_cases, or_left, or_right, NoneUnder, with_extra, here, stays_in, comes_from}

@@ -2,31 +2,31 @@
 use Rattle.std.proofs.Common.{◌≡◌, ◌≢◌, ℕ, zero, suc, ◌+◌, ◌==◌, ◌||◌, ◌≤◌, not, Bool, true, false, if◌then◌else◌, List, [], ◌∷◌, Option, Some, None, refl, sym, ap, ap₂, ◌∙◌, subst, arith}
 use Rattle.std.specs.Prelude.{◌%◌, ◌^◌, ◌&&◌}
 use Rattle.std.specs.List.{AllByRecursion}
-use Rattle.fr_typing.proofs.PlaceLemmas.{eq_cases}
-use Rattle.fr_base.specs.declared.name.MutexNo.{MutexNo}
-use Rattle.fr_base.specs.declared.name.ObjNo.{ObjNo}
-use Rattle.fr_base.specs.declared.label.Plain.{Plain}
-use Rattle.fr_base.specs.declared.label.Plain.TheVariants as plain
-use Rattle.fr_code.specs.Machine.{CodeState, CodeRunning}
-use Rattle.thread_state.specs.View.{ThreadState, is_over}
-use Rattle.thread_state.specs.declared.phase.Phase.{Phase}
-use Rattle.thread_state.specs.declared.phase.Phase.TheVariants as phase
-use Rattle.thread_state.specs.declared.value.Value.{Value}
-use Rattle.server_model.specs.Servers.{Cluster}
-use Rattle.heap_law.specs.Names.{tot, one, some, if_so}
-use Rattle.heap_law.specs.Things.{Thing, stands, noted}
-use Rattle.heap_law.specs.Follow.{Standing, threads_in, thread_at, cells_in, cell_of, value_of}
-use Rattle.heap_law.specs.Sight.{Sight, with_things}
-use Rattle.heap_law.specs.Walking.{instr_of}
-use Rattle.heap_law.specs.Requests.{home_of, locked_mutex}
-use Rattle.heap_law.specs.Sharing.{got_phase, has_ended}
-use Rattle.heap_law.specs.Naming.{started_at, made_at}
-use Rattle.heap_law.specs.Weights.{is_thread}
-use Rattle.heap_law.specs.OneHeap.{pair_over, Node, object_n, mutex_n, task_n, Owner, a_thread, inside, outside, owner_of, names, owner_in, is_in_state, if_in, cell_value, or_else, first_shown, object_value, content_value, share_in, if_there, in_pair_of, is_branch, branch_result, result_value, result_of, ended_with, running_at, life_of, life_at, made_of, two_in, pair_of, is_given_thread, is_given_mutex, if_given, state_of}
-use Rattle.still_law.proofs.Alike.{Once, LocksSeeIn}
-use Rattle.still_law.proofs.Counting.{shown_result, stray}
-use Rattle.still_law.proofs.Told.{told, ones}
-use Rattle.path_law.proofs.Contained.{among_thread}
+use Rattle.turn_law.proofs.Below.fr_typing.PlaceLemmas.{eq_cases}
+use Rattle.turn_law.specs.Below.fr_base.declared.name.MutexNo.{MutexNo}
+use Rattle.turn_law.specs.Below.fr_base.declared.name.ObjNo.{ObjNo}
+use Rattle.turn_law.specs.Below.fr_base.declared.label.Plain.{Plain}
+use Rattle.turn_law.specs.Below.fr_base.declared.label.Plain.TheVariants as plain
+use Rattle.turn_law.specs.Below.fr_code.Machine.{CodeState, CodeRunning}
+use Rattle.turn_law.specs.Below.thread_state.View.{ThreadState, is_over}
+use Rattle.turn_law.specs.Below.thread_state.declared.phase.Phase.{Phase}
+use Rattle.turn_law.specs.Below.thread_state.declared.phase.Phase.TheVariants as phase
+use Rattle.turn_law.specs.Below.thread_state.declared.value.Value.{Value}
+use Rattle.turn_law.specs.Below.server_model.Servers.{Cluster}
+use Rattle.turn_law.specs.Below.heap_law.Names.{tot, one, some, if_so}
+use Rattle.turn_law.specs.Below.heap_law.Things.{Thing, stands, noted}
+use Rattle.turn_law.specs.Below.heap_law.Follow.{Standing, threads_in, thread_at, cells_in, cell_of, value_of}
+use Rattle.turn_law.specs.Below.heap_law.Sight.{Sight, with_things}
+use Rattle.turn_law.specs.Below.heap_law.Walking.{instr_of}
+use Rattle.turn_law.specs.Below.heap_law.Requests.{home_of, locked_mutex}
+use Rattle.turn_law.specs.Below.heap_law.Sharing.{got_phase, has_ended}
+use Rattle.turn_law.specs.Below.heap_law.Naming.{started_at, made_at}
+use Rattle.turn_law.specs.Below.heap_law.Weights.{is_thread}
+use Rattle.turn_law.specs.Below.heap_law.OneHeap.{pair_over, Node, object_n, mutex_n, task_n, Owner, a_thread, inside, outside, owner_of, names, owner_in, is_in_state, if_in, cell_value, or_else, first_shown, object_value, content_value, share_in, if_there, in_pair_of, is_branch, branch_result, result_value, result_of, ended_with, running_at, life_of, life_at, made_of, two_in, pair_of, is_given_thread, is_given_mutex, if_given, state_of}
+use Rattle.turn_law.proofs.Below.still_law.Alike.{Once, LocksSeeIn}
+use Rattle.turn_law.proofs.Below.still_law.Counting.{shown_result, stray}
+use Rattle.turn_law.proofs.Below.still_law.Told.{told, ones}
+use Rattle.undone_law.proofs.Below.path_law.Contained.{among_thread}
 use Rattle.turn_law.proofs.Parts.{Own, owned_in}
 use Rattle.turn_law.proofs.OneTurn.{Going, as_loose, as_owing, life_as, going_of, going_is, of_thread, Calm, after}
 use Rattle.lock_law.proofs.Reach.{SameOwners, NoneUnder, with_extra}

@@ -1,30 +1,30 @@
 -- The mutex to which a thread's place leads is in the state.
 use Rattle.std.proofs.Common.{◌≡◌, inl, inr, ℕ, zero, suc, ◌+◌, ◌≤◌, Bool, true, false, List, [], ◌∷◌, Option, Some, None, refl, sym, ap, ◌∙◌, subst, arith}
 use Rattle.std.specs.Prelude.{slice_get}
-use Rattle.fr_base.specs.declared.name.MutexNo.{MutexNo}
-use Rattle.fr_base.specs.declared.name.ObjNo.{ObjNo}
-use Rattle.fr_base.specs.declared.label.Plain.{Plain}
-use Rattle.fr_base.specs.declared.instruction.Instr.{Instr}
-use Rattle.fr_plain.specs.MachineThreads.{Shared}
-use Rattle.fr_sound.specs.Seen.{seen_cell}
-use Rattle.heap_partition.specs.declared.value.Cell.{Cell}
-use Rattle.heap_partition.specs.declared.value.Owned.TheVariants as owned
-use Rattle.thread_state.specs.View.{ThreadState}
-use Rattle.thread_state.specs.declared.value.Value.{Value}
-use Rattle.thread_state.specs.declared.value.Value.TheVariants as value
-use Rattle.server_model.specs.declared.event.Event.{Event}
-use Rattle.server_model.specs.Servers.{Server, Cluster}
-use Rattle.heap_law.specs.Names.{one, some, same_mutex, Among}
-use Rattle.heap_law.specs.Things.{Location, Thing, things_of}
-use Rattle.heap_law.specs.Follow.{Standing, cell_of, slot_of, value_of, value_in, locate}
-use Rattle.heap_law.specs.Sight.{Sight, sight}
-use Rattle.heap_law.specs.Requests.{is_par_end}
-use Rattle.heap_law.specs.OneHeap.{Node, object_n, mutex_n, inside, owner_of, names, owns, named_in, any_named, is_in_state, if_in, cell_value, first_shown, object_value, if_there}
-use Rattle.type_law.specs.ClusterTypes.{IsCoherent}
-use Rattle.path_law.specs.HeapStore.{HasPaths}
-use Rattle.path_law.proofs.Alike.{IsShown, a_slot, an_object, coherent_has_paths}
-use Rattle.path_law.proofs.Shown.{stands_there}
-use Rattle.word_law.proofs.Standing.{CellOf, lying, flying, InCell, cell_among}
+use Rattle.turn_law.specs.Below.fr_base.declared.name.MutexNo.{MutexNo}
+use Rattle.turn_law.specs.Below.fr_base.declared.name.ObjNo.{ObjNo}
+use Rattle.turn_law.specs.Below.fr_base.declared.label.Plain.{Plain}
+use Rattle.turn_law.specs.Below.fr_base.declared.instruction.Instr.{Instr}
+use Rattle.turn_law.specs.Below.fr_plain.MachineThreads.{Shared}
+use Rattle.undone_law.specs.Below.fr_sound.Seen.{seen_cell}
+use Rattle.turn_law.specs.Below.heap_partition.declared.value.Cell.{Cell}
+use Rattle.turn_law.specs.Below.heap_partition.declared.value.Owned.TheVariants as owned
+use Rattle.turn_law.specs.Below.thread_state.View.{ThreadState}
+use Rattle.turn_law.specs.Below.thread_state.declared.value.Value.{Value}
+use Rattle.turn_law.specs.Below.thread_state.declared.value.Value.TheVariants as value
+use Rattle.turn_law.specs.Below.server_model.declared.event.Event.{Event}
+use Rattle.turn_law.specs.Below.server_model.Servers.{Server, Cluster}
+use Rattle.turn_law.specs.Below.heap_law.Names.{one, some, same_mutex, Among}
+use Rattle.turn_law.specs.Below.heap_law.Things.{Location, Thing, things_of}
+use Rattle.turn_law.specs.Below.heap_law.Follow.{Standing, cell_of, slot_of, value_of, value_in, locate}
+use Rattle.turn_law.specs.Below.heap_law.Sight.{Sight, sight}
+use Rattle.turn_law.specs.Below.heap_law.Requests.{is_par_end}
+use Rattle.turn_law.specs.Below.heap_law.OneHeap.{Node, object_n, mutex_n, inside, owner_of, names, owns, named_in, any_named, is_in_state, if_in, cell_value, first_shown, object_value, if_there}
+use Rattle.undone_law.specs.Below.type_law.ClusterTypes.{IsCoherent}
+use Rattle.undone_law.specs.Below.path_law.HeapStore.{HasPaths}
+use Rattle.undone_law.proofs.Below.path_law.Alike.{IsShown, a_slot, an_object, coherent_has_paths}
+use Rattle.undone_law.proofs.Below.path_law.Shown.{stands_there}
+use Rattle.turn_law.proofs.Below.word_law.Standing.{CellOf, lying, flying, InCell, cell_among}
 use Rattle.plain_types.proofs.Mutexes.{mutex_cases}
 use Rattle.turn_law.proofs.Parts.{value_owns, owned_in}
 use Rattle.turn_law.proofs.Events.{AtStep}

@@ -2,25 +2,25 @@
 use Rattle.std.proofs.Common.{◌≡◌, ◌≢◌, ℕ, ◌+◌, false, if◌then◌else◌, List, [], ◌∷◌, ◌++◌, length, Some, None, sym, ap, ◌∙◌, subst}
 use Rattle.std.specs.Prelude.{slice_get}
 use Rattle.std.proofs.lemmas.List.{length-append}
-use Rattle.fr_typing.proofs.PlaceLemmas.{eq_cases}
-use Rattle.fr_store.proofs.Keys.{object_cases}
-use Rattle.fr_base.specs.declared.name.MutexNo.{MutexNo}
-use Rattle.fr_base.specs.declared.name.ObjNo.{ObjNo}
-use Rattle.fr_base.specs.declared.label.Label.TheVariants as label
-use Rattle.fr_base.specs.declared.label.Plain.{Plain}
-use Rattle.fr_base.specs.declared.label.Plain.TheVariants as plain
-use Rattle.fr_base.specs.declared.step.Fresh.TheVariants as fresh
-use Rattle.fr_base.specs.declared.instruction.Instr.{Instr}
-use Rattle.fr_plain.specs.declared.value.Value.{Value}
-use Rattle.fr_plain.specs.declared.value.Value.TheVariants.{Own}
-use Rattle.fr_plain.specs.Heap.{Heap, made_by, cell_at, next_object, with_object}
-use Rattle.fr_plain.specs.MachineActs.{do_box}
-use Rattle.fr_plain.specs.MachineThreads.{going, thread_at, with_thread, pair_of, count_both}
-use Rattle.fr_plain.specs.Machine.{step_of, then_released}
-use Rattle.fr_plain.specs.PlainState.{SameState, is_over_in, two_of, plain_state}
-use Rattle.fr_plain.proofs.HeapLemmas.{made_same, made_other, new_same, new_other}
-use Rattle.fr_code.specs.Machine.{CodeLife, CodeWhole, CodeStepped, CodeRunning, CodeState}
-use Rattle.fr_code.specs.Steps.{Place, code_move, code_moves, over_at}
+use Rattle.turn_law.proofs.Below.fr_typing.PlaceLemmas.{eq_cases}
+use Rattle.turn_law.proofs.Below.fr_store.Keys.{object_cases}
+use Rattle.turn_law.specs.Below.fr_base.declared.name.MutexNo.{MutexNo}
+use Rattle.turn_law.specs.Below.fr_base.declared.name.ObjNo.{ObjNo}
+use Rattle.turn_law.specs.Below.fr_base.declared.label.Label.TheVariants as label
+use Rattle.turn_law.specs.Below.fr_base.declared.label.Plain.{Plain}
+use Rattle.turn_law.specs.Below.fr_base.declared.label.Plain.TheVariants as plain
+use Rattle.turn_law.specs.Below.fr_base.declared.step.Fresh.TheVariants as fresh
+use Rattle.turn_law.specs.Below.fr_base.declared.instruction.Instr.{Instr}
+use Rattle.turn_law.specs.Below.fr_plain.declared.value.Value.{Value}
+use Rattle.turn_law.specs.Below.fr_plain.declared.value.Value.TheVariants.{Own}
+use Rattle.turn_law.specs.Below.fr_plain.Heap.{Heap, made_by, cell_at, next_object, with_object}
+use Rattle.turn_law.specs.Below.fr_plain.MachineActs.{do_box}
+use Rattle.turn_law.specs.Below.fr_plain.MachineThreads.{going, thread_at, with_thread, pair_of, count_both}
+use Rattle.turn_law.specs.Below.fr_plain.Machine.{step_of, then_released}
+use Rattle.turn_law.specs.Below.fr_plain.PlainState.{SameState, is_over_in, two_of, plain_state}
+use Rattle.turn_law.proofs.Below.fr_plain.HeapLemmas.{made_same, made_other, new_same, new_other}
+use Rattle.turn_law.specs.Below.fr_code.Machine.{CodeLife, CodeWhole, CodeStepped, CodeRunning, CodeState}
+use Rattle.turn_law.specs.Below.fr_code.Steps.{Place, code_move, code_moves, over_at}
 use Rattle.turn_law.specs.Turns.{StepsTo}
 use Rattle.turn_law.proofs.PlainTurn.{thread_as, goes_as, settled_as, none_released}
 use Rattle.lock_law.proofs.OneThread.{GoesOn}

@@ -1,28 +1,28 @@
 -- A thread of the plain machine goes on by an act at a mutex: the mutexes change, and the heap stays.
 use Rattle.std.proofs.Common.{◌≡◌, ◌≢◌, ℕ, ◌+◌, Bool, true, false, if◌then◌else◌, List, [], ◌∷◌, ◌++◌, length, Option, Some, None, is_some, refl, sym, ap, ap₂, ◌∙◌, subst}
 use Rattle.std.specs.Prelude.{slice_get}
-use Rattle.fr_typing.proofs.PlaceLemmas.{eq_cases}
-use Rattle.fr_base.specs.declared.label.Label.{Label}
-use Rattle.fr_base.specs.declared.label.Label.TheVariants as label
-use Rattle.fr_base.specs.declared.label.Plain.{Plain}
-use Rattle.fr_base.specs.declared.label.Plain.TheVariants as plain
-use Rattle.fr_base.specs.declared.name.MutexNo.{MutexNo}
-use Rattle.fr_base.specs.declared.name.ObjNo.{ObjNo}
-use Rattle.fr_base.specs.declared.place.Lval.{Lval}
-use Rattle.fr_base.specs.declared.step.Fresh.{Fresh}
-use Rattle.fr_base.specs.declared.step.Fresh.TheVariants as fresh
-use Rattle.fr_base.specs.declared.instruction.Instr.{Instr}
-use Rattle.fr_plain.specs.declared.value.Value.{Value}
-use Rattle.fr_plain.specs.declared.value.Value.TheVariants.{Own, Held}
-use Rattle.fr_plain.specs.Heap.{made_by}
-use Rattle.fr_plain.specs.MachineActs.{do_end, do_finish, do_leave, do_mutex, do_dup, do_lock, do_unlock, unit}
-use Rattle.fr_plain.specs.MachineThreads.{over, owing, loose, alive, ended, going, on_value, alone, next, Move, Mutex, Shared, thread_at, with_thread, with_mutex, mutex_at, mutex_there, pair_of, settle_life, life_move}
-use Rattle.fr_plain.specs.Machine.{done_act, moved, step_of, at_mutex, where_there, mutex_behind, shared, locked, locked_with, unlocked, given_back, goes_on}
-use Rattle.fr_plain.specs.PlainState.{SameState, running_in, is_over_in, two_of, plain_state}
-use Rattle.fr_plain.proofs.ByName.{there_of, put_in, put_at, put_off}
+use Rattle.turn_law.proofs.Below.fr_typing.PlaceLemmas.{eq_cases}
+use Rattle.turn_law.specs.Below.fr_base.declared.label.Label.{Label}
+use Rattle.turn_law.specs.Below.fr_base.declared.label.Label.TheVariants as label
+use Rattle.turn_law.specs.Below.fr_base.declared.label.Plain.{Plain}
+use Rattle.turn_law.specs.Below.fr_base.declared.label.Plain.TheVariants as plain
+use Rattle.turn_law.specs.Below.fr_base.declared.name.MutexNo.{MutexNo}
+use Rattle.turn_law.specs.Below.fr_base.declared.name.ObjNo.{ObjNo}
+use Rattle.turn_law.specs.Below.fr_base.declared.place.Lval.{Lval}
+use Rattle.turn_law.specs.Below.fr_base.declared.step.Fresh.{Fresh}
+use Rattle.turn_law.specs.Below.fr_base.declared.step.Fresh.TheVariants as fresh
+use Rattle.turn_law.specs.Below.fr_base.declared.instruction.Instr.{Instr}
+use Rattle.turn_law.specs.Below.fr_plain.declared.value.Value.{Value}
+use Rattle.turn_law.specs.Below.fr_plain.declared.value.Value.TheVariants.{Own, Held}
+use Rattle.turn_law.specs.Below.fr_plain.Heap.{made_by}
+use Rattle.turn_law.specs.Below.fr_plain.MachineActs.{do_end, do_finish, do_leave, do_mutex, do_dup, do_lock, do_unlock, unit}
+use Rattle.turn_law.specs.Below.fr_plain.MachineThreads.{over, owing, loose, alive, ended, going, on_value, alone, next, Move, Mutex, Shared, thread_at, with_thread, with_mutex, mutex_at, mutex_there, pair_of, settle_life, life_move}
+use Rattle.turn_law.specs.Below.fr_plain.Machine.{done_act, moved, step_of, at_mutex, where_there, mutex_behind, shared, locked, locked_with, unlocked, given_back, goes_on}
+use Rattle.turn_law.specs.Below.fr_plain.PlainState.{SameState, running_in, is_over_in, two_of, plain_state}
+use Rattle.turn_law.proofs.Below.fr_plain.ByName.{there_of, put_in, put_at, put_off}
 use Rattle.plain_types.proofs.Mutexes.{mutex_cases, there_set, there_off, made_at, made_off}
-use Rattle.fr_code.specs.Machine.{CodeLife, CodeThread, CodeWhole, CodeStepped, CodeRunning, CodeState}
-use Rattle.fr_code.specs.Steps.{Place, CodeAct, code_move, code_moves, over_at}
+use Rattle.turn_law.specs.Below.fr_code.Machine.{CodeLife, CodeThread, CodeWhole, CodeStepped, CodeRunning, CodeState}
+use Rattle.turn_law.specs.Below.fr_code.Steps.{Place, CodeAct, code_move, code_moves, over_at}
 use Rattle.turn_law.specs.Turns.{StepsTo}
 use Rattle.turn_law.proofs.OneTurn.{Going, as_main, as_owing, as_loose, life_as}
 use Rattle.turn_law.proofs.PlainTurn.{thread_as, running_as, goes_as, settled_as, found_as, state_at}

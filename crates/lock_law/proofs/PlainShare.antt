@@ -2,19 +2,19 @@
 use Rattle.std.proofs.Common.{◌≡◌, ℕ, zero, suc, ◌≤◌, ◌==◌, Bool, true, false, if◌then◌else◌, List, [], ◌∷◌, ◌++◌, length, Option, Some, refl, ap, ap₂, ◌∙◌, arith}
 use Rattle.std.specs.Prelude.{slice_get}
 use Rattle.std.proofs.lemmas.List.{append-nil}
-use Rattle.fr_base.specs.declared.label.Plain.TheVariants as plain
-use Rattle.fr_base.specs.declared.name.MutexNo.{MutexNo}
-use Rattle.fr_base.specs.declared.step.Fresh.TheVariants as fresh
-use Rattle.fr_base.specs.declared.instruction.Instr.{Instr}
-use Rattle.fr_plain.specs.declared.value.Value.{Value}
-use Rattle.fr_plain.specs.declared.value.Value.TheVariants.{Own}
-use Rattle.fr_plain.specs.Heap.{Heap, live, drop_links, last_link}
-use Rattle.fr_plain.specs.State.{without}
-use Rattle.fr_plain.specs.MachineActs.{act, drops_last, end_of, unit}
-use Rattle.fr_plain.specs.MachineThreads.{Mutex, Shared, going, thread_at, with_thread, with_mutex, mutex_there, release_by, share_released, share_gone, count_both}
-use Rattle.fr_plain.specs.Machine.{step_of, done_act, alone_stepped, stepped, then_released}
-use Rattle.fr_code.specs.Machine.{CodeLife, CodeThread, CodeWhole, CodeStepped, CodeRunning}
-use Rattle.fr_code.specs.Steps.{Place, CodeAct, code_move, code_moves, over_at}
+use Rattle.turn_law.specs.Below.fr_base.declared.label.Plain.TheVariants as plain
+use Rattle.turn_law.specs.Below.fr_base.declared.name.MutexNo.{MutexNo}
+use Rattle.turn_law.specs.Below.fr_base.declared.step.Fresh.TheVariants as fresh
+use Rattle.turn_law.specs.Below.fr_base.declared.instruction.Instr.{Instr}
+use Rattle.turn_law.specs.Below.fr_plain.declared.value.Value.{Value}
+use Rattle.turn_law.specs.Below.fr_plain.declared.value.Value.TheVariants.{Own}
+use Rattle.turn_law.specs.Below.fr_plain.Heap.{Heap, live, drop_links, last_link}
+use Rattle.turn_law.specs.Below.fr_plain.State.{without}
+use Rattle.turn_law.specs.Below.fr_plain.MachineActs.{act, drops_last, end_of, unit}
+use Rattle.turn_law.specs.Below.fr_plain.MachineThreads.{Mutex, Shared, going, thread_at, with_thread, with_mutex, mutex_there, release_by, share_released, share_gone, count_both}
+use Rattle.turn_law.specs.Below.fr_plain.Machine.{step_of, done_act, alone_stepped, stepped, then_released}
+use Rattle.turn_law.specs.Below.fr_code.Machine.{CodeLife, CodeThread, CodeWhole, CodeStepped, CodeRunning}
+use Rattle.turn_law.specs.Below.fr_code.Steps.{Place, CodeAct, code_move, code_moves, over_at}
 use Rattle.turn_law.proofs.OneTurn.{Going}
 use Rattle.turn_law.proofs.PlainTurn.{thread_as, settled_as, state_at}
 use Rattle.lock_law.proofs.PlainMutex.{acts, move_as, goes_with}

@@ -2,11 +2,11 @@
 -- the things that change.
 use Rattle.std.proofs.Common.{◌≡◌, ℕ, zero, suc, ◌||◌, Bool, true, false, List, [], ◌∷◌, ◌++◌, length, refl, sym, ap₂, ◌∙◌}
 use Rattle.std.specs.List.{AllByRecursion}
-use Rattle.server_model.specs.Servers.{Cluster}
-use Rattle.heap_law.specs.Things.{Thing}
-use Rattle.heap_law.specs.Sight.{Sight, with_things}
-use Rattle.heap_law.specs.OneHeap.{Node, Owner, a_thread, inside, outside, owner_of, names, owner_in, named_in, any_named, in_state_by, is_in_state}
-use Rattle.still_law.proofs.Rounds.{any_more, enough}
+use Rattle.turn_law.specs.Below.server_model.Servers.{Cluster}
+use Rattle.turn_law.specs.Below.heap_law.Things.{Thing}
+use Rattle.turn_law.specs.Below.heap_law.Sight.{Sight, with_things}
+use Rattle.turn_law.specs.Below.heap_law.OneHeap.{Node, Owner, a_thread, inside, outside, owner_of, names, owner_in, named_in, any_named, in_state_by, is_in_state}
+use Rattle.turn_law.proofs.Below.still_law.Rounds.{any_more, enough}
 use Rattle.turn_law.proofs.Parts.{any_both}
 
 pub or_cases : (p q : Bool) (C : Type 0) → (p ≡ true → C) → (q ≡ true → C) → p || q ≡ true → C

@@ -1,28 +1,28 @@
 -- A value of a mutex goes while another one is in the state: the mutex has one share less, and all else is as it was.
 use Rattle.std.proofs.Common.{◌≡◌, ◌≢◌, ℕ, ◌+◌, ◌≤◌, Bool, true, false, List, [], ◌∷◌, ◌++◌, Option, Some, None, refl, sym, ap, ap₂, ◌∙◌, arith}
 use Rattle.std.specs.List.{AllByRecursion}
-use Rattle.fr_base.specs.declared.name.MutexNo.{MutexNo}
-use Rattle.fr_base.specs.declared.name.ObjNo.{ObjNo}
-use Rattle.fr_base.specs.declared.label.Plain.{Plain}
-use Rattle.fr_base.specs.declared.instruction.Instr.{Instr}
-use Rattle.heap_partition.specs.declared.value.Owned.TheVariants as owned
-use Rattle.thread_state.specs.View.{ThreadState}
-use Rattle.thread_state.specs.declared.value.Value.{Value}
-use Rattle.server_model.specs.declared.event.Event.{Event}
-use Rattle.server_model.specs.Servers.{Server, Cluster}
-use Rattle.heap_law.specs.Names.{tot, one, if_so}
-use Rattle.heap_law.specs.Things.{Thing, gift_things}
-use Rattle.heap_law.specs.Sight.{Sight}
-use Rattle.heap_law.specs.Requests.{is_par_end}
-use Rattle.heap_law.specs.Naming.{started_at, made_at}
-use Rattle.heap_law.specs.OneHeap.{Node, task_n, mutex_n, object_n, owns, owner_in, owner_of, names, named_in, any_named, is_in_state, cell_value, or_else, first_shown, object_value, content_value, share_in, if_there, in_pair_of, result_value, running_at, is_given_mutex, state_of}
-use Rattle.heap_law.specs.Coherent.{IsSound}
-use Rattle.heap_law.proofs.Names.{same_mutexes}
-use Rattle.event_law.proofs.Bags.{counts_of}
+use Rattle.turn_law.specs.Below.fr_base.declared.name.MutexNo.{MutexNo}
+use Rattle.turn_law.specs.Below.fr_base.declared.name.ObjNo.{ObjNo}
+use Rattle.turn_law.specs.Below.fr_base.declared.label.Plain.{Plain}
+use Rattle.turn_law.specs.Below.fr_base.declared.instruction.Instr.{Instr}
+use Rattle.turn_law.specs.Below.heap_partition.declared.value.Owned.TheVariants as owned
+use Rattle.turn_law.specs.Below.thread_state.View.{ThreadState}
+use Rattle.turn_law.specs.Below.thread_state.declared.value.Value.{Value}
+use Rattle.turn_law.specs.Below.server_model.declared.event.Event.{Event}
+use Rattle.turn_law.specs.Below.server_model.Servers.{Server, Cluster}
+use Rattle.turn_law.specs.Below.heap_law.Names.{tot, one, if_so}
+use Rattle.turn_law.specs.Below.heap_law.Things.{Thing, gift_things}
+use Rattle.turn_law.specs.Below.heap_law.Sight.{Sight}
+use Rattle.turn_law.specs.Below.heap_law.Requests.{is_par_end}
+use Rattle.turn_law.specs.Below.heap_law.Naming.{started_at, made_at}
+use Rattle.turn_law.specs.Below.heap_law.OneHeap.{Node, task_n, mutex_n, object_n, owns, owner_in, owner_of, names, named_in, any_named, is_in_state, cell_value, or_else, first_shown, object_value, content_value, share_in, if_there, in_pair_of, result_value, running_at, is_given_mutex, state_of}
+use Rattle.turn_law.specs.Below.heap_law.Coherent.{IsSound}
+use Rattle.turn_law.proofs.Below.heap_law.Names.{same_mutexes}
+use Rattle.turn_law.proofs.Below.event_law.Bags.{counts_of}
 use Rattle.plain_types.proofs.Mutexes.{mutex_cases}
-use Rattle.still_law.proofs.Alike.{Once}
-use Rattle.still_law.proofs.Rounds.{any_more}
-use Rattle.still_law.proofs.Told.{told, ones}
+use Rattle.turn_law.proofs.Below.still_law.Alike.{Once}
+use Rattle.turn_law.proofs.Below.still_law.Rounds.{any_more}
+use Rattle.turn_law.proofs.Below.still_law.Told.{told, ones}
 use Rattle.turn_law.proofs.Parts.{Own, owned_in}
 use Rattle.turn_law.proofs.OneTurn.{of_thread, Calm, after}
 use Rattle.turn_law.proofs.Events.{AtStep}

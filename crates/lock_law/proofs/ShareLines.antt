@@ -1,56 +1,56 @@
 -- A step that drops a value of a mutex, at the server and on the plain machine, where another value of it is in the state.
 use Rattle.std.proofs.Common.{◌≡◌, ℕ, zero, suc, ◌+◌, ◌≤◌, true, false, List, [], ◌∷◌, length, Option, Some, None, option_map, refl, sym, ap, subst, ◌∙◌, arith}
 use Rattle.std.specs.Prelude.{◌-◌, slice_get, slice_set, nat_lt, Bool, if◌then◌else◌}
-use Rattle.fr_base.specs.Lists.{last_of}
-use Rattle.fr_base.specs.declared.name.MutexNo.{MutexNo}
-use Rattle.fr_base.specs.declared.release.Released.TheVariants as released
-use Rattle.fr_base.specs.declared.label.Plain.{Plain}
-use Rattle.fr_base.specs.declared.label.Plain.TheVariants as plain
-use Rattle.fr_base.specs.declared.step.Fresh.TheVariants as fresh
-use Rattle.fr_base.specs.declared.instruction.Instr.{Instr}
-use Rattle.fr_base.specs.declared.instruction.Instr.TheVariants as instr
-use Rattle.fr_plain.specs.declared.value.Value.{Value as PlainValue}
-use Rattle.fr_plain.specs.declared.value.Value.TheVariants as plain_v
-use Rattle.fr_base.specs.declared.place.Lval.{Lval}
-use Rattle.fr_base.specs.declared.instruction.Operand.{Operand}
-use Rattle.fr_plain.specs.State.{without, slot_at, with_slot}
-use Rattle.fr_plain.specs.State.{in_slot as state_slot}
-use Rattle.fr_plain.specs.MachineActs.{Did, assign_did, end_of_some, do_assign, act as act_of, drops_last, do_discard, do_drop, end_of, unit}
-use Rattle.fr_plain.specs.MachineThreads.{Shared, going, mutex_there, with_mutex}
-use Rattle.fr_plain.specs.Machine.{done_act, alone_stepped}
-use Rattle.fr_plain.specs.PlainState.{SameState, plain_state}
-use Rattle.fr_code.specs.Machine.{CodeWhole, CodeRunning}
-use Rattle.fr_code.specs.Steps.{Place, CodeAct, code_moves, over_at, run_instr, quiet}
-use Rattle.heap_partition.specs.declared.value.Owned.TheVariants as owned
-use Rattle.read_cache.specs.Cache.{Copy}
-use Rattle.migration.specs.Packing.{unpin_all}
-use Rattle.thread_state.specs.View.{ThreadState}
-use Rattle.thread_state.specs.declared.value.Value.{Value}
-use Rattle.thread_state.specs.declared.value.Value.TheVariants as value
-use Rattle.journal.specs.declared.act.Act.TheVariants as act
-use Rattle.server_msgs.specs.declared.message.Message.TheVariants as message
-use Rattle.server_model.specs.declared.event.Event.{Event}
-use Rattle.server_model.specs.Servers.{Server, Cluster}
-use Rattle.server_model.specs.Work.{Hand, Popped, pop, send, note, label_all, front_of, with_slots, with_temps, with_cache, mutex_of, then_some}
-use Rattle.server_model.specs.Places.{put_slot, nowhere, in_slot, on_top}
-use Rattle.server_model.specs.Prepare.{prepare, ending}
-use Rattle.server_model.specs.Drop.{drop_value}
-use Rattle.server_model.specs.Commit.{goes_on, go_on, label_dropped, replace_slot}
-use Rattle.server_model.specs.Events.{Stepped, stepped, begin_work, committed, prepared, step}
-use Rattle.server_model.specs.Clusters.{apply}
-use Rattle.heap_law.specs.Names.{one}
-use Rattle.heap_law.specs.Things.{Thing}
-use Rattle.heap_law.specs.Sight.{Sight, sight}
-use Rattle.heap_law.specs.Requests.{is_par_end}
-use Rattle.heap_law.specs.OneHeap.{Node, plain_value, mutex_n, owns, is_in_state, running_at, one_heap, state_of}
-use Rattle.heap_law.specs.Coherent.{IsSound}
-use Rattle.event_law.specs.Laws.{Gives}
-use Rattle.event_law.proofs.Bags.{counts_of, rest_things}
-use Rattle.event_law.proofs.GiftsTaken.{gift_fits}
-use Rattle.event_law.proofs.Values.{last_split}
+use Rattle.turn_law.specs.Below.fr_base.Lists.{last_of}
+use Rattle.turn_law.specs.Below.fr_base.declared.name.MutexNo.{MutexNo}
+use Rattle.turn_law.specs.Below.fr_base.declared.release.Released.TheVariants as released
+use Rattle.turn_law.specs.Below.fr_base.declared.label.Plain.{Plain}
+use Rattle.turn_law.specs.Below.fr_base.declared.label.Plain.TheVariants as plain
+use Rattle.turn_law.specs.Below.fr_base.declared.step.Fresh.TheVariants as fresh
+use Rattle.turn_law.specs.Below.fr_base.declared.instruction.Instr.{Instr}
+use Rattle.turn_law.specs.Below.fr_base.declared.instruction.Instr.TheVariants as instr
+use Rattle.turn_law.specs.Below.fr_plain.declared.value.Value.{Value as PlainValue}
+use Rattle.turn_law.specs.Below.fr_plain.declared.value.Value.TheVariants as plain_v
+use Rattle.turn_law.specs.Below.fr_base.declared.place.Lval.{Lval}
+use Rattle.turn_law.specs.Below.fr_base.declared.instruction.Operand.{Operand}
+use Rattle.turn_law.specs.Below.fr_plain.State.{without, slot_at, with_slot}
+use Rattle.turn_law.specs.Below.fr_plain.State.{in_slot as state_slot}
+use Rattle.turn_law.specs.Below.fr_plain.MachineActs.{Did, assign_did, end_of_some, do_assign, act as act_of, drops_last, do_discard, do_drop, end_of, unit}
+use Rattle.turn_law.specs.Below.fr_plain.MachineThreads.{Shared, going, mutex_there, with_mutex}
+use Rattle.turn_law.specs.Below.fr_plain.Machine.{done_act, alone_stepped}
+use Rattle.turn_law.specs.Below.fr_plain.PlainState.{SameState, plain_state}
+use Rattle.turn_law.specs.Below.fr_code.Machine.{CodeWhole, CodeRunning}
+use Rattle.turn_law.specs.Below.fr_code.Steps.{Place, CodeAct, code_moves, over_at, run_instr, quiet}
+use Rattle.turn_law.specs.Below.heap_partition.declared.value.Owned.TheVariants as owned
+use Rattle.turn_law.specs.Below.read_cache.Cache.{Copy}
+use Rattle.turn_law.specs.Below.migration.Packing.{unpin_all}
+use Rattle.turn_law.specs.Below.thread_state.View.{ThreadState}
+use Rattle.turn_law.specs.Below.thread_state.declared.value.Value.{Value}
+use Rattle.turn_law.specs.Below.thread_state.declared.value.Value.TheVariants as value
+use Rattle.turn_law.specs.Below.journal.declared.act.Act.TheVariants as act
+use Rattle.turn_law.specs.Below.server_msgs.declared.message.Message.TheVariants as message
+use Rattle.turn_law.specs.Below.server_model.declared.event.Event.{Event}
+use Rattle.turn_law.specs.Below.server_model.Servers.{Server, Cluster}
+use Rattle.turn_law.specs.Below.server_model.Work.{Hand, Popped, pop, send, note, label_all, front_of, with_slots, with_temps, with_cache, mutex_of, then_some}
+use Rattle.turn_law.specs.Below.server_model.Places.{put_slot, nowhere, in_slot, on_top}
+use Rattle.turn_law.specs.Below.server_model.Prepare.{prepare, ending}
+use Rattle.turn_law.specs.Below.server_model.Drop.{drop_value}
+use Rattle.turn_law.specs.Below.server_model.Commit.{goes_on, go_on, label_dropped, replace_slot}
+use Rattle.turn_law.specs.Below.server_model.Events.{Stepped, stepped, begin_work, committed, prepared, step}
+use Rattle.turn_law.specs.Below.server_model.Clusters.{apply}
+use Rattle.turn_law.specs.Below.heap_law.Names.{one}
+use Rattle.turn_law.specs.Below.heap_law.Things.{Thing}
+use Rattle.turn_law.specs.Below.heap_law.Sight.{Sight, sight}
+use Rattle.turn_law.specs.Below.heap_law.Requests.{is_par_end}
+use Rattle.turn_law.specs.Below.heap_law.OneHeap.{Node, plain_value, mutex_n, owns, is_in_state, running_at, one_heap, state_of}
+use Rattle.turn_law.specs.Below.heap_law.Coherent.{IsSound}
+use Rattle.turn_law.specs.Below.event_law.Laws.{Gives}
+use Rattle.turn_law.proofs.Below.event_law.Bags.{counts_of, rest_things}
+use Rattle.turn_law.proofs.Below.event_law.GiftsTaken.{gift_fits}
+use Rattle.turn_law.proofs.Below.event_law.Values.{last_split}
 use Rattle.plain_types.proofs.Mutexes.{given_set}
-use Rattle.still_law.proofs.Readied.{copies_ready}
-use Rattle.still_law.proofs.Sites.{shown, Moves, sends}
+use Rattle.turn_law.proofs.Below.still_law.Readied.{copies_ready}
+use Rattle.turn_law.proofs.Below.still_law.Sites.{shown, Moves, sends}
 use Rattle.turn_law.specs.Turns.{StepsTo, IsPlainStep, instr_of}
 use Rattle.turn_law.proofs.Parts.{owned_in}
 use Rattle.turn_law.proofs.OneTurn.{Going, after}
@@ -58,7 +58,7 @@ use Rattle.turn_law.proofs.PlainTurn.{thread_as, state_at}
 use Rattle.turn_law.proofs.Instructions.{shown_last, shown_push, owned_push, Pops, PopsTo, itself as same_value, popped}
 use Rattle.turn_law.proofs.Clauses.{same_thread}
 use Rattle.turn_law.proofs.Events.{AtStep, Sends, events_are, then_same}
-use Rattle.path_law.proofs.Shown.{shown_value}
+use Rattle.undone_law.proofs.Below.path_law.Shown.{shown_value}
 use Rattle.turn_law.proofs.SlotReads.{set_shown}
 use Rattle.turn_law.proofs.DropLines.{set_owned}
 use Rattle.lock_law.specs.Locks.{variable_share, dropped_share, SharesGo}

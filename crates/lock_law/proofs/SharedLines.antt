@@ -1,47 +1,47 @@
 -- A dup and a lock whose answer came, at the server and on the plain machine.
 use Rattle.std.proofs.Common.{◌≡◌, ℕ, ◌+◌, ◌≤◌, Bool, true, false, List, [], ◌∷◌, ◌++◌, map, Option, Some, None, option_map, refl, sym, ap, ap₂, subst, ◌∙◌, arith}
 use Rattle.std.specs.List.{AllByRecursion}
-use Rattle.fr_base.specs.declared.name.MutexNo.{MutexNo}
-use Rattle.fr_base.specs.declared.place.Lval.{Lval}
-use Rattle.fr_base.specs.declared.step.Fresh.TheVariants as fresh
-use Rattle.fr_base.specs.declared.instruction.Instr.{Instr}
-use Rattle.fr_plain.specs.PlainState.{SameState, plain_state}
-use Rattle.fr_base.specs.declared.label.Plain.{Plain}
-use Rattle.fr_plain.specs.declared.value.Value.{Value as PlainValue}
-use Rattle.fr_plain.specs.MachineThreads.{Shared, going, with_mutex, mutex_there}
-use Rattle.fr_plain.specs.Machine.{mutex_behind, done_act}
-use Rattle.fr_code.specs.Steps.{Place, CodeAct, code_moves, over_at, run_instr}
-use Rattle.fr_code.specs.Machine.{CodeWhole}
-use Rattle.heap_partition.specs.Same.{same_owned}
-use Rattle.heap_partition.specs.declared.value.Owned.{Owned}
-use Rattle.heap_partition.specs.declared.value.Owned.TheVariants as owned
-use Rattle.migration.specs.Packing.{unpinned}
-use Rattle.thread_state.specs.View.{ThreadState}
-use Rattle.thread_state.specs.declared.value.Value.{Value}
-use Rattle.thread_state.specs.declared.value.Value.TheVariants as value
-use Rattle.server_model.specs.declared.event.Event.{Event}
-use Rattle.server_model.specs.Servers.{Server, Cluster}
-use Rattle.server_model.specs.Work.{Hand, mutex_of, then_some}
-use Rattle.server_model.specs.Places.{Spot, in_slot, on_top, in_cell, in_copy, nowhere, value_at, load_at}
-use Rattle.server_model.specs.Prepare.{ReadTo, Prepared, prepare}
-use Rattle.server_model.specs.Commit.{take_gift, mutex_at}
-use Rattle.heap_law.specs.Names.{tot}
-use Rattle.heap_law.specs.Things.{Location, Thing}
-use Rattle.heap_law.specs.Follow.{Ground, Standing, value_in, value_behind, locate, place_at}
-use Rattle.heap_law.specs.Sight.{Sight, sight}
-use Rattle.heap_law.specs.Requests.{mutex_of as value_mutex, is_par_end}
-use Rattle.heap_law.specs.Naming.{started_at, made_at}
-use Rattle.heap_law.specs.OneHeap.{Node, mutex_n, inside, outside, content_owner, owner_of, named_in, is_in_state, or_else, first_shown, content_value, running_at, plain_value, one_heap, state_of}
-use Rattle.type_law.specs.ClusterTypes.{IsCoherent}
-use Rattle.event_law.specs.Laws.{Gives}
-use Rattle.event_law.proofs.Bags.{counts_of}
-use Rattle.read_law.specs.Reading.{Reads}
-use Rattle.still_law.proofs.Alike.{Once}
-use Rattle.still_law.proofs.Prepares.{Fine}
-use Rattle.still_law.proofs.Readied.{Readied, readied_slots, readied_temps, same_rest}
-use Rattle.still_law.proofs.Sites.{Moves}
-use Rattle.still_law.proofs.Told.{told, ones}
-use Rattle.heap_law.proofs.Names.{same_mutexes}
+use Rattle.turn_law.specs.Below.fr_base.declared.name.MutexNo.{MutexNo}
+use Rattle.turn_law.specs.Below.fr_base.declared.place.Lval.{Lval}
+use Rattle.turn_law.specs.Below.fr_base.declared.step.Fresh.TheVariants as fresh
+use Rattle.turn_law.specs.Below.fr_base.declared.instruction.Instr.{Instr}
+use Rattle.turn_law.specs.Below.fr_plain.PlainState.{SameState, plain_state}
+use Rattle.turn_law.specs.Below.fr_base.declared.label.Plain.{Plain}
+use Rattle.turn_law.specs.Below.fr_plain.declared.value.Value.{Value as PlainValue}
+use Rattle.turn_law.specs.Below.fr_plain.MachineThreads.{Shared, going, with_mutex, mutex_there}
+use Rattle.turn_law.specs.Below.fr_plain.Machine.{mutex_behind, done_act}
+use Rattle.turn_law.specs.Below.fr_code.Steps.{Place, CodeAct, code_moves, over_at, run_instr}
+use Rattle.turn_law.specs.Below.fr_code.Machine.{CodeWhole}
+use Rattle.turn_law.specs.Below.heap_partition.Same.{same_owned}
+use Rattle.turn_law.specs.Below.heap_partition.declared.value.Owned.{Owned}
+use Rattle.turn_law.specs.Below.heap_partition.declared.value.Owned.TheVariants as owned
+use Rattle.turn_law.specs.Below.migration.Packing.{unpinned}
+use Rattle.turn_law.specs.Below.thread_state.View.{ThreadState}
+use Rattle.turn_law.specs.Below.thread_state.declared.value.Value.{Value}
+use Rattle.turn_law.specs.Below.thread_state.declared.value.Value.TheVariants as value
+use Rattle.turn_law.specs.Below.server_model.declared.event.Event.{Event}
+use Rattle.turn_law.specs.Below.server_model.Servers.{Server, Cluster}
+use Rattle.turn_law.specs.Below.server_model.Work.{Hand, mutex_of, then_some}
+use Rattle.turn_law.specs.Below.server_model.Places.{Spot, in_slot, on_top, in_cell, in_copy, nowhere, value_at, load_at}
+use Rattle.turn_law.specs.Below.server_model.Prepare.{ReadTo, Prepared, prepare}
+use Rattle.turn_law.specs.Below.server_model.Commit.{take_gift, mutex_at}
+use Rattle.turn_law.specs.Below.heap_law.Names.{tot}
+use Rattle.turn_law.specs.Below.heap_law.Things.{Location, Thing}
+use Rattle.turn_law.specs.Below.heap_law.Follow.{Ground, Standing, value_in, value_behind, locate, place_at}
+use Rattle.turn_law.specs.Below.heap_law.Sight.{Sight, sight}
+use Rattle.turn_law.specs.Below.heap_law.Requests.{mutex_of as value_mutex, is_par_end}
+use Rattle.turn_law.specs.Below.heap_law.Naming.{started_at, made_at}
+use Rattle.turn_law.specs.Below.heap_law.OneHeap.{Node, mutex_n, inside, outside, content_owner, owner_of, named_in, is_in_state, or_else, first_shown, content_value, running_at, plain_value, one_heap, state_of}
+use Rattle.undone_law.specs.Below.type_law.ClusterTypes.{IsCoherent}
+use Rattle.turn_law.specs.Below.event_law.Laws.{Gives}
+use Rattle.turn_law.proofs.Below.event_law.Bags.{counts_of}
+use Rattle.turn_law.specs.Below.read_law.Reading.{Reads}
+use Rattle.turn_law.proofs.Below.still_law.Alike.{Once}
+use Rattle.turn_law.proofs.Below.still_law.Prepares.{Fine}
+use Rattle.turn_law.proofs.Below.still_law.Readied.{Readied, readied_slots, readied_temps, same_rest}
+use Rattle.turn_law.proofs.Below.still_law.Sites.{Moves}
+use Rattle.turn_law.proofs.Below.still_law.Told.{told, ones}
+use Rattle.turn_law.proofs.Below.heap_law.Names.{same_mutexes}
 use Rattle.plain_types.proofs.Mutexes.{given_set}
 use Rattle.turn_law.specs.Turns.{StepsTo}
 use Rattle.turn_law.proofs.Parts.{Own}

@@ -1,38 +1,38 @@
 -- A step of one thread, from what it leaves of its server to the event: it is that plain step on the cluster's one heap.
 use Rattle.std.proofs.Common.{◌≡◌, ℕ, ◌+◌, false, List, [], ◌∷◌, ◌++◌, length, Option, Some, None, option_map, refl, sym, ap, ◌∙◌, subst, arith}
 use Rattle.std.specs.List.{AllByRecursion}
-use Rattle.fr_base.specs.declared.step.Fresh.{Fresh}
-use Rattle.fr_base.specs.declared.step.Fresh.TheVariants as fresh
-use Rattle.fr_base.specs.declared.instruction.Instr.{Instr}
-use Rattle.fr_plain.specs.PlainState.{SameState, plain_state}
-use Rattle.fr_code.specs.Machine.{CodeWhole}
-use Rattle.heap_partition.specs.declared.value.Owned.{Owned}
-use Rattle.read_cache.specs.Cache.{Copy}
-use Rattle.migration.specs.Packing.{unpin_all}
-use Rattle.thread_state.specs.View.{ThreadState}
-use Rattle.thread_state.specs.declared.phase.Phase.TheVariants as phase
-use Rattle.thread_state.specs.declared.value.Value.{Value}
-use Rattle.server_model.specs.declared.event.Event.{Event}
-use Rattle.server_model.specs.Servers.{Server, Cluster}
-use Rattle.server_model.specs.Work.{Hand, with_cache}
-use Rattle.server_model.specs.Commit.{goes_on, go_on}
-use Rattle.server_model.specs.Events.{Stepped, stepped, begin_work, committed, step}
-use Rattle.server_model.specs.Clusters.{hand_over_newer, apply}
-use Rattle.heap_law.specs.Names.{tot}
-use Rattle.heap_law.specs.Things.{Thing, gift_things}
-use Rattle.heap_law.specs.Sight.{Sight, with_things}
-use Rattle.heap_law.specs.Requests.{is_par_end}
-use Rattle.heap_law.specs.OneHeap.{one_heap, state_of}
-use Rattle.heap_law.specs.Coherent.{IsSound}
-use Rattle.event_law.specs.Laws.{Gives, FewEvents}
-use Rattle.event_law.proofs.Trades.{tot-append}
-use Rattle.event_law.proofs.Bags.{counts_of, rest_things}
-use Rattle.event_law.proofs.Results.{weaker}
-use Rattle.still_law.proofs.Alike.{Once}
-use Rattle.still_law.proofs.Counting.{stray}
-use Rattle.still_law.specs.Shows.{sign_of}
-use Rattle.still_law.proofs.Sites.{shown, Moves}
-use Rattle.still_law.proofs.Readied.{Readied, copies_ready}
+use Rattle.turn_law.specs.Below.fr_base.declared.step.Fresh.{Fresh}
+use Rattle.turn_law.specs.Below.fr_base.declared.step.Fresh.TheVariants as fresh
+use Rattle.turn_law.specs.Below.fr_base.declared.instruction.Instr.{Instr}
+use Rattle.turn_law.specs.Below.fr_plain.PlainState.{SameState, plain_state}
+use Rattle.turn_law.specs.Below.fr_code.Machine.{CodeWhole}
+use Rattle.turn_law.specs.Below.heap_partition.declared.value.Owned.{Owned}
+use Rattle.turn_law.specs.Below.read_cache.Cache.{Copy}
+use Rattle.turn_law.specs.Below.migration.Packing.{unpin_all}
+use Rattle.turn_law.specs.Below.thread_state.View.{ThreadState}
+use Rattle.turn_law.specs.Below.thread_state.declared.phase.Phase.TheVariants as phase
+use Rattle.turn_law.specs.Below.thread_state.declared.value.Value.{Value}
+use Rattle.turn_law.specs.Below.server_model.declared.event.Event.{Event}
+use Rattle.turn_law.specs.Below.server_model.Servers.{Server, Cluster}
+use Rattle.turn_law.specs.Below.server_model.Work.{Hand, with_cache}
+use Rattle.turn_law.specs.Below.server_model.Commit.{goes_on, go_on}
+use Rattle.turn_law.specs.Below.server_model.Events.{Stepped, stepped, begin_work, committed, step}
+use Rattle.turn_law.specs.Below.server_model.Clusters.{hand_over_newer, apply}
+use Rattle.turn_law.specs.Below.heap_law.Names.{tot}
+use Rattle.turn_law.specs.Below.heap_law.Things.{Thing, gift_things}
+use Rattle.turn_law.specs.Below.heap_law.Sight.{Sight, with_things}
+use Rattle.turn_law.specs.Below.heap_law.Requests.{is_par_end}
+use Rattle.turn_law.specs.Below.heap_law.OneHeap.{one_heap, state_of}
+use Rattle.turn_law.specs.Below.heap_law.Coherent.{IsSound}
+use Rattle.turn_law.specs.Below.event_law.Laws.{Gives, FewEvents}
+use Rattle.turn_law.proofs.Below.event_law.Trades.{tot-append}
+use Rattle.turn_law.proofs.Below.event_law.Bags.{counts_of, rest_things}
+use Rattle.turn_law.proofs.Below.event_law.Results.{weaker}
+use Rattle.turn_law.proofs.Below.still_law.Alike.{Once}
+use Rattle.turn_law.proofs.Below.still_law.Counting.{stray}
+use Rattle.turn_law.specs.Below.still_law.Shows.{sign_of}
+use Rattle.turn_law.proofs.Below.still_law.Sites.{shown, Moves}
+use Rattle.turn_law.proofs.Below.still_law.Readied.{Readied, copies_ready}
 use Rattle.turn_law.specs.Turns.{StepsTo, IsPlainStep, instr_of}
 use Rattle.turn_law.proofs.OneTurn.{Calm, after}
 use Rattle.turn_law.proofs.Events.{AtStep, Sends, calm, events_are_plain, then_same}

@@ -1,26 +1,26 @@
 -- Two lists of a cluster's things in which each thread but those of one number is found alike: who owns what isn't of that thread stays, and so do contents and results.
 use Rattle.std.proofs.Common.{◌≡◌, ◌≢◌, ℕ, zero, suc, ◌+◌, ◌==◌, ◌≤◌, Bool, true, List, [], ◌∷◌, Option, Some, None, is_some, refl, sym, ap, ap₂, ◌∙◌, arith}
 use Rattle.std.specs.List.{AllByRecursion}
-use Rattle.fr_typing.proofs.PlaceLemmas.{eq_cases}
-use Rattle.fr_base.specs.declared.name.MutexNo.{MutexNo}
-use Rattle.fr_base.specs.declared.name.ObjNo.{ObjNo}
-use Rattle.fr_base.specs.declared.instruction.Instr.{Instr}
-use Rattle.fr_base.specs.declared.instruction.Instr.TheVariants as instr
-use Rattle.heap_partition.specs.Plain.{plain_of}
-use Rattle.heap_partition.specs.declared.value.Owned.TheVariants as owned
-use Rattle.thread_state.specs.declared.value.Value.{Value}
-use Rattle.thread_state.specs.declared.value.Value.TheVariants as value
-use Rattle.server_model.specs.Servers.{Cluster}
-use Rattle.heap_law.specs.Names.{tot, one, other, some, if_so}
-use Rattle.heap_law.specs.Things.{in_slot, in_temp, as_gift, as_content, as_result, in_hand, Thing, holds}
-use Rattle.heap_law.specs.Follow.{Standing, threads_in, thread_at, cells_in, cell_of, value_of, slot_of, value_behind, leads, locate}
-use Rattle.heap_law.specs.Sight.{Sight, with_things}
-use Rattle.heap_law.specs.Walking.{instr_of}
-use Rattle.heap_law.specs.Requests.{mutex_of, locked_mutex, is_mutex}
-use Rattle.heap_law.specs.OneHeap.{content_owner, gift_owner, gift_owner_of, owner_of, if_in, or_else, first_shown, is_gift_of, content_value, is_joined_by, result_value}
-use Rattle.still_law.proofs.Alike.{SeenAt, LocksSeeIn, all_seen}
-use Rattle.still_law.proofs.Counting.{gifted, stray}
-use Rattle.path_law.proofs.Contained.{among_thread}
+use Rattle.turn_law.proofs.Below.fr_typing.PlaceLemmas.{eq_cases}
+use Rattle.turn_law.specs.Below.fr_base.declared.name.MutexNo.{MutexNo}
+use Rattle.turn_law.specs.Below.fr_base.declared.name.ObjNo.{ObjNo}
+use Rattle.turn_law.specs.Below.fr_base.declared.instruction.Instr.{Instr}
+use Rattle.turn_law.specs.Below.fr_base.declared.instruction.Instr.TheVariants as instr
+use Rattle.turn_law.specs.Below.heap_partition.Plain.{plain_of}
+use Rattle.turn_law.specs.Below.heap_partition.declared.value.Owned.TheVariants as owned
+use Rattle.turn_law.specs.Below.thread_state.declared.value.Value.{Value}
+use Rattle.turn_law.specs.Below.thread_state.declared.value.Value.TheVariants as value
+use Rattle.turn_law.specs.Below.server_model.Servers.{Cluster}
+use Rattle.turn_law.specs.Below.heap_law.Names.{tot, one, other, some, if_so}
+use Rattle.turn_law.specs.Below.heap_law.Things.{in_slot, in_temp, as_gift, as_content, as_result, in_hand, Thing, holds}
+use Rattle.turn_law.specs.Below.heap_law.Follow.{Standing, threads_in, thread_at, cells_in, cell_of, value_of, slot_of, value_behind, leads, locate}
+use Rattle.turn_law.specs.Below.heap_law.Sight.{Sight, with_things}
+use Rattle.turn_law.specs.Below.heap_law.Walking.{instr_of}
+use Rattle.turn_law.specs.Below.heap_law.Requests.{mutex_of, locked_mutex, is_mutex}
+use Rattle.turn_law.specs.Below.heap_law.OneHeap.{content_owner, gift_owner, gift_owner_of, owner_of, if_in, or_else, first_shown, is_gift_of, content_value, is_joined_by, result_value}
+use Rattle.turn_law.proofs.Below.still_law.Alike.{SeenAt, LocksSeeIn, all_seen}
+use Rattle.turn_law.proofs.Below.still_law.Counting.{gifted, stray}
+use Rattle.undone_law.proofs.Below.path_law.Contained.{among_thread}
 use Rattle.turn_law.proofs.OneTurn.{of_thread}
 use Rattle.lock_law.proofs.Reach.{SameOwners}
 

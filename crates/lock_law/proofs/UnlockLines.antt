@@ -1,44 +1,44 @@
 -- An unlock, at the server and on the plain machine: the content goes back into its mutex, where that is in the state afterwards.
 use Rattle.std.proofs.Common.{◌≡◌, ℕ, ◌+◌, ◌≤◌, true, false, List, [], ◌∷◌, ◌++◌, Option, Some, None, option_map, refl, sym, ap, ap₂, subst, ◌∙◌, arith}
 use Rattle.std.specs.List.{AllByRecursion}
-use Rattle.fr_base.specs.declared.name.MutexNo.{MutexNo}
-use Rattle.fr_base.specs.declared.step.Fresh.TheVariants as fresh
-use Rattle.fr_base.specs.Lists.{last_of}
-use Rattle.fr_base.specs.declared.instruction.Instr.{Instr}
-use Rattle.fr_base.specs.declared.instruction.Instr.TheVariants as instr
-use Rattle.fr_plain.specs.declared.value.Value.{Value as PlainValue}
-use Rattle.fr_plain.specs.declared.value.Value.TheVariants as plain_v
-use Rattle.fr_plain.specs.PlainState.{SameState, plain_state}
-use Rattle.fr_plain.specs.MachineActs.{do_unlock}
-use Rattle.fr_plain.specs.MachineThreads.{Shared}
-use Rattle.fr_code.specs.Machine.{CodeWhole, CodeRunning}
-use Rattle.fr_code.specs.Steps.{Place, over_at, run_instr}
-use Rattle.heap_partition.specs.Plain.{plain_of}
-use Rattle.heap_partition.specs.declared.value.Owned.{Owned}
-use Rattle.heap_partition.specs.declared.value.Owned.TheVariants as owned
-use Rattle.read_cache.specs.Cache.{Copy}
-use Rattle.migration.specs.Packing.{unpin_all}
-use Rattle.thread_state.specs.View.{ThreadState}
-use Rattle.thread_state.specs.declared.value.Value.{Value}
-use Rattle.thread_state.specs.declared.value.Value.TheVariants as value
-use Rattle.server_model.specs.declared.event.Event.{Event}
-use Rattle.server_model.specs.Servers.{Server, Cluster}
-use Rattle.server_model.specs.Work.{Hand, Popped, with_slots, with_cache, front_of, pop_slot, taken_as, owned_of, then_some}
-use Rattle.server_model.specs.Commit.{goes_on, go_on, held_of, send_content}
-use Rattle.server_model.specs.Events.{Stepped, begin_work, committed, step}
-use Rattle.heap_law.specs.Names.{tot, one, if_so, same_mutex}
-use Rattle.heap_law.specs.Things.{Thing, holds, as_content, gift_things, things_at}
-use Rattle.heap_law.specs.Sight.{Sight}
-use Rattle.heap_law.specs.Naming.{started_at, made_at}
-use Rattle.heap_law.specs.OneHeap.{Node, object_n, mutex_n, task_n, inside, owns, named_in, any_named, is_in_state, if_in, or_else, first_shown, content_value, result_value, share_in, running_at, one_heap, state_of}
-use Rattle.heap_law.specs.Coherent.{IsSound}
-use Rattle.heap_law.proofs.Names.{same_mutexes}
-use Rattle.event_law.specs.Laws.{Gives}
-use Rattle.event_law.proofs.Bags.{counts_of}
-use Rattle.event_law.proofs.GiftsTaken.{gift_fits}
-use Rattle.still_law.proofs.Alike.{Once}
-use Rattle.still_law.proofs.Readied.{copies_ready}
-use Rattle.still_law.proofs.Told.{told, ones}
+use Rattle.turn_law.specs.Below.fr_base.declared.name.MutexNo.{MutexNo}
+use Rattle.turn_law.specs.Below.fr_base.declared.step.Fresh.TheVariants as fresh
+use Rattle.turn_law.specs.Below.fr_base.Lists.{last_of}
+use Rattle.turn_law.specs.Below.fr_base.declared.instruction.Instr.{Instr}
+use Rattle.turn_law.specs.Below.fr_base.declared.instruction.Instr.TheVariants as instr
+use Rattle.turn_law.specs.Below.fr_plain.declared.value.Value.{Value as PlainValue}
+use Rattle.turn_law.specs.Below.fr_plain.declared.value.Value.TheVariants as plain_v
+use Rattle.turn_law.specs.Below.fr_plain.PlainState.{SameState, plain_state}
+use Rattle.turn_law.specs.Below.fr_plain.MachineActs.{do_unlock}
+use Rattle.turn_law.specs.Below.fr_plain.MachineThreads.{Shared}
+use Rattle.turn_law.specs.Below.fr_code.Machine.{CodeWhole, CodeRunning}
+use Rattle.turn_law.specs.Below.fr_code.Steps.{Place, over_at, run_instr}
+use Rattle.turn_law.specs.Below.heap_partition.Plain.{plain_of}
+use Rattle.turn_law.specs.Below.heap_partition.declared.value.Owned.{Owned}
+use Rattle.turn_law.specs.Below.heap_partition.declared.value.Owned.TheVariants as owned
+use Rattle.turn_law.specs.Below.read_cache.Cache.{Copy}
+use Rattle.turn_law.specs.Below.migration.Packing.{unpin_all}
+use Rattle.turn_law.specs.Below.thread_state.View.{ThreadState}
+use Rattle.turn_law.specs.Below.thread_state.declared.value.Value.{Value}
+use Rattle.turn_law.specs.Below.thread_state.declared.value.Value.TheVariants as value
+use Rattle.turn_law.specs.Below.server_model.declared.event.Event.{Event}
+use Rattle.turn_law.specs.Below.server_model.Servers.{Server, Cluster}
+use Rattle.turn_law.specs.Below.server_model.Work.{Hand, Popped, with_slots, with_cache, front_of, pop_slot, taken_as, owned_of, then_some}
+use Rattle.turn_law.specs.Below.server_model.Commit.{goes_on, go_on, held_of, send_content}
+use Rattle.turn_law.specs.Below.server_model.Events.{Stepped, begin_work, committed, step}
+use Rattle.turn_law.specs.Below.heap_law.Names.{tot, one, if_so, same_mutex}
+use Rattle.turn_law.specs.Below.heap_law.Things.{Thing, holds, as_content, gift_things, things_at}
+use Rattle.turn_law.specs.Below.heap_law.Sight.{Sight}
+use Rattle.turn_law.specs.Below.heap_law.Naming.{started_at, made_at}
+use Rattle.turn_law.specs.Below.heap_law.OneHeap.{Node, object_n, mutex_n, task_n, inside, owns, named_in, any_named, is_in_state, if_in, or_else, first_shown, content_value, result_value, share_in, running_at, one_heap, state_of}
+use Rattle.turn_law.specs.Below.heap_law.Coherent.{IsSound}
+use Rattle.turn_law.proofs.Below.heap_law.Names.{same_mutexes}
+use Rattle.turn_law.specs.Below.event_law.Laws.{Gives}
+use Rattle.turn_law.proofs.Below.event_law.Bags.{counts_of}
+use Rattle.turn_law.proofs.Below.event_law.GiftsTaken.{gift_fits}
+use Rattle.turn_law.proofs.Below.still_law.Alike.{Once}
+use Rattle.turn_law.proofs.Below.still_law.Readied.{copies_ready}
+use Rattle.turn_law.proofs.Below.still_law.Told.{told, ones}
 use Rattle.plain_types.proofs.Mutexes.{mutex_cases}
 use Rattle.turn_law.specs.Turns.{StepsTo}
 use Rattle.turn_law.proofs.Parts.{owned_in}
@@ -60,22 +60,22 @@ use Rattle.lock_law.proofs.Changed as changed
 use Rattle.lock_law.proofs.Places.{itself_named}
 use Rattle.lock_law.proofs.PlainMutex.{acts, unlocks as unlock_does, steps_with, set_shows}
 use Rattle.std.proofs.lemmas.List.{append_assoc}
-use Rattle.fr_base.specs.declared.label.Label.TheVariants as label
-use Rattle.fr_base.specs.declared.label.Plain.{Plain}
-use Rattle.journal.specs.declared.act.Act.TheVariants as act
-use Rattle.server_msgs.specs.declared.message.Message.TheVariants as message
-use Rattle.server_model.specs.Work.{note, label_all}
-use Rattle.server_model.specs.Events.{stepped}
-use Rattle.fr_plain.specs.MachineThreads.{mutex_there, with_mutex}
-use Rattle.heap_law.specs.Things.{at_slot, at_temp, in_cell, locks, stands, walk_things, slot_things, temp_things, things_of}
-use Rattle.heap_law.specs.Sight.{sight}
-use Rattle.heap_law.specs.Sharing.{contents, gift_content}
-use Rattle.event_law.proofs.Bags.{had_by, rest_things}
-use Rattle.event_law.proofs.KnownSound.{on_standing}
-use Rattle.event_law.proofs.Trades.{tot-append}
-use Rattle.event_law.proofs.Values.{last_split}
-use Rattle.still_law.proofs.Once.{few_homes}
-use Rattle.still_law.proofs.Sites.{shown, Moves, sends}
+use Rattle.turn_law.specs.Below.fr_base.declared.label.Label.TheVariants as label
+use Rattle.turn_law.specs.Below.fr_base.declared.label.Plain.{Plain}
+use Rattle.turn_law.specs.Below.journal.declared.act.Act.TheVariants as act
+use Rattle.turn_law.specs.Below.server_msgs.declared.message.Message.TheVariants as message
+use Rattle.turn_law.specs.Below.server_model.Work.{note, label_all}
+use Rattle.turn_law.specs.Below.server_model.Events.{stepped}
+use Rattle.turn_law.specs.Below.fr_plain.MachineThreads.{mutex_there, with_mutex}
+use Rattle.turn_law.specs.Below.heap_law.Things.{at_slot, at_temp, in_cell, locks, stands, walk_things, slot_things, temp_things, things_of}
+use Rattle.turn_law.specs.Below.heap_law.Sight.{sight}
+use Rattle.turn_law.specs.Below.heap_law.Sharing.{contents, gift_content}
+use Rattle.turn_law.proofs.Below.event_law.Bags.{had_by, rest_things}
+use Rattle.turn_law.proofs.Below.event_law.KnownSound.{on_standing}
+use Rattle.turn_law.proofs.Below.event_law.Trades.{tot-append}
+use Rattle.turn_law.proofs.Below.event_law.Values.{last_split}
+use Rattle.turn_law.proofs.Below.still_law.Once.{few_homes}
+use Rattle.turn_law.proofs.Below.still_law.Sites.{shown, Moves, sends}
 use Rattle.plain_types.proofs.Mutexes.{given_set}
 use Rattle.turn_law.specs.Turns.{IsPlainStep}
 use Rattle.turn_law.proofs.Events.{Sends}

@@ -1,21 +1,21 @@
 -- WHICH INSTRUCTIONS: those at mutexes, and those that make objects. (A step that asks for an answer does no plain step)
 use Rattle.std.specs.Prelude.{ℕ, zero, suc, slice_get, ◌≡◌, Bool, true, false, Option, Some, None}
 use Rattle.std.specs.Bool.{⊤}
-use Rattle.fr_base.specs.Lists.{last_of}
-use Rattle.fr_base.specs.declared.name.MutexNo.{MutexNo}
-use Rattle.fr_base.specs.declared.instruction.Instr.{Instr}
-use Rattle.fr_base.specs.declared.instruction.Instr.TheVariants as instr
-use Rattle.thread_state.specs.View.{ThreadState}
-use Rattle.thread_state.specs.declared.value.Value.{Value}
-use Rattle.server_model.specs.declared.event.Event.{Event}
-use Rattle.server_model.specs.Servers.{Cluster}
-use Rattle.server_model.specs.Work.{front_of, mutex_of, then_some}
-use Rattle.server_model.specs.Commit.{held_of}
-use Rattle.server_model.specs.Clusters.{apply}
-use Rattle.heap_law.specs.Sight.{sight}
-use Rattle.heap_law.specs.OneHeap.{mutex_n, is_in_state}
-use Rattle.heap_law.specs.Coherent.{IsSound}
-use Rattle.event_law.specs.Laws.{Gives, FewEvents}
+use Rattle.turn_law.specs.Below.fr_base.Lists.{last_of}
+use Rattle.turn_law.specs.Below.fr_base.declared.name.MutexNo.{MutexNo}
+use Rattle.turn_law.specs.Below.fr_base.declared.instruction.Instr.{Instr}
+use Rattle.turn_law.specs.Below.fr_base.declared.instruction.Instr.TheVariants as instr
+use Rattle.turn_law.specs.Below.thread_state.View.{ThreadState}
+use Rattle.turn_law.specs.Below.thread_state.declared.value.Value.{Value}
+use Rattle.turn_law.specs.Below.server_model.declared.event.Event.{Event}
+use Rattle.turn_law.specs.Below.server_model.Servers.{Cluster}
+use Rattle.turn_law.specs.Below.server_model.Work.{front_of, mutex_of, then_some}
+use Rattle.turn_law.specs.Below.server_model.Commit.{held_of}
+use Rattle.turn_law.specs.Below.server_model.Clusters.{apply}
+use Rattle.turn_law.specs.Below.heap_law.Sight.{sight}
+use Rattle.turn_law.specs.Below.heap_law.OneHeap.{mutex_n, is_in_state}
+use Rattle.turn_law.specs.Below.heap_law.Coherent.{IsSound}
+use Rattle.turn_law.specs.Below.event_law.Laws.{Gives, FewEvents}
 use Rattle.turn_law.specs.Turns.{IsPlainStep, instr_of, thread_of}
 
 -- a box of a new object

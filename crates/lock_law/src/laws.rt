@@ -1,7 +1,7 @@
-ghost use Rattle.heap_law.specs.Coherent.{IsSound};
+ghost use Rattle.turn_law.specs.Below.heap_law.Coherent.{IsSound};
 ghost use Rattle.lock_law.specs.Locks.{SharesGo, UnlocksArePlain, dups_mutex, locks_mutex, makes_box, makes_mutex};
 ghost use Rattle.turn_law.specs.Turns.{ArePlainSteps};
-ghost use Rattle.type_law.specs.ClusterTypes.{IsCoherent};
+ghost use Rattle.undone_law.specs.Below.type_law.ClusterTypes.{IsCoherent};
 
 /// From a coherent cluster, each step of a dup and of a lock is the plain step of its thread on the one heap, with the entry's labels, its messages handed over: the
 /// place is followed to its mutex; a dup has one value of it more, and a lock takes its content out, which was its content until then. A step that asks for an

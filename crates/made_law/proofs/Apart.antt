@@ -3,41 +3,41 @@ use Rattle.std.proofs.Common.{◌≡◌, ◌⊎◌, inl, inr, ⊎_elim, ℕ, zer
 use Rattle.std.specs.Prelude.{slice_get}
 use Rattle.std.proofs.lemmas.Bool.{eq-eqb}
 use Rattle.std.proofs.lemmas.Bool.Decides.{nat_tests}
-use Rattle.fr_store.proofs.Keys.{object_cases}
-use Rattle.fr_base.specs.declared.name.ObjNo.{ObjNo}
-use Rattle.fr_base.specs.declared.instruction.Operand.{Operand}
-use Rattle.fr_base.specs.declared.instruction.Instr.{Instr}
-use Rattle.fr_base.specs.declared.instruction.Instr.TheVariants as instr
-use Rattle.global_addr.specs.Words.{colour_of, server_of, address_of}
-use Rattle.heap_partition.specs.declared.value.Cell.{Cell}
-use Rattle.journal.specs.View.{EntryView}
-use Rattle.thread_state.specs.View.{ThreadState}
-use Rattle.thread_state.specs.declared.value.Value.{Value}
-use Rattle.thread_state.specs.declared.value.Value.TheVariants as value
-use Rattle.server_model.specs.declared.event.Event.{Event}
-use Rattle.server_model.specs.declared.event.What.TheVariants.{Step}
-use Rattle.server_model.specs.Servers.{Server, Cluster, server_at}
-use Rattle.server_model.specs.Work.{thread_in, then_some}
-use Rattle.server_model.specs.Clusters.{apply}
-use Rattle.heap_law.specs.Names.{Among, tot, one, other, same_object}
-use Rattle.heap_law.specs.Things.{Thing, lies, flies, things_of}
-use Rattle.heap_law.specs.Sight.{Pointer, pointers_in, taken_pointers, colour_up_to, word_of_object, is_issued_at, is_issued, issued, word, Sight, sight}
-use Rattle.heap_law.specs.Placing.{words, is_word_of, same_words, shared_words, different_words_wrong}
-use Rattle.heap_law.specs.Weights.{cells}
-use Rattle.heap_law.specs.Words.{Fresh, HasWords}
-use Rattle.heap_law.specs.Coherent.{Holds, IsSound, different_words}
-use Rattle.heap_law.proofs.Names.{same_number}
-use Rattle.heap_law.proofs.Words.{words_law, none_at, none_all, named, itself}
-use Rattle.path_law.proofs.Origins.{among_first}
-use Rattle.event_law.specs.Kinds.{step_box, instr_kind, kind_at, kind_of}
-use Rattle.event_law.specs.Laws.{Gives, FewEvents}
-use Rattle.event_law.proofs.Results.{both_give, weaker}
-use Rattle.event_law.proofs.Boxes.{tot_le}
-use Rattle.event_law.proofs.Askers.{other_none}
+use Rattle.value_law.proofs.Below.fr_store.Keys.{object_cases}
+use Rattle.value_law.specs.Below.fr_base.declared.name.ObjNo.{ObjNo}
+use Rattle.value_law.specs.Below.fr_base.declared.instruction.Operand.{Operand}
+use Rattle.value_law.specs.Below.fr_base.declared.instruction.Instr.{Instr}
+use Rattle.value_law.specs.Below.fr_base.declared.instruction.Instr.TheVariants as instr
+use Rattle.value_law.specs.Below.global_addr.Words.{colour_of, server_of, address_of}
+use Rattle.value_law.specs.Below.heap_partition.declared.value.Cell.{Cell}
+use Rattle.value_law.specs.Below.journal.View.{EntryView}
+use Rattle.value_law.specs.Below.thread_state.View.{ThreadState}
+use Rattle.value_law.specs.Below.thread_state.declared.value.Value.{Value}
+use Rattle.value_law.specs.Below.thread_state.declared.value.Value.TheVariants as value
+use Rattle.value_law.specs.Below.server_model.declared.event.Event.{Event}
+use Rattle.value_law.specs.Below.server_model.declared.event.What.TheVariants.{Step}
+use Rattle.value_law.specs.Below.server_model.Servers.{Server, Cluster, server_at}
+use Rattle.value_law.specs.Below.server_model.Work.{thread_in, then_some}
+use Rattle.value_law.specs.Below.server_model.Clusters.{apply}
+use Rattle.value_law.specs.Below.heap_law.Names.{Among, tot, one, other, same_object}
+use Rattle.value_law.specs.Below.heap_law.Things.{Thing, lies, flies, things_of}
+use Rattle.value_law.specs.Below.heap_law.Sight.{Pointer, pointers_in, taken_pointers, colour_up_to, word_of_object, is_issued_at, is_issued, issued, word, Sight, sight}
+use Rattle.value_law.specs.Below.heap_law.Placing.{words, is_word_of, same_words, shared_words, different_words_wrong}
+use Rattle.value_law.specs.Below.heap_law.Weights.{cells}
+use Rattle.value_law.specs.Below.heap_law.Words.{Fresh, HasWords}
+use Rattle.value_law.specs.Below.heap_law.Coherent.{Holds, IsSound, different_words}
+use Rattle.value_law.proofs.Below.heap_law.Names.{same_number}
+use Rattle.value_law.proofs.Below.heap_law.Words.{words_law, none_at, none_all, named, itself}
+use Rattle.value_law.proofs.Below.path_law.Origins.{among_first}
+use Rattle.value_law.specs.Below.event_law.Kinds.{step_box, instr_kind, kind_at, kind_of}
+use Rattle.value_law.specs.Below.event_law.Laws.{Gives, FewEvents}
+use Rattle.value_law.proofs.Below.event_law.Results.{both_give, weaker}
+use Rattle.value_law.proofs.Below.event_law.Boxes.{tot_le}
+use Rattle.value_law.proofs.Below.event_law.Askers.{other_none}
 use Rattle.carry_law.proofs.Below.read_law.Flights.{found, truly}
-use Rattle.word_law.specs.Unmoved.{WordsStay}
-use Rattle.word_law.specs.WordsAfter.{WordsAfter}
-use Rattle.word_law.proofs.Standing.{CellOf, lying, flying, pointers_among}
+use Rattle.carry_law.specs.Below.word_law.Unmoved.{WordsStay}
+use Rattle.carry_law.specs.Below.word_law.WordsAfter.{WordsAfter}
+use Rattle.carry_law.proofs.Below.word_law.Standing.{CellOf, lying, flying, pointers_among}
 use Rattle.value_law.proofs.Fit.{marks, Base}
 use Rattle.value_law.proofs.Named.{Also, names}
 use Rattle.value_law.proofs.Sums.{stray, cell_object}

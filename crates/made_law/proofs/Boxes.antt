@@ -1,53 +1,53 @@
 -- The step of a box in its cluster.
 use Rattle.std.proofs.Common.{◌≡◌, ℕ, ◌++◌, List, [], Option, Some, None, option_map, true, false, refl, sym, ap, subst, ◌∙◌, arith}
 use Rattle.std.specs.Prelude.{slice_get, length, take, drop as drop_first}
-use Rattle.fr_base.specs.declared.instruction.Operand.{Operand}
-use Rattle.fr_base.specs.declared.instruction.Operand.TheVariants as operand
-use Rattle.fr_base.specs.declared.instruction.Instr.TheVariants as instr
-use Rattle.fr_base.specs.declared.step.Fresh.TheVariants as fresh
-use Rattle.fr_base.specs.declared.name.ObjNo.{ObjNo}
-use Rattle.heap_partition.specs.declared.value.Owned.{Owned}
-use Rattle.heap_partition.specs.declared.value.Owned.TheVariants as owned
-use Rattle.journal.specs.View.{EntryView}
-use Rattle.thread_state.specs.View.{ThreadState, is_over}
-use Rattle.thread_state.specs.declared.phase.Phase.{Phase}
-use Rattle.thread_state.specs.declared.phase.Phase.TheVariants as phase
-use Rattle.thread_state.specs.declared.value.Value.{Value}
-use Rattle.thread_state.specs.declared.value.Value.TheVariants as value
-use Rattle.server_model.specs.declared.event.What.TheVariants.{Step}
-use Rattle.server_model.specs.Servers.{Server, Cluster, server_at}
-use Rattle.server_model.specs.Work.{Hand, Popped, last_of, front_of, thread_in, without_thread, then_some, owned_of, taken_as, with_temps}
-use Rattle.server_model.specs.Commit.{go_on, goes_on, next_object, make_box, box_up, settle}
-use Rattle.server_model.specs.Events.{can_step, has_phase, enabled, begin_work, begin_at, Stepped, done_step, committed, step, step_in, stepped, does}
-use Rattle.server_model.specs.Clusters.{with_server, hand_over_newer, done_at, apply}
-use Rattle.heap_law.specs.Names.{tot}
-use Rattle.heap_law.specs.Things.{in_hand, holds, Thing, server_things, servers_things, things_of}
-use Rattle.heap_law.specs.Weights.{cells, tasks_of}
-use Rattle.heap_law.specs.Sight.{sight}
-use Rattle.heap_law.specs.Words.{HasWords}
-use Rattle.type_law.specs.ClusterTypes.{IsCoherent}
-use Rattle.path_law.proofs.Sole.{some_is}
-use Rattle.event_law.specs.Laws.{Gives, GoTo, FewEvents}
-use Rattle.event_law.proofs.Trades.{tot-append}
-use Rattle.event_law.proofs.Results.{over_gives, test_gives, both_give}
-use Rattle.event_law.proofs.RulesKeep.{Counted, counted_kept}
-use Rattle.event_law.proofs.Bags.{HandOk, all_standing}
-use Rattle.event_law.proofs.Boxes.{New, new_kept, boxes_up}
-use Rattle.event_law.proofs.Chains.{takes}
-use Rattle.event_law.proofs.Commits.{goes_keep}
-use Rattle.event_law.proofs.Steps.{committed_keeps}
-use Rattle.event_law.proofs.Events.{others_of, tot-server, begins_site}
-use Rattle.event_law.proofs.Sound.{sound_has_sums}
-use Rattle.event_law.proofs.GiftsTaken.{gift_fits}
-use Rattle.event_law.proofs.Applied.{go_with}
-use Rattle.event_law.proofs.Sending.{applied_part, each_event_sends}
-use Rattle.word_law.specs.Reworded.{HasPlaces}
-use Rattle.word_law.specs.Unmoved.{taking_by}
-use Rattle.word_law.proofs.Unmoved.{untouched_stays}
-use Rattle.stay_law.proofs.Alike.{Alike, blank}
-use Rattle.stay_law.proofs.Sites.{HandAlike, handed_over}
-use Rattle.stay_law.proofs.Seen.{seen_alike}
-use Rattle.stay_law.proofs.Steps.{TakesNoneHere, settles}
+use Rattle.value_law.specs.Below.fr_base.declared.instruction.Operand.{Operand}
+use Rattle.value_law.specs.Below.fr_base.declared.instruction.Operand.TheVariants as operand
+use Rattle.value_law.specs.Below.fr_base.declared.instruction.Instr.TheVariants as instr
+use Rattle.value_law.specs.Below.fr_base.declared.step.Fresh.TheVariants as fresh
+use Rattle.value_law.specs.Below.fr_base.declared.name.ObjNo.{ObjNo}
+use Rattle.value_law.specs.Below.heap_partition.declared.value.Owned.{Owned}
+use Rattle.value_law.specs.Below.heap_partition.declared.value.Owned.TheVariants as owned
+use Rattle.value_law.specs.Below.journal.View.{EntryView}
+use Rattle.value_law.specs.Below.thread_state.View.{ThreadState, is_over}
+use Rattle.value_law.specs.Below.thread_state.declared.phase.Phase.{Phase}
+use Rattle.value_law.specs.Below.thread_state.declared.phase.Phase.TheVariants as phase
+use Rattle.value_law.specs.Below.thread_state.declared.value.Value.{Value}
+use Rattle.value_law.specs.Below.thread_state.declared.value.Value.TheVariants as value
+use Rattle.value_law.specs.Below.server_model.declared.event.What.TheVariants.{Step}
+use Rattle.value_law.specs.Below.server_model.Servers.{Server, Cluster, server_at}
+use Rattle.value_law.specs.Below.server_model.Work.{Hand, Popped, last_of, front_of, thread_in, without_thread, then_some, owned_of, taken_as, with_temps}
+use Rattle.value_law.specs.Below.server_model.Commit.{go_on, goes_on, next_object, make_box, box_up, settle}
+use Rattle.value_law.specs.Below.server_model.Events.{can_step, has_phase, enabled, begin_work, begin_at, Stepped, done_step, committed, step, step_in, stepped, does}
+use Rattle.value_law.specs.Below.server_model.Clusters.{with_server, hand_over_newer, done_at, apply}
+use Rattle.value_law.specs.Below.heap_law.Names.{tot}
+use Rattle.value_law.specs.Below.heap_law.Things.{in_hand, holds, Thing, server_things, servers_things, things_of}
+use Rattle.value_law.specs.Below.heap_law.Weights.{cells, tasks_of}
+use Rattle.value_law.specs.Below.heap_law.Sight.{sight}
+use Rattle.value_law.specs.Below.heap_law.Words.{HasWords}
+use Rattle.value_law.specs.Below.type_law.ClusterTypes.{IsCoherent}
+use Rattle.value_law.proofs.Below.path_law.Sole.{some_is}
+use Rattle.value_law.specs.Below.event_law.Laws.{Gives, GoTo, FewEvents}
+use Rattle.value_law.proofs.Below.event_law.Trades.{tot-append}
+use Rattle.value_law.proofs.Below.event_law.Results.{over_gives, test_gives, both_give}
+use Rattle.value_law.proofs.Below.event_law.RulesKeep.{Counted, counted_kept}
+use Rattle.value_law.proofs.Below.event_law.Bags.{HandOk, all_standing}
+use Rattle.value_law.proofs.Below.event_law.Boxes.{New, new_kept, boxes_up}
+use Rattle.value_law.proofs.Below.event_law.Chains.{takes}
+use Rattle.value_law.proofs.Below.event_law.Commits.{goes_keep}
+use Rattle.value_law.proofs.Below.event_law.Steps.{committed_keeps}
+use Rattle.value_law.proofs.Below.event_law.Events.{others_of, tot-server, begins_site}
+use Rattle.value_law.proofs.Below.event_law.Sound.{sound_has_sums}
+use Rattle.value_law.proofs.Below.event_law.GiftsTaken.{gift_fits}
+use Rattle.value_law.proofs.Below.event_law.Applied.{go_with}
+use Rattle.value_law.proofs.Below.event_law.Sending.{applied_part, each_event_sends}
+use Rattle.carry_law.specs.Below.word_law.Reworded.{HasPlaces}
+use Rattle.carry_law.specs.Below.word_law.Unmoved.{taking_by}
+use Rattle.carry_law.proofs.Below.word_law.Unmoved.{untouched_stays}
+use Rattle.carry_law.proofs.Below.stay_law.Alike.{Alike, blank}
+use Rattle.carry_law.proofs.Below.stay_law.Sites.{HandAlike, handed_over}
+use Rattle.carry_law.proofs.Below.stay_law.Seen.{seen_alike}
+use Rattle.carry_law.proofs.Below.stay_law.Steps.{TakesNoneHere, settles}
 use Rattle.carry_law.proofs.Below.prepare_law.Hands.{calm_goes}
 use Rattle.carry_law.proofs.Below.prepare_law.Asking.{found_number}
 use Rattle.carry_law.proofs.Hands.{put, places, h0, each_together, together_chain, puts_alike}

@@ -2,50 +2,50 @@
 use Rattle.std.proofs.Common.{◌≡◌, ◌⊎◌, inl, inr, ℕ, ◌+◌, ◌≤◌, ◌&&◌, not, true, false, List, [], ◌∷◌, ◌++◌, Some, None, refl, sym, ap, ap₂, subst, ◌∙◌, arith}
 use Rattle.std.specs.Prelude.{slice_get, length}
 use Rattle.std.proofs.lemmas.Bool.{eq-eqb}
-use Rattle.fr_base.specs.declared.name.ObjNo.{ObjNo}
-use Rattle.heap_partition.specs.declared.value.BoxPtr.{BoxPtr}
-use Rattle.heap_partition.specs.declared.value.Cell.{Cell}
-use Rattle.heap_partition.specs.declared.value.Owned.{Owned}
-use Rattle.heap_partition.specs.declared.value.Owned.TheVariants as owned
-use Rattle.colour_retire.specs.Colours.{picked}
-use Rattle.owner_box.specs.View.{PartitionState}
-use Rattle.owner_box.specs.Partition.{new_word, made}
-use Rattle.thread_state.specs.View.{ThreadState, is_over}
-use Rattle.thread_state.specs.declared.value.Value.{Value}
-use Rattle.thread_state.specs.declared.value.Value.TheVariants as value
-use Rattle.journal.specs.declared.act.Act.TheVariants as act
-use Rattle.server_model.specs.Servers.{Rest, Server, Cluster, server_at}
-use Rattle.server_model.specs.Work.{Hand, last_of, front_of, thread_in, without_thread, put_back, note, with_partition}
-use Rattle.server_model.specs.NewWords.{NewWord, can_grow, issue_placed}
-use Rattle.server_model.specs.Commit.{push_box, make_box}
-use Rattle.heap_law.specs.Names.{Among, tot, one}
-use Rattle.heap_law.specs.Things.{at_temp, in_hand, Thing, holds, lies, flies, stands, things_at, standing_things, thread_things, things_of}
-use Rattle.heap_law.specs.Follow.{Standing, threads_in, cells_in}
-use Rattle.heap_law.specs.Sight.{issued, sight}
-use Rattle.heap_law.specs.Weights.{cells}
-use Rattle.heap_law.specs.Words.{HasWords}
-use Rattle.heap_law.specs.Coherent.{Holds, first_at_holder, IsSound}
-use Rattle.type_law.specs.ClusterTypes.{IsCoherent}
-use Rattle.path_law.proofs.Contained.{among_thread}
-use Rattle.event_law.specs.Laws.{Gives, FewEvents}
-use Rattle.event_law.proofs.Trades.{tot-append}
-use Rattle.event_law.proofs.Results.{over_gives, test_gives}
-use Rattle.event_law.proofs.Values.{last_split}
-use Rattle.event_law.proofs.Bags.{all_standing, body_things, rest_things, server_same}
-use Rattle.event_law.proofs.Boxes.{goes_as, all_new}
-use Rattle.event_law.proofs.Events.{tot-server}
-use Rattle.event_law.proofs.Sound.{sound_has_sums}
-use Rattle.event_law.proofs.ThreadThere.{thread_there}
-use Rattle.word_law.specs.Reworded.{HasPlaces}
-use Rattle.word_law.specs.Unmoved.{pointing, LeavesWords}
-use Rattle.word_law.specs.WordsAfter.{KeepsWords}
-use Rattle.word_law.proofs.Put.{Split, put_split}
-use Rattle.word_law.proofs.Slots.{thread_cells}
-use Rattle.stay_law.proofs.Alike.{Alike, itself, turned, chain, beside, joined, in_front, goes}
-use Rattle.stay_law.proofs.Servers.{held, held_if}
-use Rattle.stay_law.proofs.Threads.{slots_of, temps_of, thread_alike}
-use Rattle.stay_law.proofs.Sites.{ends_alike, replaced}
-use Rattle.stay_law.proofs.Steps.{TakesNoneHere}
+use Rattle.value_law.specs.Below.fr_base.declared.name.ObjNo.{ObjNo}
+use Rattle.value_law.specs.Below.heap_partition.declared.value.BoxPtr.{BoxPtr}
+use Rattle.value_law.specs.Below.heap_partition.declared.value.Cell.{Cell}
+use Rattle.value_law.specs.Below.heap_partition.declared.value.Owned.{Owned}
+use Rattle.value_law.specs.Below.heap_partition.declared.value.Owned.TheVariants as owned
+use Rattle.value_law.specs.Below.colour_retire.Colours.{picked}
+use Rattle.value_law.specs.Below.owner_box.View.{PartitionState}
+use Rattle.value_law.specs.Below.owner_box.Partition.{new_word, made}
+use Rattle.value_law.specs.Below.thread_state.View.{ThreadState, is_over}
+use Rattle.value_law.specs.Below.thread_state.declared.value.Value.{Value}
+use Rattle.value_law.specs.Below.thread_state.declared.value.Value.TheVariants as value
+use Rattle.value_law.specs.Below.journal.declared.act.Act.TheVariants as act
+use Rattle.value_law.specs.Below.server_model.Servers.{Rest, Server, Cluster, server_at}
+use Rattle.value_law.specs.Below.server_model.Work.{Hand, last_of, front_of, thread_in, without_thread, put_back, note, with_partition}
+use Rattle.value_law.specs.Below.server_model.NewWords.{NewWord, can_grow, issue_placed}
+use Rattle.value_law.specs.Below.server_model.Commit.{push_box, make_box}
+use Rattle.value_law.specs.Below.heap_law.Names.{Among, tot, one}
+use Rattle.value_law.specs.Below.heap_law.Things.{at_temp, in_hand, Thing, holds, lies, flies, stands, things_at, standing_things, thread_things, things_of}
+use Rattle.value_law.specs.Below.heap_law.Follow.{Standing, threads_in, cells_in}
+use Rattle.value_law.specs.Below.heap_law.Sight.{issued, sight}
+use Rattle.value_law.specs.Below.heap_law.Weights.{cells}
+use Rattle.value_law.specs.Below.heap_law.Words.{HasWords}
+use Rattle.value_law.specs.Below.heap_law.Coherent.{Holds, first_at_holder, IsSound}
+use Rattle.value_law.specs.Below.type_law.ClusterTypes.{IsCoherent}
+use Rattle.value_law.proofs.Below.path_law.Contained.{among_thread}
+use Rattle.value_law.specs.Below.event_law.Laws.{Gives, FewEvents}
+use Rattle.value_law.proofs.Below.event_law.Trades.{tot-append}
+use Rattle.value_law.proofs.Below.event_law.Results.{over_gives, test_gives}
+use Rattle.value_law.proofs.Below.event_law.Values.{last_split}
+use Rattle.value_law.proofs.Below.event_law.Bags.{all_standing, body_things, rest_things, server_same}
+use Rattle.value_law.proofs.Below.event_law.Boxes.{goes_as, all_new}
+use Rattle.value_law.proofs.Below.event_law.Events.{tot-server}
+use Rattle.value_law.proofs.Below.event_law.Sound.{sound_has_sums}
+use Rattle.value_law.proofs.Below.event_law.ThreadThere.{thread_there}
+use Rattle.carry_law.specs.Below.word_law.Reworded.{HasPlaces}
+use Rattle.carry_law.specs.Below.word_law.Unmoved.{pointing, LeavesWords}
+use Rattle.carry_law.specs.Below.word_law.WordsAfter.{KeepsWords}
+use Rattle.carry_law.proofs.Below.word_law.Put.{Split, put_split}
+use Rattle.carry_law.proofs.Below.word_law.Slots.{thread_cells}
+use Rattle.carry_law.proofs.Below.stay_law.Alike.{Alike, itself, turned, chain, beside, joined, in_front, goes}
+use Rattle.carry_law.proofs.Below.stay_law.Servers.{held, held_if}
+use Rattle.carry_law.proofs.Below.stay_law.Threads.{slots_of, temps_of, thread_alike}
+use Rattle.carry_law.proofs.Below.stay_law.Sites.{ends_alike, replaced}
+use Rattle.carry_law.proofs.Below.stay_law.Steps.{TakesNoneHere}
 use Rattle.carry_law.specs.Carried.{Carried}
 use Rattle.carry_law.specs.Made.{Made}
 use Rattle.carry_law.proofs.Carrying.{carried_stays}

@@ -1,11 +1,11 @@
 -- What stands in a server's partition stands in its cluster.
 use Rattle.std.proofs.Common.{◌≡◌, inr, ℕ, if◌then◌else◌, List, [], ◌∷◌, Some, sym, subst}
-use Rattle.fr_typing.proofs.PlaceLemmas.{eq_cases}
-use Rattle.server_model.specs.Servers.{Server, server_at}
-use Rattle.server_model.specs.Clusters.{with_server}
-use Rattle.heap_law.specs.Names.{Among}
-use Rattle.heap_law.specs.Things.{Thing, partition_things, server_things, servers_things}
-use Rattle.path_law.proofs.Origins.{among_first, among_second}
+use Rattle.value_law.proofs.Below.fr_typing.PlaceLemmas.{eq_cases}
+use Rattle.value_law.specs.Below.server_model.Servers.{Server, server_at}
+use Rattle.value_law.specs.Below.server_model.Clusters.{with_server}
+use Rattle.value_law.specs.Below.heap_law.Names.{Among}
+use Rattle.value_law.specs.Below.heap_law.Things.{Thing, partition_things, server_things, servers_things}
+use Rattle.value_law.proofs.Below.path_law.Origins.{among_first, among_second}
 
 pub of_partition : (y : Thing) (s : Server) → Among y (partition_things s.rest.number s.rest.partition) → Among y (server_things s)
 of_partition y s h = inr (among_first y _ _ (among_first y _ _ (among_first y _ _ (among_first y _ _ (among_first y _ _ (among_first y _ _ h))))))

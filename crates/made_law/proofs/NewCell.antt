@@ -1,30 +1,30 @@
 -- A new object: of two clusters words see the same, but that the second one has a cell with what the first one gives, and gives its box.
 use Rattle.std.proofs.Common.{◌≡◌, ◌⊎◌, inl, inr, ⊎_elim, ℕ, zero, suc, Bool, List, ◌∷◌, Option, Some, None, refl, sym, ap, subst, ◌∙◌}
-use Rattle.fr_base.specs.declared.name.ObjNo.{ObjNo}
-use Rattle.heap_partition.specs.declared.value.Cell.{Cell}
-use Rattle.heap_partition.specs.declared.value.Owned.TheVariants as owned
-use Rattle.mut_borrow.specs.declared.mutable.MutRef.{MutRef}
-use Rattle.thread_state.specs.View.{ThreadState}
-use Rattle.thread_state.specs.declared.value.Value.{Value}
-use Rattle.thread_state.specs.declared.value.Value.TheVariants as value
-use Rattle.server_model.specs.Servers.{Cluster}
-use Rattle.heap_law.specs.Names.{Among, tot}
-use Rattle.heap_law.specs.Things.{Location, at_slot, at_temp, in_cell, in_hand, Thing, holds, lies, flies, stands, things_of}
-use Rattle.heap_law.specs.Follow.{Standing, Ground, threads_in, cells_in, cell_of, value_of, value_in, value_behind, leads, locate}
-use Rattle.heap_law.specs.Stale.{holder_of, one_star_less}
-use Rattle.heap_law.specs.Sight.{Pointer, pointer_in, pointers_in, sight}
-use Rattle.heap_law.specs.Placing.{standing_in}
-use Rattle.heap_law.specs.Weights.{cells}
-use Rattle.heap_law.specs.Words.{LeadsTo}
-use Rattle.heap_law.proofs.Bags.{among_split}
-use Rattle.heap_law.proofs.Words.{none_at}
-use Rattle.path_law.proofs.Sole.{some_is}
-use Rattle.word_law.specs.Reworded.{HasPlaces, LiesThere}
-use Rattle.word_law.specs.Unmoved.{seen_at, takings}
-use Rattle.word_law.proofs.Standing.{CellOf, lying, flying, cell_among, pointers_among, pointer_at, tells, stands_in}
-use Rattle.word_law.proofs.Loose.{box_nowhere}
-use Rattle.word_law.proofs.Takings.{leads_pointing}
-use Rattle.stay_law.proofs.Alike.{shows_turn, StandsIn, Within, Alike, standing_turn}
+use Rattle.value_law.specs.Below.fr_base.declared.name.ObjNo.{ObjNo}
+use Rattle.value_law.specs.Below.heap_partition.declared.value.Cell.{Cell}
+use Rattle.value_law.specs.Below.heap_partition.declared.value.Owned.TheVariants as owned
+use Rattle.value_law.specs.Below.mut_borrow.declared.mutable.MutRef.{MutRef}
+use Rattle.value_law.specs.Below.thread_state.View.{ThreadState}
+use Rattle.value_law.specs.Below.thread_state.declared.value.Value.{Value}
+use Rattle.value_law.specs.Below.thread_state.declared.value.Value.TheVariants as value
+use Rattle.value_law.specs.Below.server_model.Servers.{Cluster}
+use Rattle.value_law.specs.Below.heap_law.Names.{Among, tot}
+use Rattle.value_law.specs.Below.heap_law.Things.{Location, at_slot, at_temp, in_cell, in_hand, Thing, holds, lies, flies, stands, things_of}
+use Rattle.value_law.specs.Below.heap_law.Follow.{Standing, Ground, threads_in, cells_in, cell_of, value_of, value_in, value_behind, leads, locate}
+use Rattle.value_law.specs.Below.heap_law.Stale.{holder_of, one_star_less}
+use Rattle.value_law.specs.Below.heap_law.Sight.{Pointer, pointer_in, pointers_in, sight}
+use Rattle.value_law.specs.Below.heap_law.Placing.{standing_in}
+use Rattle.value_law.specs.Below.heap_law.Weights.{cells}
+use Rattle.value_law.specs.Below.heap_law.Words.{LeadsTo}
+use Rattle.value_law.proofs.Below.heap_law.Bags.{among_split}
+use Rattle.value_law.proofs.Below.heap_law.Words.{none_at}
+use Rattle.value_law.proofs.Below.path_law.Sole.{some_is}
+use Rattle.carry_law.specs.Below.word_law.Reworded.{HasPlaces, LiesThere}
+use Rattle.carry_law.specs.Below.word_law.Unmoved.{seen_at, takings}
+use Rattle.carry_law.proofs.Below.word_law.Standing.{CellOf, lying, flying, cell_among, pointers_among, pointer_at, tells, stands_in}
+use Rattle.carry_law.proofs.Below.word_law.Loose.{box_nowhere}
+use Rattle.carry_law.proofs.Below.word_law.Takings.{leads_pointing}
+use Rattle.carry_law.proofs.Below.stay_law.Alike.{shows_turn, StandsIn, Within, Alike, standing_turn}
 use Rattle.carry_law.specs.Made.{new_pointer, Made}
 use Rattle.carry_law.proofs.Far.{loose_within, CellIn, lies_in, flies_in}
 use Rattle.carry_law.proofs.Hands.{RootedIn}

@@ -3,23 +3,23 @@ use Rattle.std.proofs.Common.{◌≡◌, inl, inr, ℕ, ◌≤◌, ◌==◌, ◌
 use Rattle.std.specs.Prelude.{length}
 use Rattle.std.proofs.lemmas.Bool.{eq-eqb}
 use Rattle.std.proofs.lemmas.Bool.Decides.{nat_tests}
-use Rattle.global_addr.specs.Words.{colour_of, server_of, address_of}
-use Rattle.colour_retire.specs.Colours.{picked}
-use Rattle.owner_box.specs.View.{PartitionState}
-use Rattle.server_model.specs.Servers.{Server, Cluster, server_at}
-use Rattle.heap_law.specs.Names.{Among, tot, one}
-use Rattle.heap_law.specs.Things.{Thing, lies, vacant, retired, counts, servers_things, things_of, things_at, cell_things, free_things}
-use Rattle.heap_law.specs.Weights.{states, below}
-use Rattle.heap_law.specs.Sight.{Pointer, is_spot, colour_up_to, word_of_object, is_issued_at, is_issued, issued, sight}
-use Rattle.heap_law.specs.Coherent.{IsSound}
-use Rattle.heap_law.proofs.Names.{same_number, and_left, and_right}
-use Rattle.heap_law.proofs.Words.{none_at}
-use Rattle.path_law.proofs.InState.{only_one}
-use Rattle.path_law.proofs.Origins.{among_second}
-use Rattle.event_law.specs.Sums.{Sums, is_server}
-use Rattle.event_law.proofs.Boxes.{tot_le}
-use Rattle.event_law.proofs.Events.{others_of, tot-server}
-use Rattle.event_law.proofs.Sound.{sound_has_sums}
+use Rattle.value_law.specs.Below.global_addr.Words.{colour_of, server_of, address_of}
+use Rattle.value_law.specs.Below.colour_retire.Colours.{picked}
+use Rattle.value_law.specs.Below.owner_box.View.{PartitionState}
+use Rattle.value_law.specs.Below.server_model.Servers.{Server, Cluster, server_at}
+use Rattle.value_law.specs.Below.heap_law.Names.{Among, tot, one}
+use Rattle.value_law.specs.Below.heap_law.Things.{Thing, lies, vacant, retired, counts, servers_things, things_of, things_at, cell_things, free_things}
+use Rattle.value_law.specs.Below.heap_law.Weights.{states, below}
+use Rattle.value_law.specs.Below.heap_law.Sight.{Pointer, is_spot, colour_up_to, word_of_object, is_issued_at, is_issued, issued, sight}
+use Rattle.value_law.specs.Below.heap_law.Coherent.{IsSound}
+use Rattle.value_law.proofs.Below.heap_law.Names.{same_number, and_left, and_right}
+use Rattle.value_law.proofs.Below.heap_law.Words.{none_at}
+use Rattle.value_law.proofs.Below.path_law.InState.{only_one}
+use Rattle.value_law.proofs.Below.path_law.Origins.{among_second}
+use Rattle.value_law.specs.Below.event_law.Sums.{Sums, is_server}
+use Rattle.value_law.proofs.Below.event_law.Boxes.{tot_le}
+use Rattle.value_law.proofs.Below.event_law.Events.{others_of, tot-server}
+use Rattle.value_law.proofs.Below.event_law.Sound.{sound_has_sums}
 use Rattle.carry_law.proofs.Below.read_law.Lookups.{one_state}
 use Rattle.value_law.proofs.Counts.{Plain, counts_at, counts_alone}
 use Rattle.made_law.proofs.Listed.{of_server, of_partition}

@@ -1,16 +1,16 @@
 -- A cell comes to a partition: words see it beside all else.
 use Rattle.std.proofs.Common.{◌≡◌, ℕ, zero, suc, ◌+◌, ◌^◌, ◌<◌, if◌then◌else◌, List, [], ◌∷◌, ◌++◌, Option, Some, None, refl, sym, subst, arith}
 use Rattle.std.specs.Prelude.{slice_get, slice_set, length}
-use Rattle.fr_typing.proofs.PlaceLemmas.{eq_cases}
-use Rattle.fr_base.specs.declared.instruction.Instr.{Instr}
-use Rattle.global_addr.specs.Words.{word_of, colour_of, server_of, address_of}
-use Rattle.heap_partition.specs.declared.value.Cell.{Cell}
-use Rattle.colour_retire.specs.Colours.{picked, rest_of}
-use Rattle.owner_box.specs.Partition.{put_cell, made}
-use Rattle.server_model.specs.Servers.{Rest}
-use Rattle.heap_law.specs.Things.{lies, things_at, cell_things, copy_things, mutex_things, task_things, waiting_things, leaving_things}
-use Rattle.event_law.proofs.Bags.{body_things}
-use Rattle.stay_law.proofs.Alike.{Alike, itself, turned, chain, beside, in_front, goes}
+use Rattle.value_law.proofs.Below.fr_typing.PlaceLemmas.{eq_cases}
+use Rattle.value_law.specs.Below.fr_base.declared.instruction.Instr.{Instr}
+use Rattle.value_law.specs.Below.global_addr.Words.{word_of, colour_of, server_of, address_of}
+use Rattle.value_law.specs.Below.heap_partition.declared.value.Cell.{Cell}
+use Rattle.value_law.specs.Below.colour_retire.Colours.{picked, rest_of}
+use Rattle.value_law.specs.Below.owner_box.Partition.{put_cell, made}
+use Rattle.value_law.specs.Below.server_model.Servers.{Rest}
+use Rattle.value_law.specs.Below.heap_law.Things.{lies, things_at, cell_things, copy_things, mutex_things, task_things, waiting_things, leaving_things}
+use Rattle.value_law.proofs.Below.event_law.Bags.{body_things}
+use Rattle.carry_law.proofs.Below.stay_law.Alike.{Alike, itself, turned, chain, beside, in_front, goes}
 use Rattle.carry_law.proofs.Leaving.{none_blank, one_cell, all_cells, free_blank}
 
 -- a cell where there was none

@@ -1,23 +1,23 @@
 -- Two clusters with the same threads and cells, as words see them: the same stands at each location.
 use Rattle.std.specs.Prelude.{⊤}
 use Rattle.std.proofs.Common.{◌≡◌, ℕ, Bool, List, Option, Some, None, refl, sym, ap, subst, ◌∙◌}
-use Rattle.fr_base.specs.declared.instruction.Instr.{Instr}
-use Rattle.fr_base.specs.declared.name.ObjNo.{ObjNo}
-use Rattle.heap_partition.specs.declared.value.Cell.{Cell}
-use Rattle.thread_state.specs.View.{ThreadState}
-use Rattle.thread_state.specs.declared.value.Value.{Value}
-use Rattle.thread_state.specs.declared.value.Value.TheVariants as value
-use Rattle.server_model.specs.Servers.{Cluster}
-use Rattle.heap_law.specs.Names.{Among}
-use Rattle.heap_law.specs.Things.{Location, at_slot, at_temp, in_cell, Thing, stands, things_of}
-use Rattle.heap_law.specs.Follow.{Standing, thread_at, threads_in, cells_in, cell_of, slot_of, temp_of, value_of, value_in}
-use Rattle.heap_law.specs.Sight.{sight}
-use Rattle.type_law.proofs.Branches.{found}
-use Rattle.path_law.proofs.Contained.{among_thread}
-use Rattle.word_law.specs.Reworded.{HasPlaces}
-use Rattle.word_law.specs.Unmoved.{pointing, owning, seen_at, Taking, takings}
-use Rattle.word_law.proofs.Standing.{CellOf, cell_among, cell_found}
-use Rattle.stay_law.proofs.Alike.{ShowsAs, StandsIn}
+use Rattle.value_law.specs.Below.fr_base.declared.instruction.Instr.{Instr}
+use Rattle.value_law.specs.Below.fr_base.declared.name.ObjNo.{ObjNo}
+use Rattle.value_law.specs.Below.heap_partition.declared.value.Cell.{Cell}
+use Rattle.value_law.specs.Below.thread_state.View.{ThreadState}
+use Rattle.value_law.specs.Below.thread_state.declared.value.Value.{Value}
+use Rattle.value_law.specs.Below.thread_state.declared.value.Value.TheVariants as value
+use Rattle.value_law.specs.Below.server_model.Servers.{Cluster}
+use Rattle.value_law.specs.Below.heap_law.Names.{Among}
+use Rattle.value_law.specs.Below.heap_law.Things.{Location, at_slot, at_temp, in_cell, Thing, stands, things_of}
+use Rattle.value_law.specs.Below.heap_law.Follow.{Standing, thread_at, threads_in, cells_in, cell_of, slot_of, temp_of, value_of, value_in}
+use Rattle.value_law.specs.Below.heap_law.Sight.{sight}
+use Rattle.value_law.proofs.Below.type_law.Branches.{found}
+use Rattle.value_law.proofs.Below.path_law.Contained.{among_thread}
+use Rattle.carry_law.specs.Below.word_law.Reworded.{HasPlaces}
+use Rattle.carry_law.specs.Below.word_law.Unmoved.{pointing, owning, seen_at, Taking, takings}
+use Rattle.carry_law.proofs.Below.word_law.Standing.{CellOf, cell_among, cell_found}
+use Rattle.carry_law.proofs.Below.stay_law.Alike.{ShowsAs, StandsIn}
 use Rattle.carry_law.proofs.Far.{thread_thing, thing_thread, taking_listed, CellIn, none_some}
 use Rattle.carry_law.proofs.Taken.{taker_of}
 

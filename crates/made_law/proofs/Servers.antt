@@ -3,28 +3,28 @@ use Rattle.std.proofs.Common.{◌≡◌, ℕ, ◌+◌, ◌^◌, ◌<◌, ◌==�
 use Rattle.std.specs.Prelude.{slice_get, length}
 use Rattle.std.specs.List.{AllByRecursion}
 use Rattle.std.proofs.lemmas.Bool.Decides.{nat_tests}
-use Rattle.fr_typing.proofs.PlaceLemmas.{eq_cases}
-use Rattle.colour_retire.specs.Colours.{picked}
-use Rattle.owner_box.specs.View.{PartitionState}
-use Rattle.owner_box.specs.Partition.{new_word}
-use Rattle.server_model.specs.Servers.{Server, Cluster, server_at}
-use Rattle.server_model.specs.NewWords.{can_grow}
-use Rattle.heap_law.specs.Things.{servers_things, things_of}
-use Rattle.heap_law.specs.Sight.{Sight, issued, sight}
-use Rattle.heap_law.specs.Walking.{sum_threads}
-use Rattle.heap_law.specs.Naming.{servers_wrong, pinned_parcel}
-use Rattle.heap_law.specs.Words.{LeadsTo}
-use Rattle.heap_law.specs.Coherent.{IsSound}
-use Rattle.event_law.specs.Laws.{FewEvents}
-use Rattle.event_law.specs.Sums.{Sums}
-use Rattle.event_law.proofs.Trades.{tot-append}
-use Rattle.event_law.proofs.RulesKeep.{sums_kept}
-use Rattle.event_law.proofs.Askers.{other_none}
-use Rattle.event_law.proofs.Bags.{all_standing, rest_things, server_same}
-use Rattle.event_law.proofs.Objects.{free_place}
-use Rattle.event_law.proofs.Events.{others_of, tot-server}
-use Rattle.event_law.proofs.Sound.{sound_has_sums}
-use Rattle.event_law.proofs.KnownSound.{server_known}
+use Rattle.value_law.proofs.Below.fr_typing.PlaceLemmas.{eq_cases}
+use Rattle.value_law.specs.Below.colour_retire.Colours.{picked}
+use Rattle.value_law.specs.Below.owner_box.View.{PartitionState}
+use Rattle.value_law.specs.Below.owner_box.Partition.{new_word}
+use Rattle.value_law.specs.Below.server_model.Servers.{Server, Cluster, server_at}
+use Rattle.value_law.specs.Below.server_model.NewWords.{can_grow}
+use Rattle.value_law.specs.Below.heap_law.Things.{servers_things, things_of}
+use Rattle.value_law.specs.Below.heap_law.Sight.{Sight, issued, sight}
+use Rattle.value_law.specs.Below.heap_law.Walking.{sum_threads}
+use Rattle.value_law.specs.Below.heap_law.Naming.{servers_wrong, pinned_parcel}
+use Rattle.value_law.specs.Below.heap_law.Words.{LeadsTo}
+use Rattle.value_law.specs.Below.heap_law.Coherent.{IsSound}
+use Rattle.value_law.specs.Below.event_law.Laws.{FewEvents}
+use Rattle.value_law.specs.Below.event_law.Sums.{Sums}
+use Rattle.value_law.proofs.Below.event_law.Trades.{tot-append}
+use Rattle.value_law.proofs.Below.event_law.RulesKeep.{sums_kept}
+use Rattle.value_law.proofs.Below.event_law.Askers.{other_none}
+use Rattle.value_law.proofs.Below.event_law.Bags.{all_standing, rest_things, server_same}
+use Rattle.value_law.proofs.Below.event_law.Objects.{free_place}
+use Rattle.value_law.proofs.Below.event_law.Events.{others_of, tot-server}
+use Rattle.value_law.proofs.Below.event_law.Sound.{sound_has_sums}
+use Rattle.value_law.proofs.Below.event_law.KnownSound.{server_known}
 use Rattle.made_law.proofs.Partition.{word_leads}
 use Rattle.made_law.proofs.NewIssue.{not_issued}
 

@@ -1,45 +1,45 @@
 -- Nothing points to an object that has no cell.
 use Rattle.std.proofs.Common.{◌≡◌, ◌⊎◌, inl, inr, ⊎_elim, ℕ, ◌==◌, ◌≤◌, ◌&&◌, Bool, true, false, Option, Some, None, refl, sym, ap, subst, ◌∙◌, arith}
 use Rattle.std.specs.Prelude.{slice_get}
-use Rattle.fr_base.specs.declared.instruction.Instr.{Instr}
-use Rattle.fr_base.specs.declared.instruction.Instr.TheVariants as instr
-use Rattle.fr_base.specs.declared.name.ObjNo.{ObjNo}
-use Rattle.fr_store.specs.Keys.{Key, slot_k, temp_k}
-use Rattle.fr_store.specs.Store.{Store, at_object, ref_v}
-use Rattle.heap_partition.specs.declared.value.Cell.{Cell}
-use Rattle.heap_partition.specs.declared.value.Owned.{Owned}
-use Rattle.heap_partition.specs.declared.value.Owned.TheVariants as owned
-use Rattle.mut_borrow.specs.declared.mutable.MutRef.{MutRef}
-use Rattle.mut_borrow.specs.declared.shared.SharedRef.{SharedRef}
-use Rattle.thread_state.specs.declared.phase.Phase.{Phase}
-use Rattle.thread_state.specs.declared.phase.Phase.TheVariants as phase
-use Rattle.thread_state.specs.declared.value.Value.{Value}
-use Rattle.thread_state.specs.declared.value.Value.TheVariants as value
-use Rattle.server_model.specs.Servers.{Cluster}
-use Rattle.server_msgs.specs.declared.message.Message.{Message}
-use Rattle.server_msgs.specs.declared.message.Message.TheVariants.{Drop}
-use Rattle.heap_law.specs.Names.{Among, tot, one, other, some, same_object, boxes}
-use Rattle.heap_law.specs.Things.{Location, at_slot, at_temp, in_cell, Thing, holds, shares, borrows, lies, flies, sent, things_of}
-use Rattle.heap_law.specs.Follow.{Standing, Ground, cell_of, value_of, value_in, place_at}
-use Rattle.heap_law.specs.Sight.{Pointer, pointer_in, location_of, dropped_pointer, pointers_of, pointers_in, taken_object, taken_pointers, sight}
-use Rattle.heap_law.specs.Placing.{sum_over}
-use Rattle.heap_law.specs.Requests.{lies_here, taken_there, taken_phase, lent_place as taken_place}
-use Rattle.heap_law.specs.Weights.{cells, owners, drops, lies_at}
-use Rattle.heap_law.specs.Words.{all_pointers}
-use Rattle.heap_law.proofs.Bags.{among_split}
-use Rattle.heap_law.proofs.Words.{none_at, itself}
-use Rattle.type_law.specs.ClusterTypes.{IsCoherent}
-use Rattle.path_law.specs.HeapStore.{heap_store, GoesOn, HasPaths}
-use Rattle.path_law.proofs.Sole.{some_is}
-use Rattle.path_law.proofs.Alike.{there_of, cell_there, slot_shared, slot_mut, temp_shared, temp_mut, coherent_has_paths}
-use Rattle.path_law.proofs.Origins.{among_first, among_second}
-use Rattle.path_law.proofs.Pointers.{Stood, borrowed_at, shared_at}
-use Rattle.event_law.proofs.Boxes.{tot_le}
-use Rattle.word_law.specs.Reworded.{HasPlaces}
-use Rattle.word_law.specs.Unmoved.{owning, seen_at, Taking, taking_by, takings, Untouched}
-use Rattle.word_law.proofs.Standing.{CellOf, lying, flying, cell_among, of_thing, pointer_at, tells, told}
-use Rattle.word_law.proofs.Takings.{seen_pointer_at, taken_by, takens_are, taken_listed, taken_told}
-use Rattle.word_law.proofs.Unmoved.{all}
+use Rattle.value_law.specs.Below.fr_base.declared.instruction.Instr.{Instr}
+use Rattle.value_law.specs.Below.fr_base.declared.instruction.Instr.TheVariants as instr
+use Rattle.value_law.specs.Below.fr_base.declared.name.ObjNo.{ObjNo}
+use Rattle.value_law.specs.Below.fr_store.Keys.{Key, slot_k, temp_k}
+use Rattle.value_law.specs.Below.fr_store.Store.{Store, at_object, ref_v}
+use Rattle.value_law.specs.Below.heap_partition.declared.value.Cell.{Cell}
+use Rattle.value_law.specs.Below.heap_partition.declared.value.Owned.{Owned}
+use Rattle.value_law.specs.Below.heap_partition.declared.value.Owned.TheVariants as owned
+use Rattle.value_law.specs.Below.mut_borrow.declared.mutable.MutRef.{MutRef}
+use Rattle.value_law.specs.Below.mut_borrow.declared.shared.SharedRef.{SharedRef}
+use Rattle.value_law.specs.Below.thread_state.declared.phase.Phase.{Phase}
+use Rattle.value_law.specs.Below.thread_state.declared.phase.Phase.TheVariants as phase
+use Rattle.value_law.specs.Below.thread_state.declared.value.Value.{Value}
+use Rattle.value_law.specs.Below.thread_state.declared.value.Value.TheVariants as value
+use Rattle.value_law.specs.Below.server_model.Servers.{Cluster}
+use Rattle.value_law.specs.Below.server_msgs.declared.message.Message.{Message}
+use Rattle.value_law.specs.Below.server_msgs.declared.message.Message.TheVariants.{Drop}
+use Rattle.value_law.specs.Below.heap_law.Names.{Among, tot, one, other, some, same_object, boxes}
+use Rattle.value_law.specs.Below.heap_law.Things.{Location, at_slot, at_temp, in_cell, Thing, holds, shares, borrows, lies, flies, sent, things_of}
+use Rattle.value_law.specs.Below.heap_law.Follow.{Standing, Ground, cell_of, value_of, value_in, place_at}
+use Rattle.value_law.specs.Below.heap_law.Sight.{Pointer, pointer_in, location_of, dropped_pointer, pointers_of, pointers_in, taken_object, taken_pointers, sight}
+use Rattle.value_law.specs.Below.heap_law.Placing.{sum_over}
+use Rattle.value_law.specs.Below.heap_law.Requests.{lies_here, taken_there, taken_phase, lent_place as taken_place}
+use Rattle.value_law.specs.Below.heap_law.Weights.{cells, owners, drops, lies_at}
+use Rattle.value_law.specs.Below.heap_law.Words.{all_pointers}
+use Rattle.value_law.proofs.Below.heap_law.Bags.{among_split}
+use Rattle.value_law.proofs.Below.heap_law.Words.{none_at, itself}
+use Rattle.value_law.specs.Below.type_law.ClusterTypes.{IsCoherent}
+use Rattle.value_law.specs.Below.path_law.HeapStore.{heap_store, GoesOn, HasPaths}
+use Rattle.value_law.proofs.Below.path_law.Sole.{some_is}
+use Rattle.value_law.proofs.Below.path_law.Alike.{there_of, cell_there, slot_shared, slot_mut, temp_shared, temp_mut, coherent_has_paths}
+use Rattle.value_law.proofs.Below.path_law.Origins.{among_first, among_second}
+use Rattle.value_law.proofs.Below.path_law.Pointers.{Stood, borrowed_at, shared_at}
+use Rattle.value_law.proofs.Below.event_law.Boxes.{tot_le}
+use Rattle.carry_law.specs.Below.word_law.Reworded.{HasPlaces}
+use Rattle.carry_law.specs.Below.word_law.Unmoved.{owning, seen_at, Taking, taking_by, takings, Untouched}
+use Rattle.carry_law.proofs.Below.word_law.Standing.{CellOf, lying, flying, cell_among, of_thing, pointer_at, tells, told}
+use Rattle.carry_law.proofs.Below.word_law.Takings.{seen_pointer_at, taken_by, takens_are, taken_listed, taken_told}
+use Rattle.carry_law.proofs.Below.word_law.Unmoved.{all}
 use Rattle.carry_law.specs.Carried.{Carried}
 use Rattle.carry_law.proofs.Carrying.{is_at}
 use Rattle.carry_law.proofs.Taken.{taker_of}

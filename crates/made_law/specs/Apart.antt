@@ -1,21 +1,21 @@
 -- WHAT OBJECTS' WORDS TELL: the sentences of words that follow where each object has one, and that different objects have different words (this project's rules).
 use Rattle.std.specs.Prelude.{◌≡◌, ℕ, Some, slice_get}
-use Rattle.fr_base.specs.declared.instruction.Operand.{Operand}
-use Rattle.fr_base.specs.declared.instruction.Instr.TheVariants as instr
-use Rattle.journal.specs.View.{EntryView}
-use Rattle.thread_state.specs.View.{ThreadState}
-use Rattle.server_model.specs.declared.event.Event.{Event}
-use Rattle.server_model.specs.declared.event.What.TheVariants.{Step}
-use Rattle.server_model.specs.Servers.{Server, Cluster, server_at}
-use Rattle.server_model.specs.Work.{thread_in}
-use Rattle.server_model.specs.Clusters.{apply}
-use Rattle.heap_law.specs.Sight.{sight}
-use Rattle.heap_law.specs.Words.{HasWords}
-use Rattle.heap_law.specs.Coherent.{Holds, IsSound, same_word, lead_home, different_words}
-use Rattle.type_law.specs.ClusterTypes.{IsCoherent}
-use Rattle.event_law.specs.Kinds.{step_box, kind_of}
-use Rattle.event_law.specs.Laws.{Gives, FewEvents}
-use Rattle.word_law.specs.Unmoved.{WordsStay}
+use Rattle.value_law.specs.Below.fr_base.declared.instruction.Operand.{Operand}
+use Rattle.value_law.specs.Below.fr_base.declared.instruction.Instr.TheVariants as instr
+use Rattle.value_law.specs.Below.journal.View.{EntryView}
+use Rattle.value_law.specs.Below.thread_state.View.{ThreadState}
+use Rattle.value_law.specs.Below.server_model.declared.event.Event.{Event}
+use Rattle.value_law.specs.Below.server_model.declared.event.What.TheVariants.{Step}
+use Rattle.value_law.specs.Below.server_model.Servers.{Server, Cluster, server_at}
+use Rattle.value_law.specs.Below.server_model.Work.{thread_in}
+use Rattle.value_law.specs.Below.server_model.Clusters.{apply}
+use Rattle.value_law.specs.Below.heap_law.Sight.{sight}
+use Rattle.value_law.specs.Below.heap_law.Words.{HasWords}
+use Rattle.value_law.specs.Below.heap_law.Coherent.{Holds, IsSound, same_word, lead_home, different_words}
+use Rattle.value_law.specs.Below.type_law.ClusterTypes.{IsCoherent}
+use Rattle.value_law.specs.Below.event_law.Kinds.{step_box, kind_of}
+use Rattle.value_law.specs.Below.event_law.Laws.{Gives, FewEvents}
+use Rattle.carry_law.specs.Below.word_law.Unmoved.{WordsStay}
 
 -- where each object has a word, pointers that aren't stale have one word an object, and words lead home
 pub record WordsTell : Type 0 where

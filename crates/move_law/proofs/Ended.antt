@@ -2,32 +2,32 @@
 use Rattle.std.proofs.Common.{◌≡◌, ◌≢◌, ◌⊎◌, inl, inr, ⊎_elim, ℕ, ◌==◌, ◌&&◌, ◌||◌, not, Bool, true, false, List, [], ◌∷◌, Option, Some, None, refl, sym, ap, subst, ◌∙◌, arith}
 use Rattle.std.proofs.lemmas.Bool.Decides.{nat_tests}
 use Rattle.std.specs.Prelude.{⊤}
-use Rattle.fr_base.specs.declared.name.ObjNo.{ObjNo}
-use Rattle.heap_partition.specs.declared.value.Cell.{Cell}
-use Rattle.heap_partition.specs.declared.value.Owned.TheVariants as owned
-use Rattle.mut_borrow.specs.declared.mutable.MutRef.{MutRef}
-use Rattle.mut_borrow.specs.Refs.{changed}
-use Rattle.thread_state.specs.declared.value.Value.{Value}
-use Rattle.thread_state.specs.declared.value.Value.TheVariants as value
-use Rattle.server_model.specs.Servers.{Cluster}
-use Rattle.server_model.specs.Places.{took, with_word}
-use Rattle.heap_law.specs.Names.{Among, other, same_object}
-use Rattle.heap_law.specs.Things.{Location, lies, things_of}
-use Rattle.heap_law.specs.Follow.{Ground, value_in, value_behind}
-use Rattle.heap_law.specs.Stale.{Reference, references, holder_of, is_held_at, is_among, with_place, lent_places, changed_above, stale_above, taken_above}
-use Rattle.heap_law.specs.Sight.{Pointer, pointers_in, taken_object, taken_pointers, is_stale, sight}
-use Rattle.heap_law.specs.Placing.{is_first, other_first, standing_in, standing_pointers}
-use Rattle.heap_law.specs.Words.{all_pointers, IsStale, Fresh, HasWords, LeadsTo}
-use Rattle.heap_law.specs.Dirty.{IsAlone, DirtyAlone, PastWords}
-use Rattle.heap_law.specs.Coherent.{Holds, first_at_holder}
-use Rattle.heap_law.proofs.Bags.{among_split}
-use Rattle.heap_law.proofs.Words.{none_at, none_all, named, tells as tells_stale, told as told_stale}
-use Rattle.heap_law.proofs.Names.{and_left, and_right, same_number}
-use Rattle.path_law.proofs.FreshPaths.{held_at}
-use Rattle.path_law.proofs.Sole.{some_is}
-use Rattle.path_law.proofs.Shown.{none_else}
-use Rattle.path_law.proofs.Origins.{among_first, among_second}
-use Rattle.path_law.proofs.Contained.{reference_there, held_there}
+use Rattle.word_law.specs.Below.fr_base.declared.name.ObjNo.{ObjNo}
+use Rattle.word_law.specs.Below.heap_partition.declared.value.Cell.{Cell}
+use Rattle.word_law.specs.Below.heap_partition.declared.value.Owned.TheVariants as owned
+use Rattle.word_law.specs.Below.mut_borrow.declared.mutable.MutRef.{MutRef}
+use Rattle.word_law.specs.Below.mut_borrow.Refs.{changed}
+use Rattle.word_law.specs.Below.thread_state.declared.value.Value.{Value}
+use Rattle.word_law.specs.Below.thread_state.declared.value.Value.TheVariants as value
+use Rattle.word_law.specs.Below.server_model.Servers.{Cluster}
+use Rattle.word_law.specs.Below.server_model.Places.{took, with_word}
+use Rattle.word_law.specs.Below.heap_law.Names.{Among, other, same_object}
+use Rattle.word_law.specs.Below.heap_law.Things.{Location, lies, things_of}
+use Rattle.word_law.specs.Below.heap_law.Follow.{Ground, value_in, value_behind}
+use Rattle.word_law.specs.Below.heap_law.Stale.{Reference, references, holder_of, is_held_at, is_among, with_place, lent_places, changed_above, stale_above, taken_above}
+use Rattle.word_law.specs.Below.heap_law.Sight.{Pointer, pointers_in, taken_object, taken_pointers, is_stale, sight}
+use Rattle.word_law.specs.Below.heap_law.Placing.{is_first, other_first, standing_in, standing_pointers}
+use Rattle.word_law.specs.Below.heap_law.Words.{all_pointers, IsStale, Fresh, HasWords, LeadsTo}
+use Rattle.word_law.specs.Below.heap_law.Dirty.{IsAlone, DirtyAlone, PastWords}
+use Rattle.word_law.specs.Below.heap_law.Coherent.{Holds, first_at_holder}
+use Rattle.word_law.proofs.Below.heap_law.Bags.{among_split}
+use Rattle.word_law.proofs.Below.heap_law.Words.{none_at, none_all, named, tells as tells_stale, told as told_stale}
+use Rattle.word_law.proofs.Below.heap_law.Names.{and_left, and_right, same_number}
+use Rattle.word_law.proofs.Below.path_law.FreshPaths.{held_at}
+use Rattle.word_law.proofs.Below.path_law.Sole.{some_is}
+use Rattle.word_law.proofs.Below.path_law.Shown.{none_else}
+use Rattle.word_law.proofs.Below.path_law.Origins.{among_first, among_second}
+use Rattle.word_law.proofs.Below.path_law.Contained.{reference_there, held_there}
 use Rattle.word_law.specs.Reworded.{HasPlaces}
 use Rattle.word_law.specs.Unmoved.{pointing, takings, WordsStay}
 use Rattle.word_law.proofs.GoOn.{pointer_to}

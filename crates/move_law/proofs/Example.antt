@@ -1,20 +1,20 @@
 -- The law of the end of a reference applies to an event of main.
 use Rattle.std.proofs.Common.{◌≡◌, inl, inr, ℕ, zero, suc, ◌==◌, Bool, true, false, if◌then◌else◌, [], ◌∷◌, Option, Some, None, refl, sym, ap, ◌∙◌, arith}
 use Rattle.std.proofs.lemmas.Bool.Decides.{nat_tests}
-use Rattle.heap_partition.specs.declared.value.Cell.{Cell}
-use Rattle.mut_borrow.specs.declared.mutable.MutRef.{MutRef}
-use Rattle.global_addr.specs.Words.{word_of}
-use Rattle.thread_state.specs.declared.value.Value.TheVariants as value
-use Rattle.server_model.specs.Servers.{Cluster}
-use Rattle.heap_law.specs.Names.{Among}
-use Rattle.heap_law.specs.Clusters.{object, box}
-use Rattle.heap_law.specs.Things.{Location, at_slot, at_temp, in_cell, lies, things_of}
-use Rattle.heap_law.specs.Follow.{Standing, thread_at, slot_of, temp_of, cell_of, value_of, value_in}
-use Rattle.heap_law.specs.Stale.{Reference, references, holder_of, is_held_at, changed_above, stale_above, taken_above}
-use Rattle.heap_law.specs.Sight.{Pointer, pointers_in, sight}
-use Rattle.heap_law.specs.Words.{IsStale, HasWords}
-use Rattle.heap_law.specs.Coherent.{IsSound}
-use Rattle.heap_law.proofs.Unbroken.{sound_law}
+use Rattle.word_law.specs.Below.heap_partition.declared.value.Cell.{Cell}
+use Rattle.word_law.specs.Below.mut_borrow.declared.mutable.MutRef.{MutRef}
+use Rattle.word_law.specs.Below.global_addr.Words.{word_of}
+use Rattle.word_law.specs.Below.thread_state.declared.value.Value.TheVariants as value
+use Rattle.word_law.specs.Below.server_model.Servers.{Cluster}
+use Rattle.word_law.specs.Below.heap_law.Names.{Among}
+use Rattle.word_law.specs.Below.heap_law.Clusters.{object, box}
+use Rattle.word_law.specs.Below.heap_law.Things.{Location, at_slot, at_temp, in_cell, lies, things_of}
+use Rattle.word_law.specs.Below.heap_law.Follow.{Standing, thread_at, slot_of, temp_of, cell_of, value_of, value_in}
+use Rattle.word_law.specs.Below.heap_law.Stale.{Reference, references, holder_of, is_held_at, changed_above, stale_above, taken_above}
+use Rattle.word_law.specs.Below.heap_law.Sight.{Pointer, pointers_in, sight}
+use Rattle.word_law.specs.Below.heap_law.Words.{IsStale, HasWords}
+use Rattle.word_law.specs.Below.heap_law.Coherent.{IsSound}
+use Rattle.word_law.proofs.Below.heap_law.Unbroken.{sound_law}
 use Rattle.word_law.specs.Reworded.{HasPlaces, LiesThere}
 use Rattle.word_law.specs.Unmoved.{pointing}
 use Rattle.move_law.specs.Ended.{its_word, Ended}

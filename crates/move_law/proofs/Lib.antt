@@ -1,3 +1,4 @@
+pub mod Below
 pub mod Relaid
 pub mod Ended
 pub mod Example

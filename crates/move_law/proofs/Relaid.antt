@@ -1,27 +1,27 @@
 -- An object lies at another address: the clusters are the same but for that.
 use Rattle.std.proofs.Common.{◌≡◌, ◌⊎◌, inl, inr, ⊎_elim, ℕ, zero, suc, ◌+◌, ◌<◌, ◌≤◌, ◌&&◌, Bool, true, false, if◌then◌else◌, List, [], ◌∷◌, ◌++◌, length, map, Option, Some, None, refl, sym, ap, subst, ◌∙◌, arith}
 use Rattle.std.specs.Prelude.{slice_index_or, slice_set}
-use Rattle.fr_typing.proofs.PlaceLemmas.{eq_cases}
-use Rattle.journal.specs.declared.act.Act.TheVariants as act
-use Rattle.fr_base.specs.declared.name.ObjNo.{ObjNo}
-use Rattle.global_addr.specs.Words.{address_of}
-use Rattle.heap_partition.specs.declared.value.BoxPtr.{BoxPtr}
-use Rattle.heap_partition.specs.declared.value.Cell.{Cell}
-use Rattle.owner_box.specs.View.{PartitionState}
-use Rattle.owner_box.specs.Partition.{cell_of as cell_under, freed, made, made_again, renewed, put_cell, next_place, new_word}
-use Rattle.thread_state.specs.View.{ThreadState}
-use Rattle.server_model.specs.Servers.{Rest, Server, Cluster}
-use Rattle.server_model.specs.Work.{Hand, leads_here, note, with_partition, set_thread}
-use Rattle.server_model.specs.Clusters.{with_server}
-use Rattle.server_model.specs.NewWords.{NewWord, issue_renewal, is_last, can_grow}
-use Rattle.heap_law.specs.Names.{Among}
-use Rattle.heap_law.specs.Things.{Location, at_slot, at_temp, in_cell, Thing, lies, flies, vacant, retired, stands, counts, things_at, is_free, cell_things, free_things, partition_things, copy_things, mutex_things, task_things, standing_things, waiting_things, leaving_things, server_things, servers_things, things_of}
-use Rattle.heap_law.specs.Follow.{threads_in, cells_in, cell_of, slot_of, temp_of, value_of, value_in, thread_at}
-use Rattle.heap_law.specs.Sight.{sight}
-use Rattle.heap_law.specs.Weights.{cells}
-use Rattle.heap_law.proofs.Bags.{among_split}
-use Rattle.path_law.proofs.Sole.{some_is}
-use Rattle.path_law.proofs.Origins.{threads_joined, among_first, among_second}
+use Rattle.word_law.proofs.Below.fr_typing.PlaceLemmas.{eq_cases}
+use Rattle.word_law.specs.Below.journal.declared.act.Act.TheVariants as act
+use Rattle.word_law.specs.Below.fr_base.declared.name.ObjNo.{ObjNo}
+use Rattle.word_law.specs.Below.global_addr.Words.{address_of}
+use Rattle.word_law.specs.Below.heap_partition.declared.value.BoxPtr.{BoxPtr}
+use Rattle.word_law.specs.Below.heap_partition.declared.value.Cell.{Cell}
+use Rattle.word_law.specs.Below.owner_box.View.{PartitionState}
+use Rattle.word_law.specs.Below.owner_box.Partition.{cell_of as cell_under, freed, made, made_again, renewed, put_cell, next_place, new_word}
+use Rattle.word_law.specs.Below.thread_state.View.{ThreadState}
+use Rattle.word_law.specs.Below.server_model.Servers.{Rest, Server, Cluster}
+use Rattle.word_law.specs.Below.server_model.Work.{Hand, leads_here, note, with_partition, set_thread}
+use Rattle.word_law.specs.Below.server_model.Clusters.{with_server}
+use Rattle.word_law.specs.Below.server_model.NewWords.{NewWord, issue_renewal, is_last, can_grow}
+use Rattle.word_law.specs.Below.heap_law.Names.{Among}
+use Rattle.word_law.specs.Below.heap_law.Things.{Location, at_slot, at_temp, in_cell, Thing, lies, flies, vacant, retired, stands, counts, things_at, is_free, cell_things, free_things, partition_things, copy_things, mutex_things, task_things, standing_things, waiting_things, leaving_things, server_things, servers_things, things_of}
+use Rattle.word_law.specs.Below.heap_law.Follow.{threads_in, cells_in, cell_of, slot_of, temp_of, value_of, value_in, thread_at}
+use Rattle.word_law.specs.Below.heap_law.Sight.{sight}
+use Rattle.word_law.specs.Below.heap_law.Weights.{cells}
+use Rattle.word_law.proofs.Below.heap_law.Bags.{among_split}
+use Rattle.word_law.proofs.Below.path_law.Sole.{some_is}
+use Rattle.word_law.proofs.Below.path_law.Origins.{threads_joined, among_first, among_second}
 use Rattle.word_law.specs.Reworded.{is_loose, turn_of, HasPlaces, LiesThere}
 use Rattle.word_law.specs.PutBack.{put_in, StandsHere}
 use Rattle.move_law.specs.Relaid.{Relaid, RelaidRewords, NextIsVacant, Renewal, RenewalsReword}

@@ -1,20 +1,20 @@
 -- A MUTABLE REFERENCE ENDS (this project's rule): the pointer that it was made from gets its word, where that isn't the first one, and the reference is gone.
 use Rattle.std.specs.Prelude.{false, ◌≡◌, ◌≢◌, ℕ, true, Some, None}
-use Rattle.heap_partition.specs.declared.value.Cell.{Cell}
-use Rattle.mut_borrow.specs.declared.mutable.MutRef.{MutRef}
-use Rattle.thread_state.specs.declared.value.Value.{Value}
-use Rattle.thread_state.specs.declared.value.Value.TheVariants as value
-use Rattle.server_model.specs.Servers.{Cluster}
-use Rattle.server_model.specs.Places.{with_word}
-use Rattle.heap_law.specs.Names.{Among}
-use Rattle.heap_law.specs.Things.{Location, lies, things_of}
-use Rattle.heap_law.specs.Follow.{value_in, place_at}
-use Rattle.heap_law.specs.Stale.{Reference, references, holder_of, is_held_at, is_among, lent_places, one_star_less}
-use Rattle.heap_law.specs.Sight.{Pointer, pointers_in, sight}
-use Rattle.heap_law.specs.Placing.{standing_in}
-use Rattle.heap_law.specs.Words.{IsStale, HasWords}
-use Rattle.heap_law.specs.Dirty.{DirtyAlone, PastWords}
-use Rattle.heap_law.specs.Coherent.{Holds, first_at_holder}
+use Rattle.word_law.specs.Below.heap_partition.declared.value.Cell.{Cell}
+use Rattle.word_law.specs.Below.mut_borrow.declared.mutable.MutRef.{MutRef}
+use Rattle.word_law.specs.Below.thread_state.declared.value.Value.{Value}
+use Rattle.word_law.specs.Below.thread_state.declared.value.Value.TheVariants as value
+use Rattle.word_law.specs.Below.server_model.Servers.{Cluster}
+use Rattle.word_law.specs.Below.server_model.Places.{with_word}
+use Rattle.word_law.specs.Below.heap_law.Names.{Among}
+use Rattle.word_law.specs.Below.heap_law.Things.{Location, lies, things_of}
+use Rattle.word_law.specs.Below.heap_law.Follow.{value_in, place_at}
+use Rattle.word_law.specs.Below.heap_law.Stale.{Reference, references, holder_of, is_held_at, is_among, lent_places, one_star_less}
+use Rattle.word_law.specs.Below.heap_law.Sight.{Pointer, pointers_in, sight}
+use Rattle.word_law.specs.Below.heap_law.Placing.{standing_in}
+use Rattle.word_law.specs.Below.heap_law.Words.{IsStale, HasWords}
+use Rattle.word_law.specs.Below.heap_law.Dirty.{DirtyAlone, PastWords}
+use Rattle.word_law.specs.Below.heap_law.Coherent.{Holds, first_at_holder}
 use Rattle.word_law.specs.Reworded.{HasPlaces, LiesThere}
 use Rattle.word_law.specs.Unmoved.{pointing, Taking, takings, WordsStay}
 

@@ -1,21 +1,21 @@
 -- A cluster in which a reference ends: main drops its slot, and the box that it was made from gets its word.
 use Rattle.std.specs.Prelude.{false, ◌≡◌, [], ◌∷◌, Some, option_map}
-use Rattle.fr_base.specs.declared.instruction.Operand.TheVariants as operand
-use Rattle.fr_base.specs.declared.instruction.Instr.TheVariants as instr
-use Rattle.global_addr.specs.Words.{word_of}
-use Rattle.mut_borrow.specs.declared.mutable.MutRef.{MutRef}
-use Rattle.thread_state.specs.View.{ThreadState, new_thread}
-use Rattle.thread_state.specs.declared.value.Value.TheVariants as value
-use Rattle.server_model.specs.declared.event.What.TheVariants.{Step}
-use Rattle.server_model.specs.Servers.{Cluster}
-use Rattle.server_model.specs.Clusters.{apply}
-use Rattle.heap_law.specs.Clusters.{place, object, box}
-use Rattle.heap_law.specs.Things.{at_slot}
-use Rattle.heap_law.specs.Sight.{sight}
-use Rattle.heap_law.specs.Words.{HasWords}
-use Rattle.heap_law.specs.Dirty.{DirtyAlone, PastWords}
-use Rattle.heap_law.specs.Coherent.{Holds, first_at_holder}
-use Rattle.path_law.specs.Below.type_law.Typed.{boxed_server, boxed_cluster}
+use Rattle.word_law.specs.Below.fr_base.declared.instruction.Operand.TheVariants as operand
+use Rattle.word_law.specs.Below.fr_base.declared.instruction.Instr.TheVariants as instr
+use Rattle.word_law.specs.Below.global_addr.Words.{word_of}
+use Rattle.word_law.specs.Below.mut_borrow.declared.mutable.MutRef.{MutRef}
+use Rattle.word_law.specs.Below.thread_state.View.{ThreadState, new_thread}
+use Rattle.word_law.specs.Below.thread_state.declared.value.Value.TheVariants as value
+use Rattle.word_law.specs.Below.server_model.declared.event.What.TheVariants.{Step}
+use Rattle.word_law.specs.Below.server_model.Servers.{Cluster}
+use Rattle.word_law.specs.Below.server_model.Clusters.{apply}
+use Rattle.word_law.specs.Below.heap_law.Clusters.{place, object, box}
+use Rattle.word_law.specs.Below.heap_law.Things.{at_slot}
+use Rattle.word_law.specs.Below.heap_law.Sight.{sight}
+use Rattle.word_law.specs.Below.heap_law.Words.{HasWords}
+use Rattle.word_law.specs.Below.heap_law.Dirty.{DirtyAlone, PastWords}
+use Rattle.word_law.specs.Below.heap_law.Coherent.{Holds, first_at_holder}
+use Rattle.word_law.specs.Below.type_law.Typed.{boxed_server, boxed_cluster}
 use Rattle.word_law.specs.Reworded.{HasPlaces}
 use Rattle.move_law.specs.Ended.{Ended}
 

@@ -1,24 +1,24 @@
 -- AN OBJECT LIES ELSEWHERE (this project's rule): two clusters that are the same but for where one object lies, or that it was under way.
 use Rattle.std.specs.Prelude.{◌≡◌, ◌≢◌, ◌≤◌, ℕ, List, Some, None, map, true, length, slice_get, slice_index_or}
-use Rattle.fr_base.specs.declared.name.ObjNo.{ObjNo}
-use Rattle.heap_partition.specs.declared.value.BoxPtr.{BoxPtr}
-use Rattle.heap_partition.specs.declared.value.Cell.{Cell}
-use Rattle.heap_partition.specs.declared.value.Owned.TheVariants as owned
-use Rattle.mut_borrow.specs.declared.mutable.MutRef.{MutRef}
-use Rattle.owner_box.specs.View.{PartitionState}
-use Rattle.owner_box.specs.Partition.{freed, next_place}
-use Rattle.thread_state.specs.View.{ThreadState}
-use Rattle.thread_state.specs.declared.value.Value.{Value}
-use Rattle.thread_state.specs.declared.value.Value.TheVariants as value
-use Rattle.server_model.specs.Servers.{Cluster}
-use Rattle.server_model.specs.Work.{Hand, look}
-use Rattle.server_model.specs.NewWords.{NewWord, issue_renewal}
-use Rattle.server_model.specs.Places.{in_slot, in_cell, pointer_of, put_word}
-use Rattle.heap_law.specs.Names.{Among}
-use Rattle.heap_law.specs.Things.{Location, at_slot, in_cell as heap_cell, Thing, lies, things_of}
-use Rattle.heap_law.specs.Follow.{value_in}
-use Rattle.heap_law.specs.Sight.{sight}
-use Rattle.heap_law.specs.Weights.{cells}
+use Rattle.word_law.specs.Below.fr_base.declared.name.ObjNo.{ObjNo}
+use Rattle.word_law.specs.Below.heap_partition.declared.value.BoxPtr.{BoxPtr}
+use Rattle.word_law.specs.Below.heap_partition.declared.value.Cell.{Cell}
+use Rattle.word_law.specs.Below.heap_partition.declared.value.Owned.TheVariants as owned
+use Rattle.word_law.specs.Below.mut_borrow.declared.mutable.MutRef.{MutRef}
+use Rattle.word_law.specs.Below.owner_box.View.{PartitionState}
+use Rattle.word_law.specs.Below.owner_box.Partition.{freed, next_place}
+use Rattle.word_law.specs.Below.thread_state.View.{ThreadState}
+use Rattle.word_law.specs.Below.thread_state.declared.value.Value.{Value}
+use Rattle.word_law.specs.Below.thread_state.declared.value.Value.TheVariants as value
+use Rattle.word_law.specs.Below.server_model.Servers.{Cluster}
+use Rattle.word_law.specs.Below.server_model.Work.{Hand, look}
+use Rattle.word_law.specs.Below.server_model.NewWords.{NewWord, issue_renewal}
+use Rattle.word_law.specs.Below.server_model.Places.{in_slot, in_cell, pointer_of, put_word}
+use Rattle.word_law.specs.Below.heap_law.Names.{Among}
+use Rattle.word_law.specs.Below.heap_law.Things.{Location, at_slot, in_cell as heap_cell, Thing, lies, things_of}
+use Rattle.word_law.specs.Below.heap_law.Follow.{value_in}
+use Rattle.word_law.specs.Below.heap_law.Sight.{sight}
+use Rattle.word_law.specs.Below.heap_law.Weights.{cells}
 use Rattle.word_law.specs.Reworded.{turn_of, is_loose, HasPlaces, LiesThere, Reworded}
 use Rattle.word_law.specs.PutBack.{put_in, StandsHere, LeadsHome}
 

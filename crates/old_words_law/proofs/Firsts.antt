@@ -2,39 +2,39 @@
 use Rattle.std.proofs.Common.{◌≡◌, inl, ℕ, suc, ◌+◌, true, List, [], ◌∷◌, Option, Some, None, option_map, refl, sym, ap, subst, ◌∙◌, arith}
 use Rattle.std.specs.Prelude.{slice_get}
 use Rattle.std.specs.List.{AllByRecursion}
-use Rattle.fr_base.specs.declared.instruction.Instr.{Instr}
-use Rattle.fr_base.specs.declared.instruction.Instr.TheVariants as instr
-use Rattle.heap_partition.specs.declared.value.Cell.{Cell}
-use Rattle.journal.specs.View.{EntryView}
-use Rattle.mut_borrow.specs.declared.mutable.MutRef.{MutRef}
-use Rattle.thread_state.specs.View.{ThreadState}
-use Rattle.thread_state.specs.declared.value.Value.{Value}
-use Rattle.thread_state.specs.declared.value.Value.TheVariants as value
-use Rattle.server_msgs.specs.declared.message.Message.TheVariants as message
-use Rattle.server_model.specs.declared.event.Event.{Event}
-use Rattle.server_model.specs.declared.event.What.TheVariants.{Step, Deliver}
-use Rattle.server_model.specs.Servers.{Server, Cluster, server_at}
-use Rattle.server_model.specs.Work.{Hand, Site, then_some, thread_in, put_back, at_thread}
-use Rattle.server_model.specs.Objects.{deliver_moved}
-use Rattle.server_model.specs.Clusters.{done_at, act_at, apply}
-use Rattle.server_model.specs.Events.{Stepped, enabled, begin_work, left_by, received, deliver_message, step, step_in, stepped, does}
-use Rattle.heap_law.specs.Names.{tot, Among}
-use Rattle.heap_law.specs.Things.{Location, at_slot, at_temp, in_cell, Thing, borrows, server_things, things_of}
-use Rattle.heap_law.specs.Follow.{Standing, threads_in, thread_at, cell_of, slot_of, temp_of, value_of, value_in}
-use Rattle.heap_law.specs.Placing.{words}
-use Rattle.heap_law.specs.Sight.{sight}
-use Rattle.heap_law.proofs.Words.{none_at, none_all}
-use Rattle.type_law.specs.ClusterTypes.{IsCoherent}
-use Rattle.path_law.proofs.Contained.{among_thread}
+use Rattle.result_law.specs.Below.fr_base.declared.instruction.Instr.{Instr}
+use Rattle.result_law.specs.Below.fr_base.declared.instruction.Instr.TheVariants as instr
+use Rattle.result_law.specs.Below.heap_partition.declared.value.Cell.{Cell}
+use Rattle.result_law.specs.Below.journal.View.{EntryView}
+use Rattle.result_law.specs.Below.mut_borrow.declared.mutable.MutRef.{MutRef}
+use Rattle.result_law.specs.Below.thread_state.View.{ThreadState}
+use Rattle.result_law.specs.Below.thread_state.declared.value.Value.{Value}
+use Rattle.result_law.specs.Below.thread_state.declared.value.Value.TheVariants as value
+use Rattle.result_law.specs.Below.server_msgs.declared.message.Message.TheVariants as message
+use Rattle.result_law.specs.Below.server_model.declared.event.Event.{Event}
+use Rattle.result_law.specs.Below.server_model.declared.event.What.TheVariants.{Step, Deliver}
+use Rattle.result_law.specs.Below.server_model.Servers.{Server, Cluster, server_at}
+use Rattle.result_law.specs.Below.server_model.Work.{Hand, Site, then_some, thread_in, put_back, at_thread}
+use Rattle.result_law.specs.Below.server_model.Objects.{deliver_moved}
+use Rattle.result_law.specs.Below.server_model.Clusters.{done_at, act_at, apply}
+use Rattle.result_law.specs.Below.server_model.Events.{Stepped, enabled, begin_work, left_by, received, deliver_message, step, step_in, stepped, does}
+use Rattle.result_law.specs.Below.heap_law.Names.{tot, Among}
+use Rattle.result_law.specs.Below.heap_law.Things.{Location, at_slot, at_temp, in_cell, Thing, borrows, server_things, things_of}
+use Rattle.result_law.specs.Below.heap_law.Follow.{Standing, threads_in, thread_at, cell_of, slot_of, temp_of, value_of, value_in}
+use Rattle.result_law.specs.Below.heap_law.Placing.{words}
+use Rattle.result_law.specs.Below.heap_law.Sight.{sight}
+use Rattle.result_law.proofs.Below.heap_law.Words.{none_at, none_all}
+use Rattle.local_law.specs.Below.type_law.ClusterTypes.{IsCoherent}
+use Rattle.result_law.proofs.Below.path_law.Contained.{among_thread}
 use Rattle.word_law.specs.Reworded.{HasPlaces}
 use Rattle.word_law.proofs.Standing.{slot_among, temp_among, borrow_stands}
-use Rattle.event_law.specs.Laws.{Gives, FewEvents}
-use Rattle.event_law.proofs.Results.{then_gives, over_gives, test_gives, both_give, weaker}
-use Rattle.event_law.proofs.Known.{all_at}
-use Rattle.event_law.proofs.KnownSound.{on_standing, sum_standing}
-use Rattle.event_law.proofs.Events.{tot-server}
-use Rattle.event_law.proofs.Applied.{handed_on}
-use Rattle.event_law.proofs.Sending.{each_event_sends, applied_part}
+use Rattle.result_law.specs.Below.event_law.Laws.{Gives, FewEvents}
+use Rattle.result_law.proofs.Below.event_law.Results.{then_gives, over_gives, test_gives, both_give, weaker}
+use Rattle.result_law.proofs.Below.event_law.Known.{all_at}
+use Rattle.result_law.proofs.Below.event_law.KnownSound.{on_standing, sum_standing}
+use Rattle.result_law.proofs.Below.event_law.Events.{tot-server}
+use Rattle.result_law.proofs.Below.event_law.Applied.{handed_on}
+use Rattle.result_law.proofs.Below.event_law.Sending.{each_event_sends, applied_part}
 use Rattle.still_law.proofs.Told.{found}
 use Rattle.local_law.proofs.Mail.{Mailed, Replies, Requests, BeginsBy, message_says, step_tells}
 use Rattle.local_law.proofs.Threads.{set_all, found_all, remove_all, Parcel, Held}

@@ -1,32 +1,32 @@
 -- The first word of a new reference is that of its pointer.
 use Rattle.std.proofs.Common.{◌≡◌, ℕ, zero, suc, true, false, [], ◌∷◌, Option, Some, None, option_map, refl, sym, ap, subst, ◌∙◌}
 use Rattle.std.specs.Prelude.{slice_get}
-use Rattle.fr_base.specs.declared.place.Lval.{Lval}
-use Rattle.fr_base.specs.declared.step.Fresh.TheVariants as fresh
-use Rattle.fr_base.specs.declared.instruction.Instr.{Instr}
-use Rattle.fr_base.specs.declared.instruction.Instr.TheVariants as instr
-use Rattle.heap_partition.specs.declared.value.Owned.TheVariants as owned
-use Rattle.migration.specs.Packing.{unpin_all}
-use Rattle.mut_borrow.specs.declared.mutable.MutRef.{MutRef}
-use Rattle.thread_state.specs.View.{ThreadState}
-use Rattle.thread_state.specs.declared.phase.Phase.{Phase}
-use Rattle.thread_state.specs.declared.phase.Phase.TheVariants as phase
-use Rattle.thread_state.specs.declared.value.Value.{Value}
-use Rattle.thread_state.specs.declared.value.Value.TheVariants as value
-use Rattle.server_model.specs.declared.event.What.TheVariants.{Step}
-use Rattle.server_model.specs.Servers.{Server, Cluster, server_at}
-use Rattle.server_model.specs.Work.{Hand, push_temp, thread_in, then_some}
-use Rattle.server_model.specs.Places.{Spot, in_slot, value_at}
-use Rattle.server_model.specs.Prepare.{Prepared, ready, requested, nothing, LendTo, lend_pointer}
-use Rattle.server_model.specs.Commit.{go_on, goes_on, lent_word, mutable_from, borrow_mut_from, settle}
-use Rattle.server_model.specs.Events.{Stepped, enabled, begin_work, done_step, committed, prepared, step}
-use Rattle.heap_law.specs.Names.{tot}
-use Rattle.heap_law.specs.Things.{things_of}
-use Rattle.heap_law.specs.Placing.{words}
-use Rattle.type_law.specs.ClusterTypes.{IsCoherent}
-use Rattle.event_law.specs.Laws.{Gives, FewEvents}
-use Rattle.event_law.proofs.Results.{map_gives, over_gives}
-use Rattle.event_law.proofs.Known.{all_append}
+use Rattle.result_law.specs.Below.fr_base.declared.place.Lval.{Lval}
+use Rattle.result_law.specs.Below.fr_base.declared.step.Fresh.TheVariants as fresh
+use Rattle.result_law.specs.Below.fr_base.declared.instruction.Instr.{Instr}
+use Rattle.result_law.specs.Below.fr_base.declared.instruction.Instr.TheVariants as instr
+use Rattle.result_law.specs.Below.heap_partition.declared.value.Owned.TheVariants as owned
+use Rattle.result_law.specs.Below.migration.Packing.{unpin_all}
+use Rattle.result_law.specs.Below.mut_borrow.declared.mutable.MutRef.{MutRef}
+use Rattle.result_law.specs.Below.thread_state.View.{ThreadState}
+use Rattle.result_law.specs.Below.thread_state.declared.phase.Phase.{Phase}
+use Rattle.result_law.specs.Below.thread_state.declared.phase.Phase.TheVariants as phase
+use Rattle.result_law.specs.Below.thread_state.declared.value.Value.{Value}
+use Rattle.result_law.specs.Below.thread_state.declared.value.Value.TheVariants as value
+use Rattle.result_law.specs.Below.server_model.declared.event.What.TheVariants.{Step}
+use Rattle.result_law.specs.Below.server_model.Servers.{Server, Cluster, server_at}
+use Rattle.result_law.specs.Below.server_model.Work.{Hand, push_temp, thread_in, then_some}
+use Rattle.result_law.specs.Below.server_model.Places.{Spot, in_slot, value_at}
+use Rattle.result_law.specs.Below.server_model.Prepare.{Prepared, ready, requested, nothing, LendTo, lend_pointer}
+use Rattle.result_law.specs.Below.server_model.Commit.{go_on, goes_on, lent_word, mutable_from, borrow_mut_from, settle}
+use Rattle.result_law.specs.Below.server_model.Events.{Stepped, enabled, begin_work, done_step, committed, prepared, step}
+use Rattle.result_law.specs.Below.heap_law.Names.{tot}
+use Rattle.result_law.specs.Below.heap_law.Things.{things_of}
+use Rattle.result_law.specs.Below.heap_law.Placing.{words}
+use Rattle.local_law.specs.Below.type_law.ClusterTypes.{IsCoherent}
+use Rattle.result_law.specs.Below.event_law.Laws.{Gives, FewEvents}
+use Rattle.result_law.proofs.Below.event_law.Results.{map_gives, over_gives}
+use Rattle.result_law.proofs.Below.event_law.Known.{all_append}
 use Rattle.local_law.proofs.Small.{Of, Made, prepare_makes}
 use Rattle.old_words_law.specs.Old.{pointer_word}
 use Rattle.old_words_law.proofs.Values.{Fine, AllFine}

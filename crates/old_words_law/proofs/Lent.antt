@@ -1,33 +1,33 @@
 -- Where a mutable borrow is ready, its pointer has the word that it had at the start: what is read on the way to it gets no word.
 use Rattle.std.proofs.Common.{◌≡◌, ◌≤◌, ℕ, suc, ◌+◌, Bool, true, false, if◌then◌else◌, Option, Some, None, refl, sym, ap, subst, ◌∙◌, arith}
 use Rattle.std.specs.Prelude.{⊤, slice_get}
-use Rattle.fr_base.specs.declared.place.Lval.{Lval}
-use Rattle.fr_base.specs.declared.instruction.Instr.{Instr}
-use Rattle.fr_base.specs.declared.instruction.Instr.TheVariants as instr
-use Rattle.fr_code.specs.CodeTypes.{Entry, Table, InstrTypes, i_borrow_mut}
-use Rattle.heap_partition.specs.declared.value.BoxPtr.{BoxPtr}
-use Rattle.place_walk.specs.declared.hop.Hop.{Hop}
-use Rattle.place_walk.specs.declared.hop.Hop.TheVariants as hop
-use Rattle.place_walk.specs.Hops.{write_hop}
-use Rattle.thread_state.specs.View.{ThreadState}
-use Rattle.thread_state.specs.declared.value.Value.{Value}
-use Rattle.server_model.specs.declared.event.What.TheVariants.{Step}
-use Rattle.server_model.specs.Servers.{Server, Cluster, server_at}
-use Rattle.server_model.specs.Work.{Hand, thread_in}
-use Rattle.server_model.specs.Places.{Spot, in_slot, in_cell, in_copy, on_top, nowhere, value_at, load_at, pointer_of}
-use Rattle.server_model.specs.Prepare.{Prepared, ready, requested, nothing, and_then, ask_object, request_by, is_taken, read_stars, lend_by, lend_value, lend_pointer}
-use Rattle.server_model.specs.Events.{enabled, begin_work}
-use Rattle.heap_law.specs.Names.{tot}
-use Rattle.heap_law.specs.Things.{Location, things_of}
-use Rattle.heap_law.specs.Follow.{Standing, value_in, locate}
-use Rattle.heap_law.specs.Placing.{words}
-use Rattle.heap_law.specs.Sight.{sight}
-use Rattle.type_law.specs.ClusterTypes.{IsCoherent}
-use Rattle.path_law.specs.HeapStore.{GoesOn, HasPaths}
-use Rattle.path_law.specs.Pointing.{MayWrite, lends}
-use Rattle.path_law.proofs.MayWrites.{may_write_there}
-use Rattle.path_law.proofs.Sole.{some_is}
-use Rattle.event_law.specs.Laws.{FewEvents}
+use Rattle.result_law.specs.Below.fr_base.declared.place.Lval.{Lval}
+use Rattle.result_law.specs.Below.fr_base.declared.instruction.Instr.{Instr}
+use Rattle.result_law.specs.Below.fr_base.declared.instruction.Instr.TheVariants as instr
+use Rattle.result_law.specs.Below.fr_code.CodeTypes.{Entry, Table, InstrTypes, i_borrow_mut}
+use Rattle.result_law.specs.Below.heap_partition.declared.value.BoxPtr.{BoxPtr}
+use Rattle.result_law.specs.Below.place_walk.declared.hop.Hop.{Hop}
+use Rattle.result_law.specs.Below.place_walk.declared.hop.Hop.TheVariants as hop
+use Rattle.result_law.specs.Below.place_walk.Hops.{write_hop}
+use Rattle.result_law.specs.Below.thread_state.View.{ThreadState}
+use Rattle.result_law.specs.Below.thread_state.declared.value.Value.{Value}
+use Rattle.result_law.specs.Below.server_model.declared.event.What.TheVariants.{Step}
+use Rattle.result_law.specs.Below.server_model.Servers.{Server, Cluster, server_at}
+use Rattle.result_law.specs.Below.server_model.Work.{Hand, thread_in}
+use Rattle.result_law.specs.Below.server_model.Places.{Spot, in_slot, in_cell, in_copy, on_top, nowhere, value_at, load_at, pointer_of}
+use Rattle.result_law.specs.Below.server_model.Prepare.{Prepared, ready, requested, nothing, and_then, ask_object, request_by, is_taken, read_stars, lend_by, lend_value, lend_pointer}
+use Rattle.result_law.specs.Below.server_model.Events.{enabled, begin_work}
+use Rattle.result_law.specs.Below.heap_law.Names.{tot}
+use Rattle.result_law.specs.Below.heap_law.Things.{Location, things_of}
+use Rattle.result_law.specs.Below.heap_law.Follow.{Standing, value_in, locate}
+use Rattle.result_law.specs.Below.heap_law.Placing.{words}
+use Rattle.result_law.specs.Below.heap_law.Sight.{sight}
+use Rattle.local_law.specs.Below.type_law.ClusterTypes.{IsCoherent}
+use Rattle.result_law.specs.Below.path_law.HeapStore.{GoesOn, HasPaths}
+use Rattle.result_law.specs.Below.path_law.Pointing.{MayWrite, lends}
+use Rattle.result_law.proofs.Below.path_law.MayWrites.{may_write_there}
+use Rattle.result_law.proofs.Below.path_law.Sole.{some_is}
+use Rattle.result_law.specs.Below.event_law.Laws.{FewEvents}
 use Rattle.result_law.proofs.Known.{Steps, able, standing, paths, goes, entry, typed, types}
 use Rattle.result_law.proofs.Followed.{Place, at as place_at, hop_from}
 use Rattle.result_law.proofs.Reading.{Alike, equal, both_shared, Reading}

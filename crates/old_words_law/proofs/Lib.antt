@@ -1,3 +1,4 @@
+pub mod Below
 pub mod Values
 pub mod Walk
 pub mod Stood

@@ -1,18 +1,18 @@
 -- Where no word that stands weighs something, the word of no pointer does, wherever it stands.
 use Rattle.std.proofs.Common.{◌≡◌, inl, ℕ, ◌+◌, Option, Some, None, refl, ◌∙◌, arith}
-use Rattle.fr_base.specs.declared.name.ObjNo.{ObjNo}
-use Rattle.heap_partition.specs.declared.value.Cell.{Cell}
-use Rattle.heap_partition.specs.declared.value.Owned.{Owned}
-use Rattle.heap_partition.specs.declared.value.Owned.TheVariants as owned
-use Rattle.thread_state.specs.declared.value.Value.{Value}
-use Rattle.thread_state.specs.declared.value.Value.TheVariants as value
-use Rattle.server_model.specs.Servers.{Cluster}
-use Rattle.heap_law.specs.Names.{tot, Among}
-use Rattle.heap_law.specs.Things.{Location, at_slot, at_temp, in_cell, in_slot, in_temp, Thing, holds, borrows, lies, flies, things_of}
-use Rattle.heap_law.specs.Follow.{cell_of, value_of, value_in, value_behind}
-use Rattle.heap_law.specs.Sight.{sight}
-use Rattle.heap_law.specs.Placing.{owned_word, words}
-use Rattle.heap_law.proofs.Words.{none_at}
+use Rattle.result_law.specs.Below.fr_base.declared.name.ObjNo.{ObjNo}
+use Rattle.result_law.specs.Below.heap_partition.declared.value.Cell.{Cell}
+use Rattle.result_law.specs.Below.heap_partition.declared.value.Owned.{Owned}
+use Rattle.result_law.specs.Below.heap_partition.declared.value.Owned.TheVariants as owned
+use Rattle.result_law.specs.Below.thread_state.declared.value.Value.{Value}
+use Rattle.result_law.specs.Below.thread_state.declared.value.Value.TheVariants as value
+use Rattle.result_law.specs.Below.server_model.Servers.{Cluster}
+use Rattle.result_law.specs.Below.heap_law.Names.{tot, Among}
+use Rattle.result_law.specs.Below.heap_law.Things.{Location, at_slot, at_temp, in_cell, in_slot, in_temp, Thing, holds, borrows, lies, flies, things_of}
+use Rattle.result_law.specs.Below.heap_law.Follow.{cell_of, value_of, value_in, value_behind}
+use Rattle.result_law.specs.Below.heap_law.Sight.{sight}
+use Rattle.result_law.specs.Below.heap_law.Placing.{owned_word, words}
+use Rattle.result_law.proofs.Below.heap_law.Words.{none_at}
 use Rattle.word_law.proofs.Standing.{CellOf, lying, flying, cell_among, slot_among, temp_among}
 use Rattle.old_words_law.specs.Old.{pointer_word}
 

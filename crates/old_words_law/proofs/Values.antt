@@ -2,12 +2,12 @@
 use Rattle.std.proofs.Common.{◌≡◌, ℕ, ◌+◌, List, [], ◌∷◌, refl, arith}
 use Rattle.std.specs.Prelude.{map}
 use Rattle.std.specs.List.{AllByRecursion}
-use Rattle.migration.specs.Packing.{unpinned}
-use Rattle.thread_state.specs.View.{ThreadState}
-use Rattle.thread_state.specs.declared.value.Value.{Value}
-use Rattle.thread_state.specs.declared.value.Value.TheVariants as value
-use Rattle.heap_law.specs.Names.{tot}
-use Rattle.heap_law.specs.Follow.{Standing}
+use Rattle.result_law.specs.Below.migration.Packing.{unpinned}
+use Rattle.result_law.specs.Below.thread_state.View.{ThreadState}
+use Rattle.result_law.specs.Below.thread_state.declared.value.Value.{Value}
+use Rattle.result_law.specs.Below.thread_state.declared.value.Value.TheVariants as value
+use Rattle.result_law.specs.Below.heap_law.Names.{tot}
+use Rattle.result_law.specs.Below.heap_law.Follow.{Standing}
 
 -- the first word of a mutable reference weighs so much
 abbrev pub first_in : (ℕ → ℕ) → Value → ℕ

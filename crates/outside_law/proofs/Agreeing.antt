@@ -2,50 +2,50 @@
 use Rattle.std.proofs.Common.{◌≡◌, ◌-◌, ℕ, zero, suc, ◌&&◌, not, Bool, true, false, List, [], ◌∷◌, ◌++◌, length, reverse, Option, Some, None, refl, sym, ap, subst, ◌∙◌, arith}
 use Rattle.std.specs.Prelude.{slice_get, option_map}
 use Rattle.std.proofs.lemmas.List.{reverse-append}
-use Rattle.fr_base.specs.Lists.{last_of}
-use Rattle.fr_base.specs.declared.name.MutexNo.{MutexNo}
-use Rattle.fr_base.specs.declared.instruction.Instr.{Instr}
-use Rattle.fr_base.specs.declared.instruction.Instr.TheVariants as instr
-use Rattle.fr_base.specs.declared.instruction.Operand.{Operand}
-use Rattle.fr_base.specs.declared.instruction.Operand.TheVariants as operand
-use Rattle.fr_terms.specs.Terms.{Text}
-use Rattle.fr_base.specs.declared.place.Lval.{Lval}
-use Rattle.fr_typing.specs.Kinds.{Owned as OwnedType, unit, int, box, mutex, task, same_owned, Kind, own, shared, whole}
-use Rattle.fr_typing.specs.Places.{Slot, Env}
-use Rattle.fr_typing.specs.Checks.{with_lock}
-use Rattle.fr_sound.specs.Seen.{Gives as NamesGive}
-use Rattle.fr_sound.specs.Entries.{Entry}
-use Rattle.fr_code.specs.CodeTypes.{Table, Takes, InstrTypes, i_unlock}
-use Rattle.fr_code.specs.CodeTable.{Leads, to_next, ends, Successors}
-use Rattle.plain_types.specs.Keeps.{KeepsNames}
-use Rattle.heap_partition.specs.Plain.{plain_of}
-use Rattle.heap_partition.specs.declared.value.Cell.{Cell}
-use Rattle.heap_partition.specs.declared.value.Owned.{Owned}
-use Rattle.heap_partition.specs.declared.value.Owned.TheVariants as owned
-use Rattle.thread_state.specs.View.{ThreadState, is_over}
-use Rattle.thread_state.specs.declared.value.Value.{Value}
-use Rattle.thread_state.specs.declared.value.Value.TheVariants as value
-use Rattle.server_model.specs.Servers.{Server, Cluster}
-use Rattle.server_model.specs.Work.{Hand, Popped, with_slots, with_temps, front_of, then_some, pop_owned, pop_slot, taken_as, owned_of}
-use Rattle.server_model.specs.Commit.{held_of}
-use Rattle.heap_law.specs.Names.{tot, other, if_so, Among}
-use Rattle.heap_law.specs.Things.{Spot, in_slot, in_temp, as_gift, as_content, as_result, in_hand, Thing, holds, lies, flies, noted, things_of}
-use Rattle.heap_law.specs.Follow.{Standing}
-use Rattle.heap_law.specs.Sight.{sight}
-use Rattle.heap_law.specs.OneHeap.{Node, object_n, mutex_n, same_node, one_heap}
-use Rattle.heap_law.proofs.Names.{if_none}
-use Rattle.type_law.specs.Names.{NameTypes, names_of, fits, is_there}
-use Rattle.type_law.specs.ClusterTypes.{IsCoherent, misfit, has_form, entry_wrong, gives_other, forms_of, locked_of, slots_wrong, temps_wrong, is_mark}
-use Rattle.path_law.specs.HeapStore.{HasPaths}
-use Rattle.path_law.proofs.Forms.{running_typed, none_of}
-use Rattle.path_law.proofs.Shown.{none_else}
-use Rattle.frame_law.proofs.Bare.{bare_owned}
-use Rattle.still_law.proofs.PlainValues.{unnoted}
-use Rattle.drop_law.proofs.Levels.{same_type}
-use Rattle.result_law.proofs.Known.{Steps, hand, standing, goes}
-use Rattle.result_law.proofs.Operands.{gets, got_owned, newest_of, owned_form, mark_form}
-use Rattle.result_law.proofs.Readers.{to_entry}
-use Rattle.event_law.proofs.Values.{last_split}
+use Rattle.fit_law.specs.Below.fr_base.Lists.{last_of}
+use Rattle.fit_law.specs.Below.fr_base.declared.name.MutexNo.{MutexNo}
+use Rattle.fit_law.specs.Below.fr_base.declared.instruction.Instr.{Instr}
+use Rattle.fit_law.specs.Below.fr_base.declared.instruction.Instr.TheVariants as instr
+use Rattle.fit_law.specs.Below.fr_base.declared.instruction.Operand.{Operand}
+use Rattle.fit_law.specs.Below.fr_base.declared.instruction.Operand.TheVariants as operand
+use Rattle.sorts_law.specs.Below.fr_terms.Terms.{Text}
+use Rattle.fit_law.specs.Below.fr_base.declared.place.Lval.{Lval}
+use Rattle.fit_law.specs.Below.fr_typing.Kinds.{Owned as OwnedType, unit, int, box, mutex, task, same_owned, Kind, own, shared, whole}
+use Rattle.fit_law.specs.Below.fr_typing.Places.{Slot, Env}
+use Rattle.fit_law.specs.Below.fr_typing.Checks.{with_lock}
+use Rattle.sorts_law.specs.Below.fr_sound.Seen.{Gives as NamesGive}
+use Rattle.sorts_law.specs.Below.fr_sound.Entries.{Entry}
+use Rattle.fit_law.specs.Below.fr_code.CodeTypes.{Table, Takes, InstrTypes, i_unlock}
+use Rattle.fit_law.specs.Below.fr_code.CodeTable.{Leads, to_next, ends, Successors}
+use Rattle.fit_law.specs.Below.plain_types.Keeps.{KeepsNames}
+use Rattle.fit_law.specs.Below.heap_partition.Plain.{plain_of}
+use Rattle.fit_law.specs.Below.heap_partition.declared.value.Cell.{Cell}
+use Rattle.fit_law.specs.Below.heap_partition.declared.value.Owned.{Owned}
+use Rattle.fit_law.specs.Below.heap_partition.declared.value.Owned.TheVariants as owned
+use Rattle.fit_law.specs.Below.thread_state.View.{ThreadState, is_over}
+use Rattle.fit_law.specs.Below.thread_state.declared.value.Value.{Value}
+use Rattle.fit_law.specs.Below.thread_state.declared.value.Value.TheVariants as value
+use Rattle.fit_law.specs.Below.server_model.Servers.{Server, Cluster}
+use Rattle.fit_law.specs.Below.server_model.Work.{Hand, Popped, with_slots, with_temps, front_of, then_some, pop_owned, pop_slot, taken_as, owned_of}
+use Rattle.fit_law.specs.Below.server_model.Commit.{held_of}
+use Rattle.fit_law.specs.Below.heap_law.Names.{tot, other, if_so, Among}
+use Rattle.fit_law.specs.Below.heap_law.Things.{Spot, in_slot, in_temp, as_gift, as_content, as_result, in_hand, Thing, holds, lies, flies, noted, things_of}
+use Rattle.fit_law.specs.Below.heap_law.Follow.{Standing}
+use Rattle.fit_law.specs.Below.heap_law.Sight.{sight}
+use Rattle.fit_law.specs.Below.heap_law.OneHeap.{Node, object_n, mutex_n, same_node, one_heap}
+use Rattle.fit_law.proofs.Below.heap_law.Names.{if_none}
+use Rattle.sorts_law.specs.Below.type_law.Names.{NameTypes, names_of, fits, is_there}
+use Rattle.sorts_law.specs.Below.type_law.ClusterTypes.{IsCoherent, misfit, has_form, entry_wrong, gives_other, forms_of, locked_of, slots_wrong, temps_wrong, is_mark}
+use Rattle.fit_law.specs.Below.path_law.HeapStore.{HasPaths}
+use Rattle.fit_law.proofs.Below.path_law.Forms.{running_typed, none_of}
+use Rattle.fit_law.proofs.Below.path_law.Shown.{none_else}
+use Rattle.sorts_law.proofs.Below.frame_law.Bare.{bare_owned}
+use Rattle.fit_law.proofs.Below.still_law.PlainValues.{unnoted}
+use Rattle.sorts_law.proofs.Below.drop_law.Levels.{same_type}
+use Rattle.sorts_law.proofs.Below.result_law.Known.{Steps, hand, standing, goes}
+use Rattle.sorts_law.proofs.Below.result_law.Operands.{gets, got_owned, newest_of, owned_form, mark_form}
+use Rattle.sorts_law.proofs.Below.result_law.Readers.{to_entry}
+use Rattle.fit_law.proofs.Below.event_law.Values.{last_split}
 use Rattle.fit_law.proofs.Fits.{nothing}
 use Rattle.outside_law.proofs.Walk.{Weighs, weight, f}
 use Rattle.outside_law.proofs.Names.{n2, Named, value_same, none_misfits, slot_named, temp_named, mark_same, own_same}

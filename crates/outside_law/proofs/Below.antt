@@ -1,3 +1,3 @@
 -- What this law stands on, passed on to the laws above it, which need not list that then.
-pub use Rattle.sorts_law.proofs as sorts_law
-pub use Rattle.state_law.proofs as state_law
+pub use Rattle.fit_law.proofs as fit_law
+pub use Rattle.fit_law.proofs.Below.typed_law as typed_law

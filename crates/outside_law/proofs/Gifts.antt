@@ -2,41 +2,41 @@
 use Rattle.std.proofs.Common.{◌≡◌, ◌-◌, ◌==◌, inl, ℕ, ◌+◌, not, Bool, true, false, length, Option, Some, None, is_some, refl, sym, ap, subst, ◌∙◌, arith}
 use Rattle.std.specs.Prelude.{slice_get}
 use Rattle.std.proofs.lemmas.Bool.{eq-eqb}
-use Rattle.fr_base.specs.Lists.{last_of}
-use Rattle.fr_base.specs.declared.label.Plain.{Plain}
-use Rattle.fr_base.specs.declared.name.ObjNo.{ObjNo}
-use Rattle.fr_base.specs.declared.name.MutexNo.{MutexNo}
-use Rattle.fr_base.specs.declared.place.Lval.{Lval}
-use Rattle.fr_base.specs.declared.instruction.Instr.{Instr}
-use Rattle.fr_base.specs.declared.instruction.Instr.TheVariants as instr
-use Rattle.fr_base.specs.declared.instruction.Operand.{Operand}
-use Rattle.fr_base.specs.declared.instruction.Operand.TheVariants as operand
-use Rattle.fr_store.specs.Store.{Val}
-use Rattle.fr_sound.specs.Seen.{seen_cell}
-use Rattle.heap_partition.specs.declared.value.Cell.{Cell}
-use Rattle.heap_partition.specs.declared.value.Owned.{Owned}
-use Rattle.heap_partition.specs.declared.value.Owned.TheVariants as owned
-use Rattle.thread_state.specs.View.{is_over}
-use Rattle.thread_state.specs.declared.value.Value.{Value}
-use Rattle.thread_state.specs.declared.value.Value.TheVariants as value
-use Rattle.server_model.specs.Servers.{Cluster}
-use Rattle.heap_law.specs.Names.{one, other, if_so, Among}
-use Rattle.heap_law.specs.Things.{Location, in_slot, in_temp, Thing, holds, lies, flies, things_of}
-use Rattle.heap_law.specs.Follow.{Standing, Ground, cell_of, slot_of, value_of, value_in, value_behind, value_at, place_at}
-use Rattle.heap_law.specs.Sight.{Sight, sight}
-use Rattle.heap_law.specs.Paths.{popped, task_in, joined_thread}
-use Rattle.heap_law.specs.Walking.{instr_of}
-use Rattle.heap_law.specs.Requests.{mutex_of, locked_mutex}
-use Rattle.heap_law.specs.Rooted.{is_end, dressed}
-use Rattle.heap_law.specs.OneHeap.{owns, object_n, mutex_n, task_n, content_owner, result_owner, gift_owner, owner_in, is_in_state, if_in, cell_value, first_shown, object_value}
-use Rattle.heap_law.proofs.Names.{if_none}
-use Rattle.type_law.specs.Names.{NameTypes}
-use Rattle.type_law.specs.ClusterTypes.{content_gift, result_gift, gift_misfit}
-use Rattle.event_law.proofs.MutexResults.{mutex_self}
-use Rattle.path_law.specs.HeapStore.{GoesOn}
-use Rattle.path_law.proofs.Forms.{none_of}
-use Rattle.word_law.proofs.Standing.{CellOf, lying, flying, cell_among}
-use Rattle.typed_law.proofs.Following.{HasHeap, IsShown, a_slot, an_object, stands_there, leads_in_heap}
+use Rattle.fit_law.specs.Below.fr_base.Lists.{last_of}
+use Rattle.fit_law.specs.Below.fr_base.declared.label.Plain.{Plain}
+use Rattle.fit_law.specs.Below.fr_base.declared.name.ObjNo.{ObjNo}
+use Rattle.fit_law.specs.Below.fr_base.declared.name.MutexNo.{MutexNo}
+use Rattle.fit_law.specs.Below.fr_base.declared.place.Lval.{Lval}
+use Rattle.fit_law.specs.Below.fr_base.declared.instruction.Instr.{Instr}
+use Rattle.fit_law.specs.Below.fr_base.declared.instruction.Instr.TheVariants as instr
+use Rattle.fit_law.specs.Below.fr_base.declared.instruction.Operand.{Operand}
+use Rattle.fit_law.specs.Below.fr_base.declared.instruction.Operand.TheVariants as operand
+use Rattle.fit_law.specs.Below.fr_store.Store.{Val}
+use Rattle.sorts_law.specs.Below.fr_sound.Seen.{seen_cell}
+use Rattle.fit_law.specs.Below.heap_partition.declared.value.Cell.{Cell}
+use Rattle.fit_law.specs.Below.heap_partition.declared.value.Owned.{Owned}
+use Rattle.fit_law.specs.Below.heap_partition.declared.value.Owned.TheVariants as owned
+use Rattle.fit_law.specs.Below.thread_state.View.{is_over}
+use Rattle.fit_law.specs.Below.thread_state.declared.value.Value.{Value}
+use Rattle.fit_law.specs.Below.thread_state.declared.value.Value.TheVariants as value
+use Rattle.fit_law.specs.Below.server_model.Servers.{Cluster}
+use Rattle.fit_law.specs.Below.heap_law.Names.{one, other, if_so, Among}
+use Rattle.fit_law.specs.Below.heap_law.Things.{Location, in_slot, in_temp, Thing, holds, lies, flies, things_of}
+use Rattle.fit_law.specs.Below.heap_law.Follow.{Standing, Ground, cell_of, slot_of, value_of, value_in, value_behind, value_at, place_at}
+use Rattle.fit_law.specs.Below.heap_law.Sight.{Sight, sight}
+use Rattle.fit_law.specs.Below.heap_law.Paths.{popped, task_in, joined_thread}
+use Rattle.fit_law.specs.Below.heap_law.Walking.{instr_of}
+use Rattle.fit_law.specs.Below.heap_law.Requests.{mutex_of, locked_mutex}
+use Rattle.fit_law.specs.Below.heap_law.Rooted.{is_end, dressed}
+use Rattle.fit_law.specs.Below.heap_law.OneHeap.{owns, object_n, mutex_n, task_n, content_owner, result_owner, gift_owner, owner_in, is_in_state, if_in, cell_value, first_shown, object_value}
+use Rattle.fit_law.proofs.Below.heap_law.Names.{if_none}
+use Rattle.sorts_law.specs.Below.type_law.Names.{NameTypes}
+use Rattle.sorts_law.specs.Below.type_law.ClusterTypes.{content_gift, result_gift, gift_misfit}
+use Rattle.fit_law.proofs.Below.event_law.MutexResults.{mutex_self}
+use Rattle.fit_law.specs.Below.path_law.HeapStore.{GoesOn}
+use Rattle.fit_law.proofs.Below.path_law.Forms.{none_of}
+use Rattle.sorts_law.proofs.Below.word_law.Standing.{CellOf, lying, flying, cell_among}
+use Rattle.fit_law.proofs.Below.typed_law.Following.{HasHeap, IsShown, a_slot, an_object, stands_there, leads_in_heap}
 use Rattle.fit_law.specs.Fits.{StandsOnce, gift_is_in}
 use Rattle.outside_law.proofs.Names.{slot_among, temp_among}
 use Rattle.outside_law.proofs.Inside.{named_in_state}

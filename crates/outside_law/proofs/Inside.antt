@@ -1,37 +1,37 @@
 -- What a thread owns afterwards is in the one heap, and so is the object at the end of a place that was assigned: the boxes that lead there from the thread's slots are as they were.
 use Rattle.std.proofs.Common.{◌≡◌, ◌⊎◌, inl, inr, ℕ, zero, suc, ◌+◌, ◌≤◌, ◌||◌, not, Bool, true, false, if◌then◌else◌, List, [], ◌∷◌, ◌++◌, length, Option, Some, None, refl, sym, ap, subst, ◌∙◌, arith}
-use Rattle.fr_base.specs.declared.name.ObjNo.{ObjNo}
-use Rattle.fr_base.specs.declared.label.Plain.{Plain}
-use Rattle.fr_base.specs.declared.label.Plain.TheVariants as plain
-use Rattle.heap_partition.specs.Plain.{plain_of}
-use Rattle.heap_partition.specs.declared.value.BoxPtr.{BoxPtr}
-use Rattle.heap_partition.specs.declared.value.Cell.{Cell}
-use Rattle.heap_partition.specs.declared.value.Owned.{Owned}
-use Rattle.heap_partition.specs.declared.value.Owned.TheVariants as owned
-use Rattle.thread_state.specs.View.{ThreadState}
-use Rattle.thread_state.specs.declared.value.Value.{Value}
-use Rattle.thread_state.specs.declared.value.Value.TheVariants as value
-use Rattle.server_model.specs.Servers.{Cluster}
-use Rattle.heap_law.specs.Names.{tot, one, other, if_so, Among, boxes, same_object}
-use Rattle.heap_law.specs.Things.{Spot, in_slot, in_temp, as_gift, as_content, as_result, in_hand, Thing, holds, lies, flies, noted, things_at, slot_things, temp_things, gift_things, walk_things, thread_things, things_of}
-use Rattle.heap_law.specs.Follow.{cells_in, cell_of}
-use Rattle.heap_law.specs.Sight.{Sight, sight}
-use Rattle.heap_law.specs.Weights.{owners, cells}
+use Rattle.fit_law.specs.Below.fr_base.declared.name.ObjNo.{ObjNo}
+use Rattle.fit_law.specs.Below.fr_base.declared.label.Plain.{Plain}
+use Rattle.fit_law.specs.Below.fr_base.declared.label.Plain.TheVariants as plain
+use Rattle.fit_law.specs.Below.heap_partition.Plain.{plain_of}
+use Rattle.fit_law.specs.Below.heap_partition.declared.value.BoxPtr.{BoxPtr}
+use Rattle.fit_law.specs.Below.heap_partition.declared.value.Cell.{Cell}
+use Rattle.fit_law.specs.Below.heap_partition.declared.value.Owned.{Owned}
+use Rattle.fit_law.specs.Below.heap_partition.declared.value.Owned.TheVariants as owned
+use Rattle.fit_law.specs.Below.thread_state.View.{ThreadState}
+use Rattle.fit_law.specs.Below.thread_state.declared.value.Value.{Value}
+use Rattle.fit_law.specs.Below.thread_state.declared.value.Value.TheVariants as value
+use Rattle.fit_law.specs.Below.server_model.Servers.{Cluster}
+use Rattle.fit_law.specs.Below.heap_law.Names.{tot, one, other, if_so, Among, boxes, same_object}
+use Rattle.fit_law.specs.Below.heap_law.Things.{Spot, in_slot, in_temp, as_gift, as_content, as_result, in_hand, Thing, holds, lies, flies, noted, things_at, slot_things, temp_things, gift_things, walk_things, thread_things, things_of}
+use Rattle.fit_law.specs.Below.heap_law.Follow.{cells_in, cell_of}
+use Rattle.fit_law.specs.Below.heap_law.Sight.{Sight, sight}
+use Rattle.fit_law.specs.Below.heap_law.Weights.{owners, cells}
 use Rattle.fit_law.specs.Fits.{StandsOnce}
-use Rattle.heap_law.specs.OneHeap.{Node, object_n, owns, inside, names, owner_of, owner_in, named_in, any_named, in_state_by, is_in_state}
-use Rattle.heap_law.proofs.Names.{if_none}
-use Rattle.heap_law.proofs.Words.{itself}
-use Rattle.event_law.proofs.Trades.{tot-append}
-use Rattle.path_law.proofs.InState.{only_one}
-use Rattle.path_law.proofs.Shown.{none_else}
-use Rattle.word_law.proofs.Standing.{CellOf, lying, flying, cell_among}
-use Rattle.still_law.proofs.PlainValues.{unnoted}
-use Rattle.still_law.proofs.Rounds.{enough}
-use Rattle.turn_law.proofs.Parts.{value_owns, owned_in}
-use Rattle.lock_law.proofs.Places.{slot_owned}
-use Rattle.drop_law.proofs.Under.{node_is}
-use Rattle.assign_law.proofs.Chains.{Chain, in_slot as from_slot, in_cell as from_cell}
-use Rattle.result_law.proofs.Flights.{has_weight}
+use Rattle.fit_law.specs.Below.heap_law.OneHeap.{Node, object_n, owns, inside, names, owner_of, owner_in, named_in, any_named, in_state_by, is_in_state}
+use Rattle.fit_law.proofs.Below.heap_law.Names.{if_none}
+use Rattle.fit_law.proofs.Below.heap_law.Words.{itself}
+use Rattle.fit_law.proofs.Below.event_law.Trades.{tot-append}
+use Rattle.fit_law.proofs.Below.path_law.InState.{only_one}
+use Rattle.fit_law.proofs.Below.path_law.Shown.{none_else}
+use Rattle.sorts_law.proofs.Below.word_law.Standing.{CellOf, lying, flying, cell_among}
+use Rattle.fit_law.proofs.Below.still_law.PlainValues.{unnoted}
+use Rattle.fit_law.proofs.Below.still_law.Rounds.{enough}
+use Rattle.sorts_law.proofs.Below.turn_law.Parts.{value_owns, owned_in}
+use Rattle.sorts_law.proofs.Below.lock_law.Places.{slot_owned}
+use Rattle.sorts_law.proofs.Below.drop_law.Under.{node_is}
+use Rattle.sorts_law.proofs.Below.assign_law.Chains.{Chain, in_slot as from_slot, in_cell as from_cell}
+use Rattle.sorts_law.proofs.Below.result_law.Flights.{has_weight}
 use Rattle.fit_law.proofs.Chains.{named_by}
 use Rattle.fit_law.proofs.Fits.{nothing}
 use Rattle.outside_law.proofs.Walk.{Weighs, weight, f}

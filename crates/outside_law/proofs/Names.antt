@@ -1,37 +1,37 @@
 -- What stands anywhere in a coherent cluster agrees by whatever types of names by which those that were given have the types that they had: each mutex and thread that it names was given.
 use Rattle.std.proofs.Common.{◌≡◌, inl, inr, ℕ, ◌+◌, ◌≤◌, ◌==◌, ◌&&◌, ◌||◌, not, Bool, true, false, List, [], ◌∷◌, ◌++◌, Some, refl, ap, subst, ◌∙◌, arith}
 use Rattle.std.specs.Prelude.{◌%◌, ◌^◌, slice_get}
-use Rattle.fr_base.specs.Names.{home_of}
-use Rattle.fr_base.specs.declared.name.MutexNo.{MutexNo}
-use Rattle.fr_typing.specs.Kinds.{Owned as OwnedType, unit, int, box, mutex, task, same_owned}
-use Rattle.fr_sound.specs.Seen.{Gives as NamesGive}
-use Rattle.plain_types.specs.Keeps.{KeepsNames}
-use Rattle.heap_partition.specs.declared.value.Owned.{Owned}
-use Rattle.heap_partition.specs.declared.value.Owned.TheVariants as owned
-use Rattle.join_home.specs.Tasks.{TaskState, going, let_go, kept, asked, in_pair}
-use Rattle.thread_state.specs.declared.value.Value.{Value}
-use Rattle.thread_state.specs.declared.value.Value.TheVariants as value
-use Rattle.server_msgs.specs.declared.message.Message.{Message}
-use Rattle.server_msgs.specs.declared.message.Message.TheVariants as message
-use Rattle.server_model.specs.Servers.{Cluster}
-use Rattle.heap_law.specs.Names.{tot, one, other, some, if_so, Among, same_mutex}
-use Rattle.heap_law.specs.Things.{Spot, in_slot, in_temp, as_gift, as_content, as_result, in_hand, at_slot, Thing, holds, shares, borrows, locks, lies, flies, vacant, retired, copied, uses, sent, stands, at_home, queued, noted, counts, things_at, gift_things, walk_things, slot_things, temp_things, things_of}
-use Rattle.heap_law.specs.Follow.{Standing, threads_in, thread_at}
-use Rattle.heap_law.specs.Sight.{sight}
-use Rattle.heap_law.specs.Weights.{is_home_of}
-use Rattle.heap_law.specs.Sharing.{owned_mutex, contents}
-use Rattle.heap_law.specs.Naming.{owned_thread, threads, named_mutexes, started_at, made_at, uncounted_thread, uncounted_mutex, zeroth_thread, zeroth_mutex}
-use Rattle.heap_law.specs.OneHeap.{one_heap, if_given, life_at}
-use Rattle.heap_law.proofs.Names.{same_mutexes}
-use Rattle.type_law.specs.Names.{NameTypes, names_of, fits, is_there}
-use Rattle.type_law.specs.ClusterTypes.{IsCoherent, misfit}
-use Rattle.event_law.proofs.MutexResults.{mutex_self}
-use Rattle.path_law.proofs.Shown.{none_else}
-use Rattle.path_law.proofs.Contained.{servers_contain, listed_in}
-use Rattle.path_law.proofs.Origins.{among_first, among_second}
-use Rattle.still_law.proofs.Gifts.{placed, telling, places_told}
-use Rattle.still_law.proofs.Told.{at_most}
-use Rattle.result_law.proofs.Flights.{has_weight}
+use Rattle.fit_law.specs.Below.fr_base.Names.{home_of}
+use Rattle.fit_law.specs.Below.fr_base.declared.name.MutexNo.{MutexNo}
+use Rattle.fit_law.specs.Below.fr_typing.Kinds.{Owned as OwnedType, unit, int, box, mutex, task, same_owned}
+use Rattle.sorts_law.specs.Below.fr_sound.Seen.{Gives as NamesGive}
+use Rattle.fit_law.specs.Below.plain_types.Keeps.{KeepsNames}
+use Rattle.fit_law.specs.Below.heap_partition.declared.value.Owned.{Owned}
+use Rattle.fit_law.specs.Below.heap_partition.declared.value.Owned.TheVariants as owned
+use Rattle.fit_law.specs.Below.join_home.Tasks.{TaskState, going, let_go, kept, asked, in_pair}
+use Rattle.fit_law.specs.Below.thread_state.declared.value.Value.{Value}
+use Rattle.fit_law.specs.Below.thread_state.declared.value.Value.TheVariants as value
+use Rattle.fit_law.specs.Below.server_msgs.declared.message.Message.{Message}
+use Rattle.fit_law.specs.Below.server_msgs.declared.message.Message.TheVariants as message
+use Rattle.fit_law.specs.Below.server_model.Servers.{Cluster}
+use Rattle.fit_law.specs.Below.heap_law.Names.{tot, one, other, some, if_so, Among, same_mutex}
+use Rattle.fit_law.specs.Below.heap_law.Things.{Spot, in_slot, in_temp, as_gift, as_content, as_result, in_hand, at_slot, Thing, holds, shares, borrows, locks, lies, flies, vacant, retired, copied, uses, sent, stands, at_home, queued, noted, counts, things_at, gift_things, walk_things, slot_things, temp_things, things_of}
+use Rattle.fit_law.specs.Below.heap_law.Follow.{Standing, threads_in, thread_at}
+use Rattle.fit_law.specs.Below.heap_law.Sight.{sight}
+use Rattle.fit_law.specs.Below.heap_law.Weights.{is_home_of}
+use Rattle.fit_law.specs.Below.heap_law.Sharing.{owned_mutex, contents}
+use Rattle.fit_law.specs.Below.heap_law.Naming.{owned_thread, threads, named_mutexes, started_at, made_at, uncounted_thread, uncounted_mutex, zeroth_thread, zeroth_mutex}
+use Rattle.fit_law.specs.Below.heap_law.OneHeap.{one_heap, if_given, life_at}
+use Rattle.fit_law.proofs.Below.heap_law.Names.{same_mutexes}
+use Rattle.sorts_law.specs.Below.type_law.Names.{NameTypes, names_of, fits, is_there}
+use Rattle.sorts_law.specs.Below.type_law.ClusterTypes.{IsCoherent, misfit}
+use Rattle.fit_law.proofs.Below.event_law.MutexResults.{mutex_self}
+use Rattle.fit_law.proofs.Below.path_law.Shown.{none_else}
+use Rattle.fit_law.proofs.Below.path_law.Contained.{servers_contain, listed_in}
+use Rattle.fit_law.proofs.Below.path_law.Origins.{among_first, among_second}
+use Rattle.fit_law.proofs.Below.still_law.Gifts.{placed, telling, places_told}
+use Rattle.fit_law.proofs.Below.still_law.Told.{at_most}
+use Rattle.sorts_law.proofs.Below.result_law.Flights.{has_weight}
 
 -- GIVEN NAMES
 

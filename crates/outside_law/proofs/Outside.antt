@@ -1,64 +1,64 @@
 -- After a plain step what is outside the one heap agrees with the types of its names: it is as it was, or the one node that the instruction put, which is inside.
 use Rattle.std.proofs.Common.{◌≡◌, ℕ, zero, suc, ◌+◌, ◌≤◌, not, Bool, true, false, List, length, take, drop, Option, Some, None, option_map, refl, sym, ap, subst, ◌∙◌, arith}
 use Rattle.std.specs.Prelude.{slice_get}
-use Rattle.fr_base.specs.declared.name.ObjNo.{ObjNo}
-use Rattle.fr_base.specs.declared.place.Lval.{Lval}
-use Rattle.fr_base.specs.declared.step.Fresh.{Fresh}
-use Rattle.fr_base.specs.declared.instruction.Instr.{Instr}
-use Rattle.fr_base.specs.declared.instruction.Instr.TheVariants as instr
-use Rattle.fr_base.specs.declared.instruction.Operand.{Operand}
-use Rattle.fr_sound.specs.Seen.{Gives as NamesGive}
-use Rattle.plain_types.specs.Keeps.{KeepsNames}
-use Rattle.heap_partition.specs.declared.value.Owned.{Owned}
-use Rattle.mutex_home.specs.Mutexes.{next_mutex}
-use Rattle.thread_state.specs.View.{ThreadState}
-use Rattle.journal.specs.View.{EntryView}
-use Rattle.server_model.specs.declared.event.Event.{Event}
-use Rattle.server_model.specs.declared.event.What.{What}
-use Rattle.server_model.specs.declared.event.What.TheVariants.{Step, Deliver, Evict, Migrate}
-use Rattle.server_model.specs.Servers.{Server, Cluster, server_at}
-use Rattle.server_model.specs.Work.{Hand, then_some, thread_in, set_thread}
-use Rattle.server_model.specs.Events.{Stepped, enabled, begin_work, deliver, left_by, step, step_in, stepped, does}
-use Rattle.server_model.specs.Clusters.{hand_over_newer, done_at, apply}
-use Rattle.heap_law.specs.Names.{tot, if_so, Among, same_object}
-use Rattle.heap_law.specs.Things.{Spot, in_slot, in_temp, as_gift, as_content, as_result, in_hand, Location, at_slot, at_temp, in_cell, Thing, holds, lies, flies, server_things, things_of}
-use Rattle.heap_law.specs.Follow.{cell_of, place_at, locate}
-use Rattle.heap_law.specs.Sight.{Sight, sight}
-use Rattle.heap_law.specs.Requests.{is_par_end}
-use Rattle.heap_law.specs.OneHeap.{Node, object_n, mutex_n, same_node, is_in_state, value_is_in, one_heap}
-use Rattle.heap_law.proofs.Names.{if_none}
-use Rattle.type_law.specs.Names.{NameTypes, names_of}
-use Rattle.type_law.specs.ClusterTypes.{IsCoherent, misfit, gift_misfit}
-use Rattle.event_law.specs.Laws.{Gives, FewEvents}
-use Rattle.event_law.proofs.Results.{map_gives, over_gives, test_gives, both_give, weaker}
-use Rattle.event_law.proofs.Bags.{all_standing, rest_things, server_same, tot-set}
-use Rattle.event_law.proofs.Events.{tot-server}
-use Rattle.event_law.proofs.Applied.{go_with}
-use Rattle.event_law.proofs.Handing.{hand_over_newer_law}
-use Rattle.event_law.proofs.MutexResults.{mutex_self}
-use Rattle.event_law.proofs.Trades.{tot-append}
-use Rattle.local_law.proofs.Goes.{Goes, thread_goes}
-use Rattle.turn_law.specs.Turns.{instr_at, instr_of}
-use Rattle.turn_law.proofs.Parts.{owned_in}
-use Rattle.turn_law.proofs.StarSteps.{alike_owned}
-use Rattle.turn_law.proofs.Events.{AtStep, Sends, events_are}
-use Rattle.lock_law.proofs.ThreadTurns.{quiet}
-use Rattle.drop_law.proofs.Under.{node_is}
-use Rattle.result_law.proofs.Known as known
-use Rattle.rewrite_law.specs.Writing.{WritesThrough, assigns}
-use Rattle.assign_law.proofs.CellChange.{itself}
-use Rattle.assign_law.proofs.Chains.{Chain, chain_to}
-use Rattle.assign_law.proofs.Untouched.{own_end}
-use Rattle.typed_law.proofs.Following.{HasHeap}
+use Rattle.fit_law.specs.Below.fr_base.declared.name.ObjNo.{ObjNo}
+use Rattle.fit_law.specs.Below.fr_base.declared.place.Lval.{Lval}
+use Rattle.fit_law.specs.Below.fr_base.declared.step.Fresh.{Fresh}
+use Rattle.fit_law.specs.Below.fr_base.declared.instruction.Instr.{Instr}
+use Rattle.fit_law.specs.Below.fr_base.declared.instruction.Instr.TheVariants as instr
+use Rattle.fit_law.specs.Below.fr_base.declared.instruction.Operand.{Operand}
+use Rattle.sorts_law.specs.Below.fr_sound.Seen.{Gives as NamesGive}
+use Rattle.fit_law.specs.Below.plain_types.Keeps.{KeepsNames}
+use Rattle.fit_law.specs.Below.heap_partition.declared.value.Owned.{Owned}
+use Rattle.fit_law.specs.Below.mutex_home.Mutexes.{next_mutex}
+use Rattle.fit_law.specs.Below.thread_state.View.{ThreadState}
+use Rattle.fit_law.specs.Below.journal.View.{EntryView}
+use Rattle.fit_law.specs.Below.server_model.declared.event.Event.{Event}
+use Rattle.fit_law.specs.Below.server_model.declared.event.What.{What}
+use Rattle.fit_law.specs.Below.server_model.declared.event.What.TheVariants.{Step, Deliver, Evict, Migrate}
+use Rattle.fit_law.specs.Below.server_model.Servers.{Server, Cluster, server_at}
+use Rattle.fit_law.specs.Below.server_model.Work.{Hand, then_some, thread_in, set_thread}
+use Rattle.fit_law.specs.Below.server_model.Events.{Stepped, enabled, begin_work, deliver, left_by, step, step_in, stepped, does}
+use Rattle.fit_law.specs.Below.server_model.Clusters.{hand_over_newer, done_at, apply}
+use Rattle.fit_law.specs.Below.heap_law.Names.{tot, if_so, Among, same_object}
+use Rattle.fit_law.specs.Below.heap_law.Things.{Spot, in_slot, in_temp, as_gift, as_content, as_result, in_hand, Location, at_slot, at_temp, in_cell, Thing, holds, lies, flies, server_things, things_of}
+use Rattle.fit_law.specs.Below.heap_law.Follow.{cell_of, place_at, locate}
+use Rattle.fit_law.specs.Below.heap_law.Sight.{Sight, sight}
+use Rattle.fit_law.specs.Below.heap_law.Requests.{is_par_end}
+use Rattle.fit_law.specs.Below.heap_law.OneHeap.{Node, object_n, mutex_n, same_node, is_in_state, value_is_in, one_heap}
+use Rattle.fit_law.proofs.Below.heap_law.Names.{if_none}
+use Rattle.sorts_law.specs.Below.type_law.Names.{NameTypes, names_of}
+use Rattle.sorts_law.specs.Below.type_law.ClusterTypes.{IsCoherent, misfit, gift_misfit}
+use Rattle.fit_law.specs.Below.event_law.Laws.{Gives, FewEvents}
+use Rattle.fit_law.proofs.Below.event_law.Results.{map_gives, over_gives, test_gives, both_give, weaker}
+use Rattle.fit_law.proofs.Below.event_law.Bags.{all_standing, rest_things, server_same, tot-set}
+use Rattle.fit_law.proofs.Below.event_law.Events.{tot-server}
+use Rattle.fit_law.proofs.Below.event_law.Applied.{go_with}
+use Rattle.fit_law.proofs.Below.event_law.Handing.{hand_over_newer_law}
+use Rattle.fit_law.proofs.Below.event_law.MutexResults.{mutex_self}
+use Rattle.fit_law.proofs.Below.event_law.Trades.{tot-append}
+use Rattle.sorts_law.proofs.Below.local_law.Goes.{Goes, thread_goes}
+use Rattle.sorts_law.specs.Below.turn_law.Turns.{instr_at, instr_of}
+use Rattle.sorts_law.proofs.Below.turn_law.Parts.{owned_in}
+use Rattle.sorts_law.proofs.Below.turn_law.StarSteps.{alike_owned}
+use Rattle.sorts_law.proofs.Below.turn_law.Events.{AtStep, Sends, events_are}
+use Rattle.sorts_law.proofs.Below.lock_law.ThreadTurns.{quiet}
+use Rattle.sorts_law.proofs.Below.drop_law.Under.{node_is}
+use Rattle.sorts_law.proofs.Below.result_law.Known as known
+use Rattle.sorts_law.specs.Below.rewrite_law.Writing.{WritesThrough, assigns}
+use Rattle.sorts_law.proofs.Below.assign_law.CellChange.{itself}
+use Rattle.sorts_law.proofs.Below.assign_law.Chains.{Chain, chain_to}
+use Rattle.sorts_law.proofs.Below.assign_law.Untouched.{own_end}
+use Rattle.fit_law.proofs.Below.typed_law.Following.{HasHeap}
 use Rattle.fit_law.specs.Fits.{StandsOnce, gift_is_in, outside_misfits}
 use Rattle.fit_law.proofs.Once.{sound_stand_once}
 use Rattle.fit_law.proofs.Fits.{nothing, typed_heaps_fit}
 use Rattle.fit_law.proofs.Outside.{misfits_follow}
-use Rattle.state_law.specs.States.{HeapTyped, HeapKept}
-use Rattle.state_law.proofs.States.{events_keep_names}
+use Rattle.sorts_law.specs.Below.state_law.States.{HeapTyped, HeapKept}
+use Rattle.sorts_law.proofs.Below.state_law.States.{events_keep_names}
 use Rattle.sorts_law.proofs.Steps.{goes_number}
 use Rattle.sorts_law.proofs.Each.{events_keep_sorts}
-use Rattle.typed_law.specs.Counted.{sorts_wrong}
+use Rattle.fit_law.specs.Below.typed_law.Counted.{sorts_wrong}
 use Rattle.outside_law.specs.Outside.{StepsFitOutside, StepAgrees, StepsAgree}
 use Rattle.outside_law.proofs.Walk.{Weighs, f, Light, to_server, WhereDone}
 use Rattle.outside_law.proofs.Names.{n2}
@@ -66,7 +66,7 @@ use Rattle.outside_law.proofs.Agreeing.{is_that, agreeing, content_weighs, resul
 use Rattle.outside_law.proofs.Steps.{end_node, special_of, ThreadDone, Allowed, step_light, steps_here, Owning, SlotsShow, assign_shows, box_has, mutex_has}
 use Rattle.outside_law.proofs.Inside.{own_names, thread_owns, owned_in_state, chaining, chains_before, end_in}
 use Rattle.outside_law.proofs.Gifts.{in_counts, gift_counts}
-use Rattle.result_law.proofs.Flights.{has_weight}
+use Rattle.sorts_law.proofs.Below.result_law.Flights.{has_weight}
 
 all_give : {A X : Type 0} (P : A → X → Type 0) (o : Option X) → ((a : A) → Gives (P a) o) → Gives (λ x. (a : A) → P a x) o
 all_give P None g = tt

@@ -1,61 +1,61 @@
 -- A thread's step that is done: what its server shows weighs nothing where what the instruction puts weighs nothing, and what the thread has then.
 use Rattle.std.proofs.Common.{◌≡◌, ℕ, zero, suc, ◌+◌, ◌≤◌, Bool, true, false, if◌then◌else◌, List, [], map, Option, Some, None, refl, sym, ap, subst, ◌∙◌, arith}
 use Rattle.std.specs.Prelude.{option_map, ⊤}
-use Rattle.fr_base.specs.declared.name.ObjNo.{ObjNo}
-use Rattle.fr_base.specs.declared.name.MutexNo.{MutexNo}
-use Rattle.fr_base.specs.declared.label.Plain.{Plain}
-use Rattle.fr_base.specs.declared.label.Plain.TheVariants as plain
-use Rattle.fr_base.specs.declared.place.Lval.{Lval}
-use Rattle.fr_base.specs.declared.step.Fresh.{Fresh}
-use Rattle.fr_base.specs.declared.step.Fresh.TheVariants as fresh
-use Rattle.fr_base.specs.declared.instruction.Instr.{Instr}
-use Rattle.fr_base.specs.declared.instruction.Instr.TheVariants as instr
-use Rattle.fr_base.specs.declared.instruction.Operand.{Operand}
-use Rattle.heap_partition.specs.Plain.{plain_of}
-use Rattle.heap_partition.specs.declared.value.Cell.{Cell}
-use Rattle.heap_partition.specs.declared.value.Owned.{Owned}
-use Rattle.heap_partition.specs.declared.value.Owned.TheVariants as owned
-use Rattle.owner_box.specs.Partition.{stored}
-use Rattle.read_cache.specs.Cache.{Copy, can_unpin}
-use Rattle.mut_borrow.specs.Refs.{finish_word}
-use Rattle.mutex_home.specs.Mutexes.{can_make, next_mutex}
-use Rattle.migration.specs.Packing.{unpin_all}
-use Rattle.thread_state.specs.View.{ThreadState}
-use Rattle.thread_state.specs.declared.value.Value.{Value}
-use Rattle.thread_state.specs.declared.value.Value.TheVariants as value
-use Rattle.journal.specs.declared.act.Act.TheVariants as act
-use Rattle.server_model.specs.declared.event.Event.{Event}
-use Rattle.server_model.specs.Servers.{Server, Cluster}
-use Rattle.server_model.specs.Work.{Hand, Popped, look, leads_here, then_some, with_partition, with_cache, working, label_all, pop_owned, pop_slot, taken_as, owned_of}
-use Rattle.server_model.specs.NewWords.{issue_placed}
-use Rattle.server_model.specs.Places.{Spot, in_slot, in_cell, nowhere, cell_at, value_at}
-use Rattle.server_model.specs.Drop.{unpin_ref, finished_at, drop_value}
-use Rattle.server_model.specs.Prepare.{ready, access_of, prepare}
-use Rattle.server_model.specs.Commit.{Committed, done, waits, refused, done_where, go_on, goes_on, label_dropped, store_labels, store_at, replace_at, assign, next_object, push_box, box_up, mutex_made, held_of, commit}
-use Rattle.server_model.specs.Events.{Stepped, done_step, has_phase, can_step, begin_work, committed, step}
-use Rattle.heap_law.specs.Names.{tot, one}
-use Rattle.heap_law.specs.Things.{Location, at_slot, in_cell as in_object, server_things}
-use Rattle.heap_law.specs.Follow.{cell_of, locate, place_at}
-use Rattle.heap_law.specs.Sight.{sight}
-use Rattle.heap_law.specs.OneHeap.{Node, object_n, mutex_n, plain_value}
-use Rattle.type_law.specs.ClusterTypes.{IsCoherent}
-use Rattle.event_law.specs.Laws.{Gives, FewEvents}
-use Rattle.event_law.proofs.Results.{then_gives, map_gives, test_gives, bind_gives}
-use Rattle.still_law.proofs.Addresses.{in_place, next_empty}
-use Rattle.still_law.proofs.Leaving.{others, placed_here}
-use Rattle.still_law.proofs.Readied.{IsPlaced, readied_slots}
-use Rattle.turn_law.proofs.Parts.{value_owns, owned_in}
-use Rattle.turn_law.proofs.Instructions.{PopsTo, owned_push}
-use Rattle.turn_law.proofs.Events.{AtStep}
-use Rattle.lock_law.proofs.NewLines.{popped_owned}
-use Rattle.result_law.proofs.Known.{Steps}
-use Rattle.write_law.proofs.Memory.{looks}
-use Rattle.write_law.proofs.Route.{At, a_slot, a_cell}
-use Rattle.rewrite_law.specs.Writing.{WritesThrough, assigns}
-use Rattle.assign_law.proofs.CellChange.{itself}
-use Rattle.assign_law.proofs.GivenUp.{noted_plain}
-use Rattle.assign_law.proofs.Readies.{IsReady, by_ready}
-use Rattle.event_law.proofs.MutexResults.{mutex_self}
+use Rattle.fit_law.specs.Below.fr_base.declared.name.ObjNo.{ObjNo}
+use Rattle.fit_law.specs.Below.fr_base.declared.name.MutexNo.{MutexNo}
+use Rattle.fit_law.specs.Below.fr_base.declared.label.Plain.{Plain}
+use Rattle.fit_law.specs.Below.fr_base.declared.label.Plain.TheVariants as plain
+use Rattle.fit_law.specs.Below.fr_base.declared.place.Lval.{Lval}
+use Rattle.fit_law.specs.Below.fr_base.declared.step.Fresh.{Fresh}
+use Rattle.fit_law.specs.Below.fr_base.declared.step.Fresh.TheVariants as fresh
+use Rattle.fit_law.specs.Below.fr_base.declared.instruction.Instr.{Instr}
+use Rattle.fit_law.specs.Below.fr_base.declared.instruction.Instr.TheVariants as instr
+use Rattle.fit_law.specs.Below.fr_base.declared.instruction.Operand.{Operand}
+use Rattle.fit_law.specs.Below.heap_partition.Plain.{plain_of}
+use Rattle.fit_law.specs.Below.heap_partition.declared.value.Cell.{Cell}
+use Rattle.fit_law.specs.Below.heap_partition.declared.value.Owned.{Owned}
+use Rattle.fit_law.specs.Below.heap_partition.declared.value.Owned.TheVariants as owned
+use Rattle.fit_law.specs.Below.owner_box.Partition.{stored}
+use Rattle.fit_law.specs.Below.read_cache.Cache.{Copy, can_unpin}
+use Rattle.fit_law.specs.Below.mut_borrow.Refs.{finish_word}
+use Rattle.fit_law.specs.Below.mutex_home.Mutexes.{can_make, next_mutex}
+use Rattle.fit_law.specs.Below.migration.Packing.{unpin_all}
+use Rattle.fit_law.specs.Below.thread_state.View.{ThreadState}
+use Rattle.fit_law.specs.Below.thread_state.declared.value.Value.{Value}
+use Rattle.fit_law.specs.Below.thread_state.declared.value.Value.TheVariants as value
+use Rattle.fit_law.specs.Below.journal.declared.act.Act.TheVariants as act
+use Rattle.fit_law.specs.Below.server_model.declared.event.Event.{Event}
+use Rattle.fit_law.specs.Below.server_model.Servers.{Server, Cluster}
+use Rattle.fit_law.specs.Below.server_model.Work.{Hand, Popped, look, leads_here, then_some, with_partition, with_cache, working, label_all, pop_owned, pop_slot, taken_as, owned_of}
+use Rattle.fit_law.specs.Below.server_model.NewWords.{issue_placed}
+use Rattle.fit_law.specs.Below.server_model.Places.{Spot, in_slot, in_cell, nowhere, cell_at, value_at}
+use Rattle.fit_law.specs.Below.server_model.Drop.{unpin_ref, finished_at, drop_value}
+use Rattle.fit_law.specs.Below.server_model.Prepare.{ready, access_of, prepare}
+use Rattle.fit_law.specs.Below.server_model.Commit.{Committed, done, waits, refused, done_where, go_on, goes_on, label_dropped, store_labels, store_at, replace_at, assign, next_object, push_box, box_up, mutex_made, held_of, commit}
+use Rattle.fit_law.specs.Below.server_model.Events.{Stepped, done_step, has_phase, can_step, begin_work, committed, step}
+use Rattle.fit_law.specs.Below.heap_law.Names.{tot, one}
+use Rattle.fit_law.specs.Below.heap_law.Things.{Location, at_slot, in_cell as in_object, server_things}
+use Rattle.fit_law.specs.Below.heap_law.Follow.{cell_of, locate, place_at}
+use Rattle.fit_law.specs.Below.heap_law.Sight.{sight}
+use Rattle.fit_law.specs.Below.heap_law.OneHeap.{Node, object_n, mutex_n, plain_value}
+use Rattle.sorts_law.specs.Below.type_law.ClusterTypes.{IsCoherent}
+use Rattle.fit_law.specs.Below.event_law.Laws.{Gives, FewEvents}
+use Rattle.fit_law.proofs.Below.event_law.Results.{then_gives, map_gives, test_gives, bind_gives}
+use Rattle.fit_law.proofs.Below.still_law.Addresses.{in_place, next_empty}
+use Rattle.fit_law.proofs.Below.still_law.Leaving.{others, placed_here}
+use Rattle.fit_law.proofs.Below.still_law.Readied.{IsPlaced, readied_slots}
+use Rattle.sorts_law.proofs.Below.turn_law.Parts.{value_owns, owned_in}
+use Rattle.sorts_law.proofs.Below.turn_law.Instructions.{PopsTo, owned_push}
+use Rattle.sorts_law.proofs.Below.turn_law.Events.{AtStep}
+use Rattle.sorts_law.proofs.Below.lock_law.NewLines.{popped_owned}
+use Rattle.sorts_law.proofs.Below.result_law.Known.{Steps}
+use Rattle.sorts_law.proofs.Below.write_law.Memory.{looks}
+use Rattle.sorts_law.proofs.Below.write_law.Route.{At, a_slot, a_cell}
+use Rattle.sorts_law.specs.Below.rewrite_law.Writing.{WritesThrough, assigns}
+use Rattle.sorts_law.proofs.Below.assign_law.CellChange.{itself}
+use Rattle.sorts_law.proofs.Below.assign_law.GivenUp.{noted_plain}
+use Rattle.sorts_law.proofs.Below.assign_law.Readies.{IsReady, by_ready}
+use Rattle.fit_law.proofs.Below.event_law.MutexResults.{mutex_self}
 use Rattle.outside_law.proofs.Walk.{Weighs, f, HasPlace, Light, from_server, by_moves, MayGet, Excused, WhereDone, commits, settles, steps_light}
 
 -- the object at the end of a place

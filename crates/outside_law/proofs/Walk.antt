@@ -2,62 +2,62 @@
 -- puts there weighs nothing.
 use Rattle.std.proofs.Common.{◌≡◌, ℕ, ℤ, zero, suc, ◌+◌, ◌&&◌, ◌==◌, Bool, true, false, nat_lt, if◌then◌else◌, List, [], ◌∷◌, ◌++◌, length, Option, Some, None, is_some, refl, sym, ap, subst, ◌∙◌, arith}
 use Rattle.std.specs.Prelude.{slice_get, option_map, ⊤}
-use Rattle.fr_base.specs.Lists.{last_of}
-use Rattle.fr_base.specs.declared.name.MutexNo.{MutexNo}
-use Rattle.fr_base.specs.declared.name.ObjNo.{ObjNo}
-use Rattle.fr_base.specs.declared.label.Plain.{Plain}
-use Rattle.fr_base.specs.declared.label.Plain.TheVariants as plain
-use Rattle.fr_base.specs.declared.place.Lval.{Lval}
-use Rattle.fr_base.specs.declared.step.Fresh.{Fresh}
-use Rattle.fr_base.specs.declared.step.Fresh.TheVariants as fresh
-use Rattle.fr_base.specs.declared.instruction.Instr.{Instr}
-use Rattle.fr_base.specs.declared.instruction.Instr.TheVariants as instr
-use Rattle.fr_base.specs.declared.instruction.Operand.{Operand}
-use Rattle.fr_base.specs.declared.instruction.Operand.TheVariants as operand
-use Rattle.heap_partition.specs.Plain.{plain_of}
-use Rattle.heap_partition.specs.declared.value.Cell.{Cell}
-use Rattle.heap_partition.specs.declared.value.Owned.{Owned}
-use Rattle.heap_partition.specs.declared.value.Owned.TheVariants as owned
-use Rattle.owner_box.specs.View.{PartitionState}
-use Rattle.owner_box.specs.Partition.{made, stored, cell_of}
-use Rattle.global_addr.specs.Words.{server_of, colour_of}
-use Rattle.read_cache.specs.Cache.{Copy, can_unpin, unpin}
-use Rattle.mut_borrow.specs.Refs.{finish_word}
-use Rattle.mut_borrow.specs.declared.shared.SharedRef.{SharedRef}
-use Rattle.mutex_home.specs.Mutexes.{Mutex, can_make, make, next_mutex}
-use Rattle.join_home.specs.Tasks.{TaskState, going, in_pair, can_begin, can_begin_pair, noted}
-use Rattle.migration.specs.Packing.{unpin_all}
-use Rattle.thread_state.specs.View.{ThreadState, new_thread}
-use Rattle.thread_state.specs.declared.phase.Phase.{Phase}
-use Rattle.thread_state.specs.declared.phase.Phase.TheVariants as phase
-use Rattle.thread_state.specs.declared.value.Value.{Value}
-use Rattle.thread_state.specs.declared.value.Value.TheVariants as value
-use Rattle.server_msgs.specs.declared.message.Message.{Message}
-use Rattle.server_msgs.specs.declared.message.Message.TheVariants as message
-use Rattle.journal.specs.declared.act.Act.TheVariants as act
-use Rattle.server_model.specs.Servers.{Rest, Server}
-use Rattle.server_model.specs.Work.{Work, Hand, Popped, sent_from, look, leads_here, then_some, working, with_partition, with_cache, with_phase, label_all, push_slot, push_temp, pop, pop_owned, pop_int, pop_temp, pop_slot, taken_as, owned_of, int_of, task_of}
-use Rattle.server_model.specs.NewWords.{NewWord, can_grow, issue_placed}
-use Rattle.server_model.specs.Places.{Spot, in_slot, on_top, in_cell, in_copy, nowhere, cell_at, value_at, load_at, note_write, put_slot, put_cell, put_at, set_pointer, second_of}
-use Rattle.server_model.specs.Drop.{give_up, unpin_ref, finished_at, drop_value}
-use Rattle.server_model.specs.Start.{next_thread, server_for, start_thread, capture}
-use Rattle.server_model.specs.Prepare.{Prepared, ready, requested, nothing, access_of, prepare}
-use Rattle.server_model.specs.Commit.{Committed, done, waits, refused, done_where, go_on, goes_on, waiting, let_slot, label_dropped, replace_slot, store_labels, store_at, replace_at, assign, take_out, read, shared_from, borrow_from, mutable_from, borrow_mut_from, discard, drop_slot, next_object, push_box, make_box, box_up, print, begun, spawn_with, take_gift, join, pair_begun, par_with, par_end, end_with, end_thread, mutex_made, mutex_at, dup, lock, held_of, unlock, commit}
-use Rattle.server_model.specs.Events.{Stepped, done_step, committed, prepared, step}
-use Rattle.heap_law.specs.Names.{tot}
-use Rattle.heap_law.specs.Things.{Spot as Place, Location, Thing, in_slot as a_slot, in_temp, as_content, as_result, holds, uses, things_at, pin_things, value_things, slot_things, temp_things, gift_things, walk_things, thread_things, standing_things, mutex_things, task_things, message_things, server_things}
-use Rattle.event_law.specs.Laws.{Gives}
-use Rattle.event_law.proofs.Bags.{all_standing, rest_things, of_partition, of_mutexes, of_tasks, of_sending, sent_number, server_same}
-use Rattle.event_law.proofs.Objects.{makes}
-use Rattle.event_law.proofs.Results.{then_gives, map_gives, test_gives, bind_gives, over_gives, weaker, given_by}
-use Rattle.event_law.proofs.Trades.{tot-append, trade_push}
-use Rattle.event_law.proofs.Values.{stores}
-use Rattle.still_law.specs.Shows.{Sign, a_value, an_object, sign_of}
-use Rattle.still_law.proofs.Addresses.{no_vacancy}
-use Rattle.still_law.proofs.Back.{gives_up}
-use Rattle.still_law.proofs.Prepares.{prepare_shows, Fine as Shows}
-use Rattle.still_law.proofs.Readied.{IsPlaced, Kept, same_rest, copies_ready, set_ready}
-use Rattle.still_law.proofs.Sites.{Moves}
+use Rattle.fit_law.specs.Below.fr_base.Lists.{last_of}
+use Rattle.fit_law.specs.Below.fr_base.declared.name.MutexNo.{MutexNo}
+use Rattle.fit_law.specs.Below.fr_base.declared.name.ObjNo.{ObjNo}
+use Rattle.fit_law.specs.Below.fr_base.declared.label.Plain.{Plain}
+use Rattle.fit_law.specs.Below.fr_base.declared.label.Plain.TheVariants as plain
+use Rattle.fit_law.specs.Below.fr_base.declared.place.Lval.{Lval}
+use Rattle.fit_law.specs.Below.fr_base.declared.step.Fresh.{Fresh}
+use Rattle.fit_law.specs.Below.fr_base.declared.step.Fresh.TheVariants as fresh
+use Rattle.fit_law.specs.Below.fr_base.declared.instruction.Instr.{Instr}
+use Rattle.fit_law.specs.Below.fr_base.declared.instruction.Instr.TheVariants as instr
+use Rattle.fit_law.specs.Below.fr_base.declared.instruction.Operand.{Operand}
+use Rattle.fit_law.specs.Below.fr_base.declared.instruction.Operand.TheVariants as operand
+use Rattle.fit_law.specs.Below.heap_partition.Plain.{plain_of}
+use Rattle.fit_law.specs.Below.heap_partition.declared.value.Cell.{Cell}
+use Rattle.fit_law.specs.Below.heap_partition.declared.value.Owned.{Owned}
+use Rattle.fit_law.specs.Below.heap_partition.declared.value.Owned.TheVariants as owned
+use Rattle.fit_law.specs.Below.owner_box.View.{PartitionState}
+use Rattle.fit_law.specs.Below.owner_box.Partition.{made, stored, cell_of}
+use Rattle.fit_law.specs.Below.global_addr.Words.{server_of, colour_of}
+use Rattle.fit_law.specs.Below.read_cache.Cache.{Copy, can_unpin, unpin}
+use Rattle.fit_law.specs.Below.mut_borrow.Refs.{finish_word}
+use Rattle.fit_law.specs.Below.mut_borrow.declared.shared.SharedRef.{SharedRef}
+use Rattle.fit_law.specs.Below.mutex_home.Mutexes.{Mutex, can_make, make, next_mutex}
+use Rattle.fit_law.specs.Below.join_home.Tasks.{TaskState, going, in_pair, can_begin, can_begin_pair, noted}
+use Rattle.fit_law.specs.Below.migration.Packing.{unpin_all}
+use Rattle.fit_law.specs.Below.thread_state.View.{ThreadState, new_thread}
+use Rattle.fit_law.specs.Below.thread_state.declared.phase.Phase.{Phase}
+use Rattle.fit_law.specs.Below.thread_state.declared.phase.Phase.TheVariants as phase
+use Rattle.fit_law.specs.Below.thread_state.declared.value.Value.{Value}
+use Rattle.fit_law.specs.Below.thread_state.declared.value.Value.TheVariants as value
+use Rattle.fit_law.specs.Below.server_msgs.declared.message.Message.{Message}
+use Rattle.fit_law.specs.Below.server_msgs.declared.message.Message.TheVariants as message
+use Rattle.fit_law.specs.Below.journal.declared.act.Act.TheVariants as act
+use Rattle.fit_law.specs.Below.server_model.Servers.{Rest, Server}
+use Rattle.fit_law.specs.Below.server_model.Work.{Work, Hand, Popped, sent_from, look, leads_here, then_some, working, with_partition, with_cache, with_phase, label_all, push_slot, push_temp, pop, pop_owned, pop_int, pop_temp, pop_slot, taken_as, owned_of, int_of, task_of}
+use Rattle.fit_law.specs.Below.server_model.NewWords.{NewWord, can_grow, issue_placed}
+use Rattle.fit_law.specs.Below.server_model.Places.{Spot, in_slot, on_top, in_cell, in_copy, nowhere, cell_at, value_at, load_at, note_write, put_slot, put_cell, put_at, set_pointer, second_of}
+use Rattle.fit_law.specs.Below.server_model.Drop.{give_up, unpin_ref, finished_at, drop_value}
+use Rattle.fit_law.specs.Below.server_model.Start.{next_thread, server_for, start_thread, capture}
+use Rattle.fit_law.specs.Below.server_model.Prepare.{Prepared, ready, requested, nothing, access_of, prepare}
+use Rattle.fit_law.specs.Below.server_model.Commit.{Committed, done, waits, refused, done_where, go_on, goes_on, waiting, let_slot, label_dropped, replace_slot, store_labels, store_at, replace_at, assign, take_out, read, shared_from, borrow_from, mutable_from, borrow_mut_from, discard, drop_slot, next_object, push_box, make_box, box_up, print, begun, spawn_with, take_gift, join, pair_begun, par_with, par_end, end_with, end_thread, mutex_made, mutex_at, dup, lock, held_of, unlock, commit}
+use Rattle.fit_law.specs.Below.server_model.Events.{Stepped, done_step, committed, prepared, step}
+use Rattle.fit_law.specs.Below.heap_law.Names.{tot}
+use Rattle.fit_law.specs.Below.heap_law.Things.{Spot as Place, Location, Thing, in_slot as a_slot, in_temp, as_content, as_result, holds, uses, things_at, pin_things, value_things, slot_things, temp_things, gift_things, walk_things, thread_things, standing_things, mutex_things, task_things, message_things, server_things}
+use Rattle.fit_law.specs.Below.event_law.Laws.{Gives}
+use Rattle.fit_law.proofs.Below.event_law.Bags.{all_standing, rest_things, of_partition, of_mutexes, of_tasks, of_sending, sent_number, server_same}
+use Rattle.fit_law.proofs.Below.event_law.Objects.{makes}
+use Rattle.fit_law.proofs.Below.event_law.Results.{then_gives, map_gives, test_gives, bind_gives, over_gives, weaker, given_by}
+use Rattle.fit_law.proofs.Below.event_law.Trades.{tot-append, trade_push}
+use Rattle.fit_law.proofs.Below.event_law.Values.{stores}
+use Rattle.fit_law.specs.Below.still_law.Shows.{Sign, a_value, an_object, sign_of}
+use Rattle.fit_law.proofs.Below.still_law.Addresses.{no_vacancy}
+use Rattle.fit_law.proofs.Below.still_law.Back.{gives_up}
+use Rattle.fit_law.proofs.Below.still_law.Prepares.{prepare_shows, Fine as Shows}
+use Rattle.fit_law.proofs.Below.still_law.Readied.{IsPlaced, Kept, same_rest, copies_ready, set_ready}
+use Rattle.fit_law.proofs.Below.still_law.Sites.{Moves}
 
 -- what contents, results and objects weigh, by what they show
 pub record Weighs : Type 0 where

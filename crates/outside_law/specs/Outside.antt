@@ -1,20 +1,20 @@
 -- WHAT IS OUTSIDE THE ONE HEAP after a plain step agrees with the types of its names, and so does all that stands anywhere (this project's rule).
 use Rattle.std.specs.Prelude.{◌≡◌, Some}
-use Rattle.fr_base.specs.declared.step.Fresh.{Fresh}
-use Rattle.fr_sound.specs.Seen.{Gives as NamesGive}
-use Rattle.fr_sound.specs.States.{Typing}
-use Rattle.fr_code.specs.CodeTypes.{Table}
-use Rattle.plain_types.specs.Keeps.{KeepsNames}
-use Rattle.journal.specs.View.{EntryView}
-use Rattle.server_model.specs.declared.event.Event.{Event}
-use Rattle.server_model.specs.Servers.{Cluster}
-use Rattle.server_model.specs.Clusters.{apply}
-use Rattle.heap_law.specs.Sight.{sight}
-use Rattle.heap_law.specs.OneHeap.{one_heap}
-use Rattle.type_law.specs.Names.{names_of}
-use Rattle.type_law.specs.ClusterTypes.{IsCoherent}
-use Rattle.event_law.specs.Laws.{Gives, FewEvents}
-use Rattle.state_law.specs.States.{HeapKept}
+use Rattle.fit_law.specs.Below.fr_base.declared.step.Fresh.{Fresh}
+use Rattle.sorts_law.specs.Below.fr_sound.Seen.{Gives as NamesGive}
+use Rattle.sorts_law.specs.Below.fr_sound.States.{Typing}
+use Rattle.fit_law.specs.Below.fr_code.CodeTypes.{Table}
+use Rattle.fit_law.specs.Below.plain_types.Keeps.{KeepsNames}
+use Rattle.fit_law.specs.Below.journal.View.{EntryView}
+use Rattle.fit_law.specs.Below.server_model.declared.event.Event.{Event}
+use Rattle.fit_law.specs.Below.server_model.Servers.{Cluster}
+use Rattle.fit_law.specs.Below.server_model.Clusters.{apply}
+use Rattle.fit_law.specs.Below.heap_law.Sight.{sight}
+use Rattle.fit_law.specs.Below.heap_law.OneHeap.{one_heap}
+use Rattle.sorts_law.specs.Below.type_law.Names.{names_of}
+use Rattle.sorts_law.specs.Below.type_law.ClusterTypes.{IsCoherent}
+use Rattle.fit_law.specs.Below.event_law.Laws.{Gives, FewEvents}
+use Rattle.sorts_law.specs.Below.state_law.States.{HeapKept}
 use Rattle.fit_law.specs.Fits.{StandsOnce, HeapFits, outside_misfits, WholeAgrees}
 
 -- each event with a plain step of a coherent cluster, in which few were done, leaves what is outside the one heap in agreement with the types of its names, where each thing stands

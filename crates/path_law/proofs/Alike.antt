@@ -1,25 +1,25 @@
 -- A place leads in a coherent cluster to where it leads in its one heap.
 use Rattle.std.proofs.Common.{◌≡◌, ℕ, zero, suc, Bool, Option, Some, None, option_map, refl, sym, ap, subst, ◌∙◌}
 use Rattle.std.specs.Prelude.{slice_get}
-use Rattle.fr_base.specs.declared.name.ObjNo.{ObjNo}
-use Rattle.fr_base.specs.declared.name.MutexNo.{MutexNo}
-use Rattle.fr_base.specs.declared.label.Plain.{Plain}
-use Rattle.fr_base.specs.declared.label.Plain.TheVariants as plain
-use Rattle.heap_partition.specs.Plain.{plain_of}
-use Rattle.heap_partition.specs.declared.value.Cell.{Cell}
-use Rattle.heap_partition.specs.declared.value.Owned.{Owned}
-use Rattle.heap_partition.specs.declared.value.Owned.TheVariants as owned
-use Rattle.mut_borrow.specs.declared.mutable.MutRef.{MutRef}
-use Rattle.mut_borrow.specs.declared.shared.SharedRef.{SharedRef}
-use Rattle.thread_state.specs.declared.value.Value.{Value}
-use Rattle.thread_state.specs.declared.value.Value.TheVariants as value
+use Rattle.type_law.specs.Below.fr_base.declared.name.ObjNo.{ObjNo}
+use Rattle.type_law.specs.Below.fr_base.declared.name.MutexNo.{MutexNo}
+use Rattle.type_law.specs.Below.fr_base.declared.label.Plain.{Plain}
+use Rattle.type_law.specs.Below.fr_base.declared.label.Plain.TheVariants as plain
+use Rattle.type_law.specs.Below.heap_partition.Plain.{plain_of}
+use Rattle.type_law.specs.Below.heap_partition.declared.value.Cell.{Cell}
+use Rattle.type_law.specs.Below.heap_partition.declared.value.Owned.{Owned}
+use Rattle.type_law.specs.Below.heap_partition.declared.value.Owned.TheVariants as owned
+use Rattle.type_law.specs.Below.mut_borrow.declared.mutable.MutRef.{MutRef}
+use Rattle.type_law.specs.Below.mut_borrow.declared.shared.SharedRef.{SharedRef}
+use Rattle.type_law.specs.Below.thread_state.declared.value.Value.{Value}
+use Rattle.type_law.specs.Below.thread_state.declared.value.Value.TheVariants as value
 use Rattle.type_law.specs.Below.server_model.Servers.{Cluster}
-use Rattle.fr_store.specs.Keys.{Key, slot_k, temp_k}
-use Rattle.fr_store.specs.Store.{Location as StoreLocation, at_key, at_object, Val, gone_v, box_v, ref_v, Place as StorePlace, unit_v, int_v, mutex_v, task_v, Store, value_at, star_target, star_hop, walk}
-use Rattle.fr_store.specs.Typed.{Tree, hole, unit_tree, int_tree, mutex_tree, task_tree, box_tree, Exact, owns, refers, KeyTypes, Typed, TopFits, Unnamed}
-use Rattle.fr_store.proofs.Chains.{unique}
-use Rattle.fr_store.proofs.Sound.{walk_last, ref_at}
-use Rattle.fr_store.proofs.Rows.{top_fits, found_place, not_to}
+use Rattle.type_law.specs.Below.fr_store.Keys.{Key, slot_k, temp_k}
+use Rattle.type_law.specs.Below.fr_store.Store.{Location as StoreLocation, at_key, at_object, Val, gone_v, box_v, ref_v, Place as StorePlace, unit_v, int_v, mutex_v, task_v, Store, value_at, star_target, star_hop, walk}
+use Rattle.type_law.specs.Below.fr_store.Typed.{Tree, hole, unit_tree, int_tree, mutex_tree, task_tree, box_tree, Exact, owns, refers, KeyTypes, Typed, TopFits, Unnamed}
+use Rattle.type_law.proofs.Below.fr_store.Chains.{unique}
+use Rattle.type_law.proofs.Below.fr_store.Sound.{walk_last, ref_at}
+use Rattle.type_law.proofs.Below.fr_store.Rows.{top_fits, found_place, not_to}
 use Rattle.type_law.specs.Below.fr_sound.Seen.{Gives, owned_val, seen_cell}
 use Rattle.type_law.specs.Below.heap_law.Things.{Location, at_slot, in_cell}
 use Rattle.type_law.specs.Below.heap_law.Follow.{Standing, Ground, cell_of, slot_of, value_of, value_in, value_behind, leads, locate}

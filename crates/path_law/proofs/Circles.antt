@@ -1,13 +1,13 @@
 -- A place that may be written: shorter places may be too, walks go down in rank, and no reference was made from what it was made of.
 use Rattle.std.proofs.Common.{◌≡◌, ◌⊎◌, inl, inr, ℕ, zero, suc, ◌+◌, ◌<◌, ◌≤◌, Bool, true, Option, Some, None, refl, sym, ap, subst, ◌∙◌, arith}
-use Rattle.fr_base.specs.declared.name.ObjNo.{ObjNo}
-use Rattle.fr_store.specs.Keys.{Key}
-use Rattle.fr_store.specs.Store.{Location, at_key, at_object, Val, box_v, ref_v, Store, star_target, star_hop, walk, Place, add}
-use Rattle.fr_store.specs.Typed.{box_tree, Exact, owns, refers, KeyTypes, exact_under, Resolves, here, through, Typed}
-use Rattle.fr_store.proofs.Chains.{part_suc, add_plus, unique}
-use Rattle.fr_store.proofs.Below.{part_zero}
-use Rattle.fr_store.proofs.Sound.{ref_at}
-use Rattle.fr_store.proofs.ThreadKept.{res_low}
+use Rattle.type_law.specs.Below.fr_base.declared.name.ObjNo.{ObjNo}
+use Rattle.type_law.specs.Below.fr_store.Keys.{Key}
+use Rattle.type_law.specs.Below.fr_store.Store.{Location, at_key, at_object, Val, box_v, ref_v, Store, star_target, star_hop, walk, Place, add}
+use Rattle.type_law.specs.Below.fr_store.Typed.{box_tree, Exact, owns, refers, KeyTypes, exact_under, Resolves, here, through, Typed}
+use Rattle.type_law.proofs.Below.fr_store.Chains.{part_suc, add_plus, unique}
+use Rattle.type_law.proofs.Below.fr_store.Below.{part_zero}
+use Rattle.type_law.proofs.Below.fr_store.Sound.{ref_at}
+use Rattle.type_law.proofs.Below.fr_store.ThreadKept.{res_low}
 use Rattle.path_law.proofs.Sole.{walk_prefix}
 use Rattle.path_law.proofs.Alike.{ref_type}
 use Rattle.path_law.specs.Above.{IsMadeFrom, StandsAbove, holder, higher}

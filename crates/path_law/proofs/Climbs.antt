@@ -2,20 +2,20 @@
 use Rattle.std.proofs.Common.{◌≡◌, ℕ, suc, ◌==◌, ◌&&◌, Bool, true, false, Option, Some, None, refl, sym, ap, subst, ◌∙◌, arith}
 use Rattle.std.specs.Prelude.{slice_get}
 use Rattle.std.proofs.lemmas.Bool.Decides.{nat_tests}
-use Rattle.fr_typing.proofs.PlaceLemmas.{eq_cases}
-use Rattle.fr_base.specs.declared.name.ObjNo.{ObjNo}
-use Rattle.fr_base.specs.declared.place.Lval.{Lval}
-use Rattle.fr_store.specs.Keys.{Key, slot_k}
-use Rattle.fr_store.specs.Store.{Location as StoreLocation, at_key, at_object, Val, gone_v, ref_v, Store, Place as StorePlace, star_target, star_hop, walk}
-use Rattle.fr_store.specs.Typed.{refers, KeyTypes}
-use Rattle.fr_store.proofs.Sound.{walk_last, ref_at, sound}
+use Rattle.type_law.proofs.Below.fr_typing.PlaceLemmas.{eq_cases}
+use Rattle.type_law.specs.Below.fr_base.declared.name.ObjNo.{ObjNo}
+use Rattle.type_law.specs.Below.fr_base.declared.place.Lval.{Lval}
+use Rattle.type_law.specs.Below.fr_store.Keys.{Key, slot_k}
+use Rattle.type_law.specs.Below.fr_store.Store.{Location as StoreLocation, at_key, at_object, Val, gone_v, ref_v, Store, Place as StorePlace, star_target, star_hop, walk}
+use Rattle.type_law.specs.Below.fr_store.Typed.{refers, KeyTypes}
+use Rattle.type_law.proofs.Below.fr_store.Sound.{walk_last, ref_at, sound}
 use Rattle.type_law.specs.Below.fr_sound.Seen.{Gives, owned_val}
-use Rattle.heap_partition.specs.Plain.{plain_of}
-use Rattle.heap_partition.specs.declared.value.Owned.{Owned}
-use Rattle.heap_partition.specs.declared.value.Owned.TheVariants as owned
-use Rattle.mut_borrow.specs.declared.mutable.MutRef.{MutRef}
-use Rattle.thread_state.specs.declared.value.Value.{Value}
-use Rattle.thread_state.specs.declared.value.Value.TheVariants as value
+use Rattle.type_law.specs.Below.heap_partition.Plain.{plain_of}
+use Rattle.type_law.specs.Below.heap_partition.declared.value.Owned.{Owned}
+use Rattle.type_law.specs.Below.heap_partition.declared.value.Owned.TheVariants as owned
+use Rattle.type_law.specs.Below.mut_borrow.declared.mutable.MutRef.{MutRef}
+use Rattle.type_law.specs.Below.thread_state.declared.value.Value.{Value}
+use Rattle.type_law.specs.Below.thread_state.declared.value.Value.TheVariants as value
 use Rattle.type_law.specs.Below.server_model.Servers.{Cluster}
 use Rattle.type_law.specs.Below.heap_law.Names.{other, if_so}
 use Rattle.type_law.specs.Below.heap_law.Things.{Location, at_slot, at_temp, in_cell}

@@ -4,24 +4,24 @@ use Rattle.std.specs.Prelude.{slice_get}
 use Rattle.std.specs.List.{list_all}
 use Rattle.std.proofs.lemmas.Bool.Decides.{nat_tests}
 use Rattle.std.proofs.lemmas.List.{length-reverse}
-use Rattle.fr_base.specs.declared.name.MutexNo.{MutexNo}
-use Rattle.fr_base.specs.declared.place.Lval.{Lval}
-use Rattle.fr_base.specs.declared.instruction.Instr.{Instr}
-use Rattle.fr_base.specs.declared.instruction.Instr.TheVariants as instr
-use Rattle.fr_typing.specs.Kinds.{Kind, own, shared, mutable, view, Piece, whole, gone, boxed}
-use Rattle.fr_typing.specs.Places.{Slot, Env, IsNested, AreBelow, piece_places, starts_at, blocks_write, write_blocked}
-use Rattle.fr_typing.specs.Checks.{names_from}
-use Rattle.fr_store.specs.Keys.{slot_k}
-use Rattle.fr_store.specs.Store.{Place as StorePlace, at_object}
-use Rattle.fr_store.specs.Typed.{refers, KeyTypes, Resolves, through, Unnamed}
-use Rattle.fr_store.proofs.Below.{add_zero}
-use Rattle.fr_store.proofs.Sound.{ref_at}
-use Rattle.fr_store.proofs.ThreadKept.{unnamed_key}
+use Rattle.type_law.specs.Below.fr_base.declared.name.MutexNo.{MutexNo}
+use Rattle.type_law.specs.Below.fr_base.declared.place.Lval.{Lval}
+use Rattle.type_law.specs.Below.fr_base.declared.instruction.Instr.{Instr}
+use Rattle.type_law.specs.Below.fr_base.declared.instruction.Instr.TheVariants as instr
+use Rattle.type_law.specs.Below.fr_typing.Kinds.{Kind, own, shared, mutable, view, Piece, whole, gone, boxed}
+use Rattle.type_law.specs.Below.fr_typing.Places.{Slot, Env, IsNested, AreBelow, piece_places, starts_at, blocks_write, write_blocked}
+use Rattle.type_law.specs.Below.fr_typing.Checks.{names_from}
+use Rattle.type_law.specs.Below.fr_store.Keys.{slot_k}
+use Rattle.type_law.specs.Below.fr_store.Store.{Place as StorePlace, at_object}
+use Rattle.type_law.specs.Below.fr_store.Typed.{refers, KeyTypes, Resolves, through, Unnamed}
+use Rattle.type_law.proofs.Below.fr_store.Below.{add_zero}
+use Rattle.type_law.proofs.Below.fr_store.Sound.{ref_at}
+use Rattle.type_law.proofs.Below.fr_store.ThreadKept.{unnamed_key}
 use Rattle.type_law.specs.Below.fr_sound.States.{hand_key, hand_kind}
 use Rattle.type_law.specs.Below.fr_code.CodeTypes.{Entry, Table, InstrTypes, i_drop, outlive}
 use Rattle.type_law.specs.Below.fr_code.CodeTable.{Leads, to_next, Successors}
-use Rattle.mut_borrow.specs.declared.mutable.MutRef.{MutRef}
-use Rattle.thread_state.specs.declared.value.Value.TheVariants as value
+use Rattle.type_law.specs.Below.mut_borrow.declared.mutable.MutRef.{MutRef}
+use Rattle.type_law.specs.Below.thread_state.declared.value.Value.TheVariants as value
 use Rattle.type_law.specs.Below.server_model.Servers.{Cluster}
 use Rattle.type_law.specs.Below.heap_law.Follow.{Standing}
 use Rattle.type_law.specs.Below.heap_law.Sight.{sight}
@@ -32,7 +32,7 @@ use Rattle.path_law.specs.HeapStore.{heap_store, GoesOn, HasPaths}
 use Rattle.path_law.specs.Pointing.{MayWrite, assigns, EndsSlot, assigned, dropped, EndedMayWrite}
 use Rattle.path_law.proofs.Alike.{ref_type, slot_mut}
 use Rattle.path_law.proofs.Forms.{running_typed, slot_piece, mutable_own}
-use Rattle.fr_store.specs.Below.{ExactOf}
+use Rattle.type_law.specs.Below.fr_store.Below.{ExactOf}
 use Rattle.path_law.proofs.MayWrites.{top_names, top_free, awake_thread, negated, and_first, may_write_there}
 
 map_length : {A B : Type 0} (f : A → B) (xs : List A) → length (map f xs) ≡ length xs

@@ -1,23 +1,23 @@
 -- The value in a slot has the form of its exact type: where that is a mutable reference, so is the value.
 use Rattle.std.proofs.Common.{◌≡◌, inl, inr, ℕ, zero, suc, ◌+◌, not, Bool, true, false, if◌then◌else◌, List, [], ◌∷◌, length, reverse, Some, is_some, refl, sym, ap, subst, ◌∙◌, arith, ◌<◌}
 use Rattle.std.specs.Prelude.{slice_get}
-use Rattle.fr_typing.proofs.PlaceLemmas.{eq_cases}
-use Rattle.fr_typing.specs.Kinds.{Kind, Piece, whole, gone, boxed, own, shared, mutable, view}
-use Rattle.fr_typing.specs.Places.{Slot, Env}
-use Rattle.fr_base.specs.declared.place.Lval.{Lval}
-use Rattle.fr_store.specs.Keys.{Key, slot_k, temp_k}
-use Rattle.fr_store.specs.Store.{Place as StorePlace}
-use Rattle.fr_store.specs.Thread.{TempIs}
-use Rattle.fr_store.specs.Typed.{owns, int_tree, refers, KeyTypes}
-use Rattle.fr_store.specs.Below.{ExactOf, RefOf, SlotsBelow}
+use Rattle.type_law.proofs.Below.fr_typing.PlaceLemmas.{eq_cases}
+use Rattle.type_law.specs.Below.fr_typing.Kinds.{Kind, Piece, whole, gone, boxed, own, shared, mutable, view}
+use Rattle.type_law.specs.Below.fr_typing.Places.{Slot, Env}
+use Rattle.type_law.specs.Below.fr_base.declared.place.Lval.{Lval}
+use Rattle.type_law.specs.Below.fr_store.Keys.{Key, slot_k, temp_k}
+use Rattle.type_law.specs.Below.fr_store.Store.{Place as StorePlace}
+use Rattle.type_law.specs.Below.fr_store.Thread.{TempIs}
+use Rattle.type_law.specs.Below.fr_store.Typed.{owns, int_tree, refers, KeyTypes}
+use Rattle.type_law.specs.Below.fr_store.Below.{ExactOf, RefOf, SlotsBelow}
 use Rattle.type_law.specs.Below.fr_sound.States.{RunningTyped, IsThread, hand_key, hand_kind, operands}
 use Rattle.type_law.specs.Below.fr_code.Steps.{Place}
 use Rattle.type_law.specs.Below.fr_code.CodeTypes.{is_variable}
-use Rattle.mut_borrow.specs.declared.mutable.MutRef.{MutRef}
-use Rattle.mut_borrow.specs.declared.shared.SharedRef.{SharedRef}
-use Rattle.thread_state.specs.View.{is_over}
-use Rattle.thread_state.specs.declared.value.Value.{Value}
-use Rattle.thread_state.specs.declared.value.Value.TheVariants as value
+use Rattle.type_law.specs.Below.mut_borrow.declared.mutable.MutRef.{MutRef}
+use Rattle.type_law.specs.Below.mut_borrow.declared.shared.SharedRef.{SharedRef}
+use Rattle.type_law.specs.Below.thread_state.View.{is_over}
+use Rattle.type_law.specs.Below.thread_state.declared.value.Value.{Value}
+use Rattle.type_law.specs.Below.thread_state.declared.value.Value.TheVariants as value
 use Rattle.type_law.specs.Below.server_model.Servers.{Cluster}
 use Rattle.type_law.specs.Below.heap_law.Names.{tot, if_so, Among}
 use Rattle.type_law.specs.Below.heap_law.Follow.{Standing, Ground}

@@ -2,25 +2,25 @@
 use Rattle.std.proofs.Common.{◌≡◌, inl, inr, ⊎_elim, ℕ, zero, suc, ◌+◌, ◌-◌, ◌<◌, ◌==◌, ◌&&◌, ◌||◌, Bool, true, false, List, [], ◌∷◌, Option, Some, None, refl, sym, ap, subst, ◌∙◌, arith}
 use Rattle.std.specs.Prelude.{slice_get}
 use Rattle.std.proofs.lemmas.Bool.Decides.{nat_tests}
-use Rattle.fr_base.specs.declared.name.ObjNo.{ObjNo}
-use Rattle.fr_base.specs.declared.place.Lval.{Lval}
-use Rattle.fr_base.specs.declared.label.Plain.{Plain}
-use Rattle.fr_base.specs.declared.label.Plain.TheVariants as plain
-use Rattle.fr_base.specs.declared.instruction.Instr.{Instr}
-use Rattle.fr_base.specs.declared.instruction.Instr.TheVariants as instr
-use Rattle.fr_store.specs.Keys.{Key, slot_k, temp_k}
-use Rattle.fr_store.specs.Store.{Location as StoreLocation, at_key, at_object, gone_v, ref_v, Store, Place as StorePlace, star_hop, walk, below_key}
-use Rattle.fr_store.specs.Typed.{Exact, refers, KeyTypes, Resolves, Unnamed}
-use Rattle.fr_store.specs.Below.{ExactOf}
-use Rattle.fr_store.proofs.Chains.{unique}
-use Rattle.fr_store.proofs.Sound.{walk_last, ref_at, sound}
+use Rattle.type_law.specs.Below.fr_base.declared.name.ObjNo.{ObjNo}
+use Rattle.type_law.specs.Below.fr_base.declared.place.Lval.{Lval}
+use Rattle.type_law.specs.Below.fr_base.declared.label.Plain.{Plain}
+use Rattle.type_law.specs.Below.fr_base.declared.label.Plain.TheVariants as plain
+use Rattle.type_law.specs.Below.fr_base.declared.instruction.Instr.{Instr}
+use Rattle.type_law.specs.Below.fr_base.declared.instruction.Instr.TheVariants as instr
+use Rattle.type_law.specs.Below.fr_store.Keys.{Key, slot_k, temp_k}
+use Rattle.type_law.specs.Below.fr_store.Store.{Location as StoreLocation, at_key, at_object, gone_v, ref_v, Store, Place as StorePlace, star_hop, walk, below_key}
+use Rattle.type_law.specs.Below.fr_store.Typed.{Exact, refers, KeyTypes, Resolves, Unnamed}
+use Rattle.type_law.specs.Below.fr_store.Below.{ExactOf}
+use Rattle.type_law.proofs.Below.fr_store.Chains.{unique}
+use Rattle.type_law.proofs.Below.fr_store.Sound.{walk_last, ref_at, sound}
 use Rattle.type_law.specs.Below.fr_sound.Seen.{seen_cell}
-use Rattle.mut_borrow.specs.declared.mutable.MutRef.{MutRef}
-use Rattle.thread_state.specs.View.{is_over}
-use Rattle.thread_state.specs.declared.phase.Phase.{Phase}
-use Rattle.thread_state.specs.declared.phase.Phase.TheVariants as phase
-use Rattle.thread_state.specs.declared.value.Value.{Value}
-use Rattle.thread_state.specs.declared.value.Value.TheVariants as value
+use Rattle.type_law.specs.Below.mut_borrow.declared.mutable.MutRef.{MutRef}
+use Rattle.type_law.specs.Below.thread_state.View.{is_over}
+use Rattle.type_law.specs.Below.thread_state.declared.phase.Phase.{Phase}
+use Rattle.type_law.specs.Below.thread_state.declared.phase.Phase.TheVariants as phase
+use Rattle.type_law.specs.Below.thread_state.declared.value.Value.{Value}
+use Rattle.type_law.specs.Below.thread_state.declared.value.Value.TheVariants as value
 use Rattle.type_law.specs.Below.server_model.Servers.{Cluster}
 use Rattle.type_law.specs.Below.heap_law.Names.{Among}
 use Rattle.type_law.specs.Below.heap_law.Things.{Location, at_slot, at_temp, in_cell, Thing, borrows, things_of}

@@ -1,11 +1,11 @@
 -- The object whose cell has the box of an object of the one heap is in the one heap, and what it holds is shown there.
 use Rattle.std.proofs.Common.{◌≡◌, ◌⊎◌, inl, inr, ℕ, zero, suc, ◌+◌, ◌≤◌, ◌||◌, Bool, true, false, List, [], ◌∷◌, length, Some, refl, sym, ap, subst, ◌∙◌, arith}
-use Rattle.fr_base.specs.declared.name.ObjNo.{ObjNo}
-use Rattle.fr_base.specs.declared.label.Plain.{Plain}
-use Rattle.heap_partition.specs.Plain.{plain_of}
-use Rattle.heap_partition.specs.declared.value.Cell.{Cell}
-use Rattle.heap_partition.specs.declared.value.Owned.{Owned}
-use Rattle.heap_partition.specs.declared.value.Owned.TheVariants as owned
+use Rattle.type_law.specs.Below.fr_base.declared.name.ObjNo.{ObjNo}
+use Rattle.type_law.specs.Below.fr_base.declared.label.Plain.{Plain}
+use Rattle.type_law.specs.Below.heap_partition.Plain.{plain_of}
+use Rattle.type_law.specs.Below.heap_partition.declared.value.Cell.{Cell}
+use Rattle.type_law.specs.Below.heap_partition.declared.value.Owned.{Owned}
+use Rattle.type_law.specs.Below.heap_partition.declared.value.Owned.TheVariants as owned
 use Rattle.type_law.specs.Below.server_model.Servers.{Cluster}
 use Rattle.type_law.specs.Below.heap_law.Names.{tot, one, Among, boxes, same_object}
 use Rattle.type_law.specs.Below.heap_law.Things.{Thing, holds, lies, flies, things_of}

@@ -2,26 +2,26 @@
 use Rattle.std.proofs.Common.{◌≡◌, ◌≢◌, ◌⊎◌, inl, inr, ℕ, zero, suc, ◌<◌, ◌&&◌, ◌||◌, not, nat_le, Bool, true, false, if◌then◌else◌, List, [], ◌∷◌, length, Some, refl, sym, ap, subst, ◌∙◌, arith}
 use Rattle.std.specs.List.{list_all, list_any}
 use Rattle.std.proofs.lemmas.Bool.Decides.{nat_tests}
-use Rattle.fr_base.specs.declared.name.MutexNo.{MutexNo}
-use Rattle.fr_base.specs.declared.place.Lval.{Lval}
-use Rattle.fr_base.specs.declared.instruction.Operand.{Operand}
-use Rattle.fr_base.specs.declared.instruction.Instr.{Instr}
-use Rattle.fr_base.specs.declared.instruction.Instr.TheVariants as instr
-use Rattle.fr_typing.proofs.PlaceLemmas.{eq_cases}
-use Rattle.fr_typing.specs.Kinds.{Kind, own, shared, mutable, view, Piece, whole, gone, boxed}
-use Rattle.fr_typing.specs.Places.{Env, found, type_at, alike, stars, write_blocked, on_path, is_lent, is_mutable, is_writable, is_own_path}
-use Rattle.fr_typing.specs.Checks.{is_int, names_from}
-use Rattle.fr_store.specs.Keys.{slot_k}
-use Rattle.fr_store.specs.Store.{Place as StorePlace}
-use Rattle.fr_store.specs.Typed.{hole, owns, refers, KeyTypes}
-use Rattle.fr_store.specs.Below.{In, OneOf, Seen, ExactOf, RefOf}
-use Rattle.fr_store.specs.Thread.{TempIs, ThreadTyped}
-use Rattle.fr_store.proofs.Below.{mut_place, resolved_writable}
-use Rattle.fr_store.proofs.ThreadKept.{unnamed_key}
+use Rattle.type_law.specs.Below.fr_base.declared.name.MutexNo.{MutexNo}
+use Rattle.type_law.specs.Below.fr_base.declared.place.Lval.{Lval}
+use Rattle.type_law.specs.Below.fr_base.declared.instruction.Operand.{Operand}
+use Rattle.type_law.specs.Below.fr_base.declared.instruction.Instr.{Instr}
+use Rattle.type_law.specs.Below.fr_base.declared.instruction.Instr.TheVariants as instr
+use Rattle.type_law.proofs.Below.fr_typing.PlaceLemmas.{eq_cases}
+use Rattle.type_law.specs.Below.fr_typing.Kinds.{Kind, own, shared, mutable, view, Piece, whole, gone, boxed}
+use Rattle.type_law.specs.Below.fr_typing.Places.{Env, found, type_at, alike, stars, write_blocked, on_path, is_lent, is_mutable, is_writable, is_own_path}
+use Rattle.type_law.specs.Below.fr_typing.Checks.{is_int, names_from}
+use Rattle.type_law.specs.Below.fr_store.Keys.{slot_k}
+use Rattle.type_law.specs.Below.fr_store.Store.{Place as StorePlace}
+use Rattle.type_law.specs.Below.fr_store.Typed.{hole, owns, refers, KeyTypes}
+use Rattle.type_law.specs.Below.fr_store.Below.{In, OneOf, Seen, ExactOf, RefOf}
+use Rattle.type_law.specs.Below.fr_store.Thread.{TempIs, ThreadTyped}
+use Rattle.type_law.proofs.Below.fr_store.Below.{mut_place, resolved_writable}
+use Rattle.type_law.proofs.Below.fr_store.ThreadKept.{unnamed_key}
 use Rattle.type_law.specs.Below.fr_sound.States.{IsThread, hand_key, hand_kind}
 use Rattle.type_law.specs.Below.fr_code.CodeTypes.{Entry, Table, Takes, takes_const, takes_unit, takes_pop, wait, HasType, is_variable, InstrTypes, i_assign, i_move, i_borrow_mut}
 use Rattle.type_law.specs.Below.fr_code.CodeTable.{Leads, to_next, ends, Successors}
-use Rattle.thread_state.specs.declared.value.Value.TheVariants as value
+use Rattle.type_law.specs.Below.thread_state.declared.value.Value.TheVariants as value
 use Rattle.type_law.specs.Below.server_model.Servers.{Cluster}
 use Rattle.type_law.specs.Below.heap_law.Follow.{Standing}
 use Rattle.type_law.specs.Below.heap_law.Sight.{sight}

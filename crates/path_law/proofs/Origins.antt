@@ -1,19 +1,19 @@
 -- Where the things of a cluster come from: a reference, a mark and what a thread owns in a slot or a temporary value stand in that thread.
 use Rattle.std.proofs.Common.{◌≡◌, ◌⊎◌, inl, inr, ⊎_elim, ℕ, suc, ◌+◌, Bool, true, false, if◌then◌else◌, List, [], ◌∷◌, ◌++◌, length, Option, Some, None, refl, sym, ap, subst, arith}
 use Rattle.std.specs.Prelude.{slice_get}
-use Rattle.heap_partition.specs.declared.value.Cell.{Cell}
-use Rattle.heap_partition.specs.declared.value.Owned.{Owned}
-use Rattle.fr_base.specs.declared.name.MutexNo.{MutexNo}
-use Rattle.owner_box.specs.View.{PartitionState}
-use Rattle.mut_borrow.specs.declared.mutable.MutRef.{MutRef}
-use Rattle.mut_borrow.specs.declared.shared.SharedRef.{SharedRef}
-use Rattle.thread_state.specs.View.{ThreadState}
-use Rattle.thread_state.specs.declared.value.Value.{Value}
-use Rattle.thread_state.specs.declared.value.Value.TheVariants as value
-use Rattle.mutex_home.specs.Mutexes.{Mutex}
-use Rattle.join_home.specs.Tasks.{Task, TaskState, kept}
-use Rattle.server_msgs.specs.declared.message.Message.{Message}
-use Rattle.server_msgs.specs.declared.message.Message.TheVariants.{Moved, Granted, Unlock, Start, Joined, Finished, Migrate}
+use Rattle.type_law.specs.Below.heap_partition.declared.value.Cell.{Cell}
+use Rattle.type_law.specs.Below.heap_partition.declared.value.Owned.{Owned}
+use Rattle.type_law.specs.Below.fr_base.declared.name.MutexNo.{MutexNo}
+use Rattle.type_law.specs.Below.owner_box.View.{PartitionState}
+use Rattle.type_law.specs.Below.mut_borrow.declared.mutable.MutRef.{MutRef}
+use Rattle.type_law.specs.Below.mut_borrow.declared.shared.SharedRef.{SharedRef}
+use Rattle.type_law.specs.Below.thread_state.View.{ThreadState}
+use Rattle.type_law.specs.Below.thread_state.declared.value.Value.{Value}
+use Rattle.type_law.specs.Below.thread_state.declared.value.Value.TheVariants as value
+use Rattle.type_law.specs.Below.mutex_home.Mutexes.{Mutex}
+use Rattle.type_law.specs.Below.join_home.Tasks.{Task, TaskState, kept}
+use Rattle.type_law.specs.Below.server_msgs.declared.message.Message.{Message}
+use Rattle.type_law.specs.Below.server_msgs.declared.message.Message.TheVariants.{Moved, Granted, Unlock, Start, Joined, Finished, Migrate}
 use Rattle.type_law.specs.Below.server_model.Servers.{Server, Cluster}
 use Rattle.type_law.specs.Below.heap_law.Names.{Among}
 use Rattle.type_law.specs.Below.heap_law.Things.{Location, Spot, in_slot, in_temp, as_content, as_result, Thing, holds, shares, borrows, locks, retired, flies, sent, uses, stands, at_home, noted, counts, things_at, pin_things, value_things, slot_things, temp_things, gift_things, walk_things, thread_things, standing_things, message_things, waiting_things, leaving_things, is_free, cell_things, free_things, partition_things, copy_things, content_things, queue_things, mutex_things, result_things, task_things, server_things, servers_things, things_of}

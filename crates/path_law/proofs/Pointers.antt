@@ -1,26 +1,26 @@
 -- Each pointer of a coherent cluster that stands somewhere stands there in its one heap, and so what a thread writes has no pointer but those above.
 use Rattle.std.proofs.Common.{◌≡◌, ◌⊎◌, inl, inr, ⊎_elim, ℕ, suc, ◌+◌, Bool, true, false, List, [], ◌∷◌, length, Option, Some, None, is_some, refl, sym, ap, subst, ◌∙◌, arith}
 use Rattle.std.specs.Prelude.{slice_get}
-use Rattle.fr_base.specs.declared.name.ObjNo.{ObjNo}
-use Rattle.fr_base.specs.declared.place.Lval.{Lval}
-use Rattle.fr_store.specs.Keys.{Key, slot_k, temp_k}
-use Rattle.fr_store.specs.Store.{at_key, at_object, Val, ref_v, Store, value_at, star_hop, walk}
-use Rattle.fr_store.specs.Typed.{Resolves, Unnamed}
-use Rattle.fr_store.proofs.Sound.{walk_last}
+use Rattle.type_law.specs.Below.fr_base.declared.name.ObjNo.{ObjNo}
+use Rattle.type_law.specs.Below.fr_base.declared.place.Lval.{Lval}
+use Rattle.type_law.specs.Below.fr_store.Keys.{Key, slot_k, temp_k}
+use Rattle.type_law.specs.Below.fr_store.Store.{at_key, at_object, Val, ref_v, Store, value_at, star_hop, walk}
+use Rattle.type_law.specs.Below.fr_store.Typed.{Resolves, Unnamed}
+use Rattle.type_law.proofs.Below.fr_store.Sound.{walk_last}
 use Rattle.type_law.specs.Below.fr_sound.Seen.{seen_cell}
-use Rattle.heap_partition.specs.declared.value.Cell.{Cell}
-use Rattle.heap_partition.specs.declared.value.BoxPtr.{BoxPtr}
-use Rattle.heap_partition.specs.declared.value.Owned.{Owned}
-use Rattle.heap_partition.specs.declared.value.Owned.TheVariants as owned
-use Rattle.heap_partition.specs.Plain.{plain_of}
-use Rattle.mut_borrow.specs.declared.mutable.MutRef.{MutRef}
-use Rattle.mut_borrow.specs.declared.shared.SharedRef.{SharedRef}
-use Rattle.thread_state.specs.View.{is_over}
-use Rattle.thread_state.specs.declared.value.Value.{Value}
-use Rattle.thread_state.specs.declared.value.Value.TheVariants as value
+use Rattle.type_law.specs.Below.heap_partition.declared.value.Cell.{Cell}
+use Rattle.type_law.specs.Below.heap_partition.declared.value.BoxPtr.{BoxPtr}
+use Rattle.type_law.specs.Below.heap_partition.declared.value.Owned.{Owned}
+use Rattle.type_law.specs.Below.heap_partition.declared.value.Owned.TheVariants as owned
+use Rattle.type_law.specs.Below.heap_partition.Plain.{plain_of}
+use Rattle.type_law.specs.Below.mut_borrow.declared.mutable.MutRef.{MutRef}
+use Rattle.type_law.specs.Below.mut_borrow.declared.shared.SharedRef.{SharedRef}
+use Rattle.type_law.specs.Below.thread_state.View.{is_over}
+use Rattle.type_law.specs.Below.thread_state.declared.value.Value.{Value}
+use Rattle.type_law.specs.Below.thread_state.declared.value.Value.TheVariants as value
 use Rattle.type_law.specs.Below.server_model.Servers.{Cluster}
-use Rattle.server_msgs.specs.declared.message.Message.{Message}
-use Rattle.server_msgs.specs.declared.message.Message.TheVariants.{Drop}
+use Rattle.type_law.specs.Below.server_msgs.declared.message.Message.{Message}
+use Rattle.type_law.specs.Below.server_msgs.declared.message.Message.TheVariants.{Drop}
 use Rattle.type_law.specs.Below.heap_law.Names.{one, other, if_so, Among, boxes}
 use Rattle.type_law.specs.Below.heap_law.Things.{Location, at_slot, at_temp, in_cell, Spot, in_slot, in_temp, Thing, holds, shares, borrows, lies, flies, sent, slot_things, temp_things, things_of}
 use Rattle.type_law.specs.Below.heap_law.Follow.{Standing}

@@ -3,17 +3,17 @@ use Rattle.std.proofs.Common.{◌≡◌, inl, inr, ℕ, zero, suc, ◌%◌, ◌^
 use Rattle.std.specs.Prelude.{slice_get}
 use Rattle.std.proofs.lemmas.Grind.{reverse_onto}
 use Rattle.std.proofs.lemmas.Option.{slice_get-map}
-use Rattle.fr_base.specs.declared.name.ObjNo.{ObjNo}
-use Rattle.fr_base.specs.declared.label.Plain.{Plain}
-use Rattle.fr_plain.specs.declared.value.Value.{Value as PlainValue}
-use Rattle.fr_plain.specs.State.{slot_at}
-use Rattle.fr_plain.specs.MachineThreads.{owing, loose}
-use Rattle.fr_plain.specs.PlainState.{place_in, place_of}
+use Rattle.type_law.specs.Below.fr_base.declared.name.ObjNo.{ObjNo}
+use Rattle.type_law.specs.Below.fr_base.declared.label.Plain.{Plain}
+use Rattle.type_law.specs.Below.fr_plain.declared.value.Value.{Value as PlainValue}
+use Rattle.type_law.specs.Below.fr_plain.State.{slot_at}
+use Rattle.type_law.specs.Below.fr_plain.MachineThreads.{owing, loose}
+use Rattle.type_law.specs.Below.fr_plain.PlainState.{place_in, place_of}
 use Rattle.type_law.specs.Below.fr_code.Machine.{CodeRunning}
-use Rattle.fr_typing.proofs.PlaceLemmas.{eq_cases}
-use Rattle.heap_partition.specs.Plain.{plain_of}
-use Rattle.heap_partition.specs.declared.value.Cell.{Cell}
-use Rattle.thread_state.specs.declared.value.Value.{Value}
+use Rattle.type_law.proofs.Below.fr_typing.PlaceLemmas.{eq_cases}
+use Rattle.type_law.specs.Below.heap_partition.Plain.{plain_of}
+use Rattle.type_law.specs.Below.heap_partition.declared.value.Cell.{Cell}
+use Rattle.type_law.specs.Below.thread_state.declared.value.Value.{Value}
 use Rattle.type_law.specs.Below.server_model.Servers.{Cluster}
 use Rattle.type_law.specs.Below.heap_law.Names.{tot, one, other, some, Among, same_object}
 use Rattle.type_law.specs.Below.heap_law.Things.{Thing, lies, flies, stands, things_of}

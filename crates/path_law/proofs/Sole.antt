@@ -1,13 +1,13 @@
 -- Each pointer to what a place writes is the one that its last star follows, or stands above it.
 use Rattle.std.proofs.Common.{◌≡◌, ◌⊎◌, inl, inr, ℕ, zero, suc, Bool, true, Some, None, refl, sym, ap, subst, ◌∙◌, arith}
-use Rattle.fr_base.specs.declared.name.ObjNo.{ObjNo}
-use Rattle.fr_store.specs.Keys.{Key}
-use Rattle.fr_store.specs.Store.{Location, at_key, at_object, Val, box_v, ref_v, Store, value_at, then_location, star_target, star_hop, walk, Place, locate, below_key, add}
-use Rattle.fr_store.specs.Typed.{Tree, hole, unit_tree, int_tree, mutex_tree, task_tree, box_tree, Exact, owns, refers, KeyTypes, exact_under, Resolves, here, through, Loaned, self, loan, RefFits, Typed, Unnamed, TopFits}
-use Rattle.fr_store.proofs.Chains.{then_some, from_suc, part_suc, add_plus, unique}
-use Rattle.fr_store.proofs.Sound.{walk_add, walk_last, walk_boxes, ref_at, sound}
-use Rattle.fr_store.proofs.Rows.{sole, top_fits}
-use Rattle.fr_store.proofs.ThreadKept.{res_low}
+use Rattle.type_law.specs.Below.fr_base.declared.name.ObjNo.{ObjNo}
+use Rattle.type_law.specs.Below.fr_store.Keys.{Key}
+use Rattle.type_law.specs.Below.fr_store.Store.{Location, at_key, at_object, Val, box_v, ref_v, Store, value_at, then_location, star_target, star_hop, walk, Place, locate, below_key, add}
+use Rattle.type_law.specs.Below.fr_store.Typed.{Tree, hole, unit_tree, int_tree, mutex_tree, task_tree, box_tree, Exact, owns, refers, KeyTypes, exact_under, Resolves, here, through, Loaned, self, loan, RefFits, Typed, Unnamed, TopFits}
+use Rattle.type_law.proofs.Below.fr_store.Chains.{then_some, from_suc, part_suc, add_plus, unique}
+use Rattle.type_law.proofs.Below.fr_store.Sound.{walk_add, walk_last, walk_boxes, ref_at, sound}
+use Rattle.type_law.proofs.Below.fr_store.Rows.{sole, top_fits}
+use Rattle.type_law.proofs.Below.fr_store.ThreadKept.{res_low}
 use Rattle.path_law.specs.Above.{IsMadeFrom, StandsAbove, holder, higher, PointsTo, its_box, a_reference, SolePointer}
 
 -- the first loan of a key, and the rest

@@ -1,9 +1,9 @@
 -- WHO STANDS ABOVE A POINTER: what a mutable reference was made from, and so on (this project's rule), in a typed store.
 use Rattle.std.specs.Prelude.{◌≡◌, ◌⊎◌, ℕ, suc, true, Some}
-use Rattle.fr_base.specs.declared.name.ObjNo.{ObjNo}
-use Rattle.fr_store.specs.Keys.{Key}
-use Rattle.fr_store.specs.Store.{Location, at_key, at_object, box_v, ref_v, Store, value_at, walk, Place, locate}
-use Rattle.fr_store.specs.Typed.{Exact, refers, KeyTypes, Resolves, Typed, Unnamed}
+use Rattle.type_law.specs.Below.fr_base.declared.name.ObjNo.{ObjNo}
+use Rattle.type_law.specs.Below.fr_store.Keys.{Key}
+use Rattle.type_law.specs.Below.fr_store.Store.{Location, at_key, at_object, box_v, ref_v, Store, value_at, walk, Place, locate}
+use Rattle.type_law.specs.Below.fr_store.Typed.{Exact, refers, KeyTypes, Resolves, Typed, Unnamed}
 
 -- the mutable reference at a key was made from the pointer there: the one that the place of its exact type follows last
 pub record IsMadeFrom (E : KeyTypes) (s : Store) (k : Key) (h : Location) : Type 0 where

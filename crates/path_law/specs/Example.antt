@@ -1,7 +1,7 @@
 -- A cluster to which the laws of places apply: main stands at an assignment through its box.
 use Rattle.std.specs.Prelude.{◌≡◌, pos, false, Some}
-use Rattle.fr_base.specs.declared.instruction.Operand.TheVariants as operand
-use Rattle.fr_base.specs.declared.instruction.Instr.TheVariants as instr
+use Rattle.type_law.specs.Below.fr_base.declared.instruction.Operand.TheVariants as operand
+use Rattle.type_law.specs.Below.fr_base.declared.instruction.Instr.TheVariants as instr
 use Rattle.type_law.specs.Below.heap_law.Clusters.{place, object}
 use Rattle.type_law.specs.Below.heap_law.Things.{at_slot}
 use Rattle.type_law.specs.Below.heap_law.Follow.{Standing}

@@ -1,14 +1,14 @@
 -- PLACES IN THE ONE HEAP: a thread's place leads in a coherent cluster, star by star, to where it leads in the plain state that the cluster stands
 -- for (this project's rule).
 use Rattle.std.specs.Prelude.{◌≡◌, ℕ, Bool, false, Some, slice_get}
-use Rattle.fr_base.specs.declared.name.MutexNo.{MutexNo}
-use Rattle.fr_base.specs.declared.place.Lval.{Lval}
-use Rattle.thread_state.specs.View.{is_over}
-use Rattle.thread_state.specs.declared.value.Value.TheVariants as value
+use Rattle.type_law.specs.Below.fr_base.declared.name.MutexNo.{MutexNo}
+use Rattle.type_law.specs.Below.fr_base.declared.place.Lval.{Lval}
+use Rattle.type_law.specs.Below.thread_state.View.{is_over}
+use Rattle.type_law.specs.Below.thread_state.declared.value.Value.TheVariants as value
 use Rattle.type_law.specs.Below.server_model.Servers.{Cluster}
-use Rattle.fr_store.specs.Keys.{Key, slot_k, temp_k}
-use Rattle.fr_store.specs.Store.{Location as StoreLocation, at_key, at_object, Store, Place as StorePlace, locate}
-use Rattle.fr_store.specs.Typed.{Exact, Resolves}
+use Rattle.type_law.specs.Below.fr_store.Keys.{Key, slot_k, temp_k}
+use Rattle.type_law.specs.Below.fr_store.Store.{Location as StoreLocation, at_key, at_object, Store, Place as StorePlace, locate}
+use Rattle.type_law.specs.Below.fr_store.Typed.{Exact, Resolves}
 use Rattle.type_law.specs.Below.fr_sound.States.{store_of}
 use Rattle.type_law.specs.Below.fr_code.Steps.{Place}
 use Rattle.type_law.specs.Below.heap_law.Names.{Among}

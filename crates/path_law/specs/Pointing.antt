@@ -1,19 +1,19 @@
 -- WHO POINTS TO WHAT A THREAD WRITES, over the locations of a coherent cluster (Featherweight Rust's borrow invariance, made exact; this project's rule).
 use Rattle.std.specs.Prelude.{◌≡◌, ◌⊎◌, ℕ, suc, ◌<◌, true, length, Some, slice_get}
-use Rattle.fr_base.specs.declared.name.ObjNo.{ObjNo}
-use Rattle.fr_base.specs.declared.place.Lval.{Lval}
-use Rattle.fr_base.specs.declared.instruction.Operand.{Operand}
-use Rattle.fr_base.specs.declared.instruction.Instr.{Instr}
-use Rattle.fr_base.specs.declared.instruction.Instr.TheVariants as instr
-use Rattle.mut_borrow.specs.declared.mutable.MutRef.{MutRef}
-use Rattle.mut_borrow.specs.declared.shared.SharedRef.{SharedRef}
-use Rattle.mut_borrow.specs.Refs.{changed}
-use Rattle.thread_state.specs.declared.value.Value.TheVariants as value
-use Rattle.thread_state.specs.View.{ThreadState}
-use Rattle.thread_state.specs.declared.phase.Phase.TheVariants as phase
+use Rattle.type_law.specs.Below.fr_base.declared.name.ObjNo.{ObjNo}
+use Rattle.type_law.specs.Below.fr_base.declared.place.Lval.{Lval}
+use Rattle.type_law.specs.Below.fr_base.declared.instruction.Operand.{Operand}
+use Rattle.type_law.specs.Below.fr_base.declared.instruction.Instr.{Instr}
+use Rattle.type_law.specs.Below.fr_base.declared.instruction.Instr.TheVariants as instr
+use Rattle.type_law.specs.Below.mut_borrow.declared.mutable.MutRef.{MutRef}
+use Rattle.type_law.specs.Below.mut_borrow.declared.shared.SharedRef.{SharedRef}
+use Rattle.type_law.specs.Below.mut_borrow.Refs.{changed}
+use Rattle.type_law.specs.Below.thread_state.declared.value.Value.TheVariants as value
+use Rattle.type_law.specs.Below.thread_state.View.{ThreadState}
+use Rattle.type_law.specs.Below.thread_state.declared.phase.Phase.TheVariants as phase
 use Rattle.type_law.specs.Below.server_model.Servers.{Cluster}
-use Rattle.fr_store.specs.Keys.{Key, slot_k}
-use Rattle.fr_store.specs.Typed.{Exact, Resolves, Unnamed}
+use Rattle.type_law.specs.Below.fr_store.Keys.{Key, slot_k}
+use Rattle.type_law.specs.Below.fr_store.Typed.{Exact, Resolves, Unnamed}
 use Rattle.type_law.specs.Below.heap_law.Names.{Among}
 use Rattle.type_law.specs.Below.heap_law.Things.{Location, in_cell, shares, things_of}
 use Rattle.type_law.specs.Below.heap_law.Follow.{Standing, Ground, value_in, locate, place_at}

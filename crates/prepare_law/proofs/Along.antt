@@ -1,20 +1,20 @@
 -- What holds of words in the middle of an event, beside the cluster from which it began.
 use Rattle.std.proofs.Common.{◌≡◌, ◌⊎◌, inl, inr, ⊎_elim, ℕ, not, ◌||◌, ◌==◌, true, false, Some, refl, sym, ap, ◌∙◌}
-use Rattle.fr_base.specs.declared.name.ObjNo.{ObjNo}
-use Rattle.heap_partition.specs.declared.value.BoxPtr.{BoxPtr}
-use Rattle.heap_partition.specs.declared.value.Owned.TheVariants as owned
-use Rattle.mut_borrow.specs.declared.mutable.MutRef.{MutRef}
-use Rattle.mut_borrow.specs.Refs.{changed}
-use Rattle.thread_state.specs.declared.value.Value.TheVariants as value
-use Rattle.server_model.specs.Servers.{Cluster}
-use Rattle.server_model.specs.Places.{took}
-use Rattle.heap_law.specs.Names.{Among}
-use Rattle.heap_law.specs.Things.{Location, at_slot, in_cell, lies, things_of}
-use Rattle.heap_law.specs.Follow.{value_in, leads}
-use Rattle.heap_law.specs.Stale.{Reference, references}
-use Rattle.heap_law.specs.Sight.{sight, issued}
-use Rattle.heap_law.specs.Coherent.{Holds, are_issued, IsSound}
-use Rattle.heap_law.specs.Words.{IsStale}
+use Rattle.read_law.specs.Below.fr_base.declared.name.ObjNo.{ObjNo}
+use Rattle.read_law.specs.Below.heap_partition.declared.value.BoxPtr.{BoxPtr}
+use Rattle.read_law.specs.Below.heap_partition.declared.value.Owned.TheVariants as owned
+use Rattle.read_law.specs.Below.mut_borrow.declared.mutable.MutRef.{MutRef}
+use Rattle.read_law.specs.Below.mut_borrow.Refs.{changed}
+use Rattle.read_law.specs.Below.thread_state.declared.value.Value.TheVariants as value
+use Rattle.read_law.specs.Below.server_model.Servers.{Cluster}
+use Rattle.read_law.specs.Below.server_model.Places.{took}
+use Rattle.read_law.specs.Below.heap_law.Names.{Among}
+use Rattle.read_law.specs.Below.heap_law.Things.{Location, at_slot, in_cell, lies, things_of}
+use Rattle.read_law.specs.Below.heap_law.Follow.{value_in, leads}
+use Rattle.read_law.specs.Below.heap_law.Stale.{Reference, references}
+use Rattle.read_law.specs.Below.heap_law.Sight.{sight, issued}
+use Rattle.read_law.specs.Below.heap_law.Coherent.{Holds, are_issued, IsSound}
+use Rattle.read_law.specs.Below.heap_law.Words.{IsStale}
 use Rattle.read_law.proofs.Below.path_law.Sole.{some_is}
 use Rattle.read_law.proofs.Below.path_law.Contained.{reference_there}
 use Rattle.read_law.specs.Below.word_law.Reworded.{HasPlaces, LiesThere, Reworded}
@@ -93,7 +93,7 @@ no_first k x w o all new d s q m e n f =
     let b = of_borrows (sight x).ground q (things_of x) m in
     let y = s.made q.at q.reference (borrow_stands x d q.at q.reference b.among) in
     let there = reference_there k q.at y.0 y.1 in
-    let was : issued (sight k) y.0.first ≡ true = first_issued k all q.at y.0 (of_borrows (sight k).ground (record { at = q.at; holder = Rattle.heap_law.specs.Stale.holder_of (sight k).ground q.at y.0.holder; reference = y.0 }) (things_of k) there).among in
+    let was : issued (sight k) y.0.first ≡ true = first_issued k all q.at y.0 (of_borrows (sight k).ground (record { at = q.at; holder = Rattle.read_law.specs.Below.heap_law.Stale.holder_of (sight k).ground q.at y.0.holder; reference = y.0 }) (things_of k) there).among in
     let t : true ≡ false = sym was ∙ ap (issued (sight k)) (y.2 ∙ sym f) ∙ new in
     absurd cc
 

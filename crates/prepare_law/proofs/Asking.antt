@@ -1,48 +1,48 @@
 -- A step that reads its place, or borrows from it, and ends in a request.
 use Rattle.std.proofs.Common.{◌≡◌, ℕ, zero, suc, ◌==◌, Bool, true, false, if◌then◌else◌, List, [], ◌∷◌, Option, Some, None, option_map, refl, sym, ap, subst, ◌∙◌, arith}
 use Rattle.std.specs.Prelude.{⊤, slice_get, take, drop as drop_first, length}
-use Rattle.fr_base.specs.declared.name.MutexNo.{MutexNo}
-use Rattle.fr_base.specs.declared.place.Lval.{Lval}
-use Rattle.fr_base.specs.declared.step.Fresh.TheVariants as fresh
-use Rattle.fr_base.specs.declared.instruction.Instr.{Instr}
-use Rattle.fr_base.specs.declared.instruction.Instr.TheVariants as instr
-use Rattle.global_addr.specs.Words.{colour_of, server_of}
-use Rattle.heap_partition.specs.declared.value.BoxPtr.{BoxPtr}
-use Rattle.heap_partition.specs.declared.value.Owned.{Owned}
-use Rattle.mut_borrow.specs.Refs.{cleaned_answer}
-use Rattle.mut_borrow.specs.declared.mutable.MutRef.{MutRef}
-use Rattle.mut_borrow.specs.declared.mutable.Cleaned.{Cleaned}
-use Rattle.mut_borrow.specs.declared.mutable.Cleaned.TheVariants as cleaned
-use Rattle.journal.specs.View.{EntryView}
-use Rattle.journal.specs.declared.act.Act.TheVariants as act
-use Rattle.thread_state.specs.View.{ThreadState}
-use Rattle.thread_state.specs.declared.phase.Phase.{Phase}
-use Rattle.thread_state.specs.declared.phase.Phase.TheVariants as phase
-use Rattle.thread_state.specs.declared.value.Value.{Value}
-use Rattle.thread_state.specs.declared.value.Value.TheVariants as value
-use Rattle.place_walk.specs.declared.hop.Hop.{Hop}
-use Rattle.place_walk.specs.declared.hop.Hop.TheVariants as hop
-use Rattle.place_walk.specs.Hops.{write_hop}
-use Rattle.server_msgs.specs.declared.message.Message.TheVariants as message
-use Rattle.server_model.specs.declared.event.What.TheVariants.{Step}
-use Rattle.server_model.specs.Servers.{Server, Cluster, server_at}
-use Rattle.server_model.specs.Work.{Hand, thread_in, then_some, push_temp}
-use Rattle.server_model.specs.Clusters.{with_server, hand_over_newer, done_at, apply}
-use Rattle.server_model.specs.NewWords.{issue_tint, issue_renewal}
-use Rattle.server_model.specs.Places.{Spot, in_slot, value_at, load_at, pointer_of, put_word}
-use Rattle.server_model.specs.Prepare.{Prepared, ready, requested, nothing, and_then, ready_at, read_or_taken, ask_object, request_by, box_of, cleaned_by, clean_value, read_stars, read_pointer, is_taken, lend_by, lend_value, lend_pointer, prepare}
-use Rattle.server_model.specs.Commit.{goes_on, go_on, waiting, read, borrow, borrow_mut, take_gift, mutex_at, ask_dup, dup, ask_lock, push_content, lock, commit, settle}
-use Rattle.server_model.specs.Events.{enabled, begin_work, Stepped, done_step, wait_step, committed, prepared, step, step_in, stepped, does}
-use Rattle.heap_law.specs.Things.{things_of}
-use Rattle.heap_law.proofs.Names.{same_number}
+use Rattle.read_law.specs.Below.fr_base.declared.name.MutexNo.{MutexNo}
+use Rattle.read_law.specs.Below.fr_base.declared.place.Lval.{Lval}
+use Rattle.read_law.specs.Below.fr_base.declared.step.Fresh.TheVariants as fresh
+use Rattle.read_law.specs.Below.fr_base.declared.instruction.Instr.{Instr}
+use Rattle.read_law.specs.Below.fr_base.declared.instruction.Instr.TheVariants as instr
+use Rattle.read_law.specs.Below.global_addr.Words.{colour_of, server_of}
+use Rattle.read_law.specs.Below.heap_partition.declared.value.BoxPtr.{BoxPtr}
+use Rattle.read_law.specs.Below.heap_partition.declared.value.Owned.{Owned}
+use Rattle.read_law.specs.Below.mut_borrow.Refs.{cleaned_answer}
+use Rattle.read_law.specs.Below.mut_borrow.declared.mutable.MutRef.{MutRef}
+use Rattle.read_law.specs.Below.mut_borrow.declared.mutable.Cleaned.{Cleaned}
+use Rattle.read_law.specs.Below.mut_borrow.declared.mutable.Cleaned.TheVariants as cleaned
+use Rattle.read_law.specs.Below.journal.View.{EntryView}
+use Rattle.read_law.specs.Below.journal.declared.act.Act.TheVariants as act
+use Rattle.read_law.specs.Below.thread_state.View.{ThreadState}
+use Rattle.read_law.specs.Below.thread_state.declared.phase.Phase.{Phase}
+use Rattle.read_law.specs.Below.thread_state.declared.phase.Phase.TheVariants as phase
+use Rattle.read_law.specs.Below.thread_state.declared.value.Value.{Value}
+use Rattle.read_law.specs.Below.thread_state.declared.value.Value.TheVariants as value
+use Rattle.read_law.specs.Below.place_walk.declared.hop.Hop.{Hop}
+use Rattle.read_law.specs.Below.place_walk.declared.hop.Hop.TheVariants as hop
+use Rattle.read_law.specs.Below.place_walk.Hops.{write_hop}
+use Rattle.read_law.specs.Below.server_msgs.declared.message.Message.TheVariants as message
+use Rattle.read_law.specs.Below.server_model.declared.event.What.TheVariants.{Step}
+use Rattle.read_law.specs.Below.server_model.Servers.{Server, Cluster, server_at}
+use Rattle.read_law.specs.Below.server_model.Work.{Hand, thread_in, then_some, push_temp}
+use Rattle.read_law.specs.Below.server_model.Clusters.{with_server, hand_over_newer, done_at, apply}
+use Rattle.read_law.specs.Below.server_model.NewWords.{issue_tint, issue_renewal}
+use Rattle.read_law.specs.Below.server_model.Places.{Spot, in_slot, value_at, load_at, pointer_of, put_word}
+use Rattle.read_law.specs.Below.server_model.Prepare.{Prepared, ready, requested, nothing, and_then, ready_at, read_or_taken, ask_object, request_by, box_of, cleaned_by, clean_value, read_stars, read_pointer, is_taken, lend_by, lend_value, lend_pointer, prepare}
+use Rattle.read_law.specs.Below.server_model.Commit.{goes_on, go_on, waiting, read, borrow, borrow_mut, take_gift, mutex_at, ask_dup, dup, ask_lock, push_content, lock, commit, settle}
+use Rattle.read_law.specs.Below.server_model.Events.{enabled, begin_work, Stepped, done_step, wait_step, committed, prepared, step, step_in, stepped, does}
+use Rattle.read_law.specs.Below.heap_law.Things.{things_of}
+use Rattle.read_law.proofs.Below.heap_law.Names.{same_number}
 use Rattle.read_law.specs.Below.type_law.ClusterTypes.{IsCoherent}
 use Rattle.read_law.proofs.Below.path_law.Sole.{some_is}
 use Rattle.read_law.specs.Below.word_law.Reworded.{HasPlaces}
 use Rattle.read_law.specs.Below.word_law.Unmoved.{taking_by}
-use Rattle.event_law.specs.Laws.{Gives, GoTo, FewEvents}
-use Rattle.event_law.proofs.Results.{map_gives, over_gives, test_gives, both_give}
-use Rattle.event_law.proofs.Applied.{go_with}
-use Rattle.event_law.proofs.Sending.{applied_part, each_event_sends}
+use Rattle.read_law.specs.Below.event_law.Laws.{Gives, GoTo, FewEvents}
+use Rattle.read_law.proofs.Below.event_law.Results.{map_gives, over_gives, test_gives, both_give}
+use Rattle.read_law.proofs.Below.event_law.Applied.{go_with}
+use Rattle.read_law.proofs.Below.event_law.Sending.{applied_part, each_event_sends}
 use Rattle.read_law.specs.Reading.{Reads, copies, shares, lends, dups, locks}
 use Rattle.stay_law.proofs.Alike.{Alike}
 use Rattle.stay_law.proofs.Sites.{handed_over}

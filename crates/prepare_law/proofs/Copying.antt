@@ -1,37 +1,37 @@
 -- The copy of a place: done or not, it keeps the words, as no place leads to the copy on top.
 use Rattle.std.proofs.Common.{◌≡◌, inl, inr, ℕ, zero, suc, ◌+◌, Bool, true, false, if◌then◌else◌, List, [], ◌∷◌, ◌++◌, Option, Some, None, option_map, refl, sym, subst, arith}
 use Rattle.std.specs.Prelude.{⊤, slice_get}
-use Rattle.fr_base.specs.declared.place.Lval.{Lval}
-use Rattle.fr_base.specs.declared.instruction.Instr.{Instr}
-use Rattle.fr_base.specs.declared.instruction.Instr.TheVariants as instr
-use Rattle.heap_partition.specs.declared.value.Cell.{Cell}
-use Rattle.mut_borrow.specs.declared.shared.SharedRef.{SharedRef}
-use Rattle.journal.specs.View.{EntryView}
-use Rattle.thread_state.specs.View.{ThreadState}
-use Rattle.thread_state.specs.declared.phase.Phase.TheVariants as phase
-use Rattle.thread_state.specs.declared.value.Value.{Value}
-use Rattle.thread_state.specs.declared.value.Value.TheVariants as value
-use Rattle.server_model.specs.declared.event.What.TheVariants.{Step}
-use Rattle.server_model.specs.Servers.{Server, Cluster, server_at}
-use Rattle.server_model.specs.Work.{Hand, push_temp, thread_in, without_thread, then_some}
-use Rattle.server_model.specs.Clusters.{apply}
-use Rattle.server_model.specs.Places.{Spot, in_slot, in_cell, in_copy, owns_nothing, value_at, value_in as cell_value, cell_at, load_at, second_of}
-use Rattle.server_model.specs.Prepare.{Prepared, ready, requested, nothing, read_stars}
-use Rattle.server_model.specs.Commit.{goes_on, read, read_as, commit}
-use Rattle.server_model.specs.Events.{enabled, begin_work, Stepped, committed, prepared, step, step_in, stepped, does}
-use Rattle.heap_law.specs.Names.{Among}
-use Rattle.heap_law.specs.Things.{Location, at_slot, Thing, shares, things_at, slot_things, temp_things, servers_things}
-use Rattle.heap_law.specs.Sight.{sight}
+use Rattle.read_law.specs.Below.fr_base.declared.place.Lval.{Lval}
+use Rattle.read_law.specs.Below.fr_base.declared.instruction.Instr.{Instr}
+use Rattle.read_law.specs.Below.fr_base.declared.instruction.Instr.TheVariants as instr
+use Rattle.read_law.specs.Below.heap_partition.declared.value.Cell.{Cell}
+use Rattle.read_law.specs.Below.mut_borrow.declared.shared.SharedRef.{SharedRef}
+use Rattle.read_law.specs.Below.journal.View.{EntryView}
+use Rattle.read_law.specs.Below.thread_state.View.{ThreadState}
+use Rattle.read_law.specs.Below.thread_state.declared.phase.Phase.TheVariants as phase
+use Rattle.read_law.specs.Below.thread_state.declared.value.Value.{Value}
+use Rattle.read_law.specs.Below.thread_state.declared.value.Value.TheVariants as value
+use Rattle.read_law.specs.Below.server_model.declared.event.What.TheVariants.{Step}
+use Rattle.read_law.specs.Below.server_model.Servers.{Server, Cluster, server_at}
+use Rattle.read_law.specs.Below.server_model.Work.{Hand, push_temp, thread_in, without_thread, then_some}
+use Rattle.read_law.specs.Below.server_model.Clusters.{apply}
+use Rattle.read_law.specs.Below.server_model.Places.{Spot, in_slot, in_cell, in_copy, owns_nothing, value_at, value_in as cell_value, cell_at, load_at, second_of}
+use Rattle.read_law.specs.Below.server_model.Prepare.{Prepared, ready, requested, nothing, read_stars}
+use Rattle.read_law.specs.Below.server_model.Commit.{goes_on, read, read_as, commit}
+use Rattle.read_law.specs.Below.server_model.Events.{enabled, begin_work, Stepped, committed, prepared, step, step_in, stepped, does}
+use Rattle.read_law.specs.Below.heap_law.Names.{Among}
+use Rattle.read_law.specs.Below.heap_law.Things.{Location, at_slot, Thing, shares, things_at, slot_things, temp_things, servers_things}
+use Rattle.read_law.specs.Below.heap_law.Sight.{sight}
 use Rattle.read_law.specs.Below.type_law.ClusterTypes.{IsCoherent}
 use Rattle.read_law.proofs.Below.path_law.Origins.{among_first, among_second}
 use Rattle.read_law.proofs.Below.word_law.Standing.{standing_among}
-use Rattle.event_law.specs.Laws.{Gives}
-use Rattle.event_law.proofs.Results.{then_gives, map_gives, over_gives, both_give, weaker}
-use Rattle.event_law.proofs.RulesKeep.{sums_kept}
-use Rattle.event_law.proofs.Bags.{all_standing, body_things}
-use Rattle.event_law.proofs.Events.{others_of}
-use Rattle.event_law.proofs.AllSteps.{commits}
-use Rattle.event_law.proofs.Steps.{SteppedOk, committed_keeps}
+use Rattle.read_law.specs.Below.event_law.Laws.{Gives}
+use Rattle.read_law.proofs.Below.event_law.Results.{then_gives, map_gives, over_gives, both_give, weaker}
+use Rattle.read_law.proofs.Below.event_law.RulesKeep.{sums_kept}
+use Rattle.read_law.proofs.Below.event_law.Bags.{all_standing, body_things}
+use Rattle.read_law.proofs.Below.event_law.Events.{others_of}
+use Rattle.read_law.proofs.Below.event_law.AllSteps.{commits}
+use Rattle.read_law.proofs.Below.event_law.Steps.{SteppedOk, committed_keeps}
 use Rattle.read_law.specs.Reading.{copies}
 use Rattle.stay_law.proofs.Alike.{Alike, Within, Seen, itself, turned, chain, beside, joined, alone, seen_itself, within_both, within_first}
 use Rattle.stay_law.proofs.Threads.{slots_of, temps_of, values_alike}
@@ -94,7 +94,7 @@ shared_pushed code n j r h e none = record {
         let q = end_things {code = code} f 0 x.temps v in
         let m = slot_listed n x.number 0 x.slots j r e in
         let there : Among (shares m.0 r) (slots_of n x ++ temps_of n x) = among_first (shares m.0 r) (slots_of n x) (temps_of n x) m.1 in
-        chain (turned (extra_seen (slots_of n x ++ temps_of n x) (f q.0 v) (shared_again code (Rattle.heap_law.specs.Things.at_temp x.number q.0) m.0 r (slots_of n x ++ temps_of n x) there)))
+        chain (turned (extra_seen (slots_of n x ++ temps_of n x) (f q.0 v) (shared_again code (Rattle.read_law.specs.Below.heap_law.Things.at_temp x.number q.0) m.0 r (slots_of n x ++ temps_of n x) there)))
         (chain (turned (joined (slots_of n x) (temps_of n x) (f q.0 v))) (beside (itself (slots_of n x)) (turned q.1)))
 
 no_shared_cell : (o : Option Cell) (r : SharedRef) → cell_value o ≡ Some (value.Shared r) → ⊥

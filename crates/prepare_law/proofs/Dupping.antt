@@ -1,42 +1,42 @@
 -- A dup: it asks for a share of its mutex, or takes the one that came, to which no pointer leads.
 use Rattle.std.proofs.Common.{◌≡◌, ℕ, true, false, List, [], ◌++◌, Option, Some, None, option_map, refl, sym, ap, subst, ◌∙◌, arith}
 use Rattle.std.specs.Prelude.{⊤, slice_get}
-use Rattle.fr_base.specs.declared.name.MutexNo.{MutexNo}
-use Rattle.fr_base.specs.declared.place.Lval.{Lval}
-use Rattle.fr_base.specs.declared.instruction.Instr.{Instr}
-use Rattle.fr_base.specs.declared.instruction.Instr.TheVariants as instr
-use Rattle.heap_partition.specs.declared.value.Owned.{Owned}
-use Rattle.heap_partition.specs.declared.value.Owned.TheVariants as owned
-use Rattle.journal.specs.View.{EntryView}
-use Rattle.journal.specs.declared.act.Act.TheVariants as act
-use Rattle.thread_state.specs.View.{ThreadState}
-use Rattle.thread_state.specs.declared.phase.Phase.TheVariants as phase
-use Rattle.thread_state.specs.declared.value.Value.TheVariants as value
-use Rattle.server_msgs.specs.declared.message.Message.TheVariants as message
-use Rattle.server_model.specs.declared.event.What.TheVariants.{Step}
-use Rattle.server_model.specs.Servers.{Server, Cluster, server_at}
-use Rattle.server_model.specs.Work.{Hand, push_temp, thread_in, without_thread, then_some}
-use Rattle.server_model.specs.Clusters.{apply}
-use Rattle.server_model.specs.Places.{Spot, in_slot, load_at}
-use Rattle.server_model.specs.Prepare.{Prepared, ready, requested, nothing, read_stars}
-use Rattle.server_model.specs.Commit.{waiting, take_gift, mutex_at, ask_dup, dup}
-use Rattle.server_model.specs.Events.{enabled, begin_work, Stepped, committed, prepared, step, step_in, stepped, does}
-use Rattle.heap_law.specs.Names.{other}
-use Rattle.heap_law.specs.Things.{in_hand, holds, servers_things}
-use Rattle.heap_law.specs.Follow.{Standing}
-use Rattle.heap_law.specs.Sight.{sight}
-use Rattle.heap_law.specs.Requests.{is_value_of, dupped_mutex, gift_fits, gift_there}
+use Rattle.read_law.specs.Below.fr_base.declared.name.MutexNo.{MutexNo}
+use Rattle.read_law.specs.Below.fr_base.declared.place.Lval.{Lval}
+use Rattle.read_law.specs.Below.fr_base.declared.instruction.Instr.{Instr}
+use Rattle.read_law.specs.Below.fr_base.declared.instruction.Instr.TheVariants as instr
+use Rattle.read_law.specs.Below.heap_partition.declared.value.Owned.{Owned}
+use Rattle.read_law.specs.Below.heap_partition.declared.value.Owned.TheVariants as owned
+use Rattle.read_law.specs.Below.journal.View.{EntryView}
+use Rattle.read_law.specs.Below.journal.declared.act.Act.TheVariants as act
+use Rattle.read_law.specs.Below.thread_state.View.{ThreadState}
+use Rattle.read_law.specs.Below.thread_state.declared.phase.Phase.TheVariants as phase
+use Rattle.read_law.specs.Below.thread_state.declared.value.Value.TheVariants as value
+use Rattle.read_law.specs.Below.server_msgs.declared.message.Message.TheVariants as message
+use Rattle.read_law.specs.Below.server_model.declared.event.What.TheVariants.{Step}
+use Rattle.read_law.specs.Below.server_model.Servers.{Server, Cluster, server_at}
+use Rattle.read_law.specs.Below.server_model.Work.{Hand, push_temp, thread_in, without_thread, then_some}
+use Rattle.read_law.specs.Below.server_model.Clusters.{apply}
+use Rattle.read_law.specs.Below.server_model.Places.{Spot, in_slot, load_at}
+use Rattle.read_law.specs.Below.server_model.Prepare.{Prepared, ready, requested, nothing, read_stars}
+use Rattle.read_law.specs.Below.server_model.Commit.{waiting, take_gift, mutex_at, ask_dup, dup}
+use Rattle.read_law.specs.Below.server_model.Events.{enabled, begin_work, Stepped, committed, prepared, step, step_in, stepped, does}
+use Rattle.read_law.specs.Below.heap_law.Names.{other}
+use Rattle.read_law.specs.Below.heap_law.Things.{in_hand, holds, servers_things}
+use Rattle.read_law.specs.Below.heap_law.Follow.{Standing}
+use Rattle.read_law.specs.Below.heap_law.Sight.{sight}
+use Rattle.read_law.specs.Below.heap_law.Requests.{is_value_of, dupped_mutex, gift_fits, gift_there}
 use Rattle.read_law.specs.Below.type_law.ClusterTypes.{IsCoherent}
 use Rattle.read_law.proofs.Below.path_law.Shown.{none_else}
-use Rattle.event_law.specs.Laws.{Gives}
-use Rattle.event_law.proofs.Results.{map_gives, over_gives, both_give, weaker}
-use Rattle.event_law.proofs.RulesKeep.{sums_kept}
-use Rattle.event_law.proofs.Bags.{all_standing, body_things}
-use Rattle.event_law.proofs.Events.{others_of}
-use Rattle.event_law.proofs.AllSteps.{commits}
-use Rattle.event_law.proofs.Commits.{CommittedOk}
-use Rattle.event_law.proofs.Steps.{SteppedOk, committed_keeps}
-use Rattle.event_law.proofs.GiftsTaken.{none_here}
+use Rattle.read_law.specs.Below.event_law.Laws.{Gives}
+use Rattle.read_law.proofs.Below.event_law.Results.{map_gives, over_gives, both_give, weaker}
+use Rattle.read_law.proofs.Below.event_law.RulesKeep.{sums_kept}
+use Rattle.read_law.proofs.Below.event_law.Bags.{all_standing, body_things}
+use Rattle.read_law.proofs.Below.event_law.Events.{others_of}
+use Rattle.read_law.proofs.Below.event_law.AllSteps.{commits}
+use Rattle.read_law.proofs.Below.event_law.Commits.{CommittedOk}
+use Rattle.read_law.proofs.Below.event_law.Steps.{SteppedOk, committed_keeps}
+use Rattle.read_law.proofs.Below.event_law.GiftsTaken.{none_here}
 use Rattle.read_law.specs.Reading.{dups}
 use Rattle.stay_law.proofs.Alike.{Alike, itself, blank}
 use Rattle.stay_law.proofs.Servers.{held_if}

@@ -1,37 +1,37 @@
 -- A thread in the hand of a step: small steps that words don't see, and the cleaning of a reference.
 use Rattle.std.proofs.Common.{◌≡◌, inl, ⊎_elim, ℕ, zero, suc, ◌+◌, ◌<◌, Bool, true, false, if◌then◌else◌, List, [], ◌∷◌, ◌++◌, Some, None, IsSome, refl, sym, ap, subst, ◌∙◌, arith}
 use Rattle.std.specs.Prelude.{slice_get, slice_set, nat_lt, length}
-use Rattle.fr_base.specs.Lists.{is_in}
-use Rattle.fr_base.specs.declared.name.ObjNo.{ObjNo}
-use Rattle.fr_base.specs.declared.place.Lval.{Lval}
-use Rattle.fr_base.specs.declared.instruction.Instr.{Instr}
-use Rattle.fr_typing.proofs.PlaceLemmas.{eq_cases}
-use Rattle.global_addr.specs.Words.{next_word}
-use Rattle.heap_partition.specs.declared.value.Cell.{Cell}
-use Rattle.read_cache.specs.Cache.{can_pin, pin}
-use Rattle.mut_borrow.specs.declared.shared.SharedRef.{SharedRef}
-use Rattle.mut_borrow.specs.declared.mutable.MutRef.{MutRef}
-use Rattle.journal.specs.declared.act.Act.{Act}
-use Rattle.thread_state.specs.View.{ThreadState, is_over}
-use Rattle.thread_state.specs.declared.phase.Phase.{Phase}
-use Rattle.thread_state.specs.declared.phase.Phase.TheVariants as phase
-use Rattle.thread_state.specs.declared.value.Value.{Value}
-use Rattle.thread_state.specs.declared.value.Value.TheVariants as value
-use Rattle.server_msgs.specs.declared.message.Message.{Message}
-use Rattle.server_model.specs.declared.event.What.TheVariants.{Step}
-use Rattle.server_model.specs.Servers.{Server, Cluster, server_at}
-use Rattle.server_model.specs.Work.{Hand, note, send, working, with_cache, with_phase, used_once, use_word, thread_in, set_thread, without_thread, put_back}
-use Rattle.server_model.specs.NewWords.{issue_tint}
-use Rattle.server_model.specs.Places.{Spot, in_slot, took, put_slot, put_word, load_at}
-use Rattle.server_model.specs.Prepare.{box_of, pinned_once}
-use Rattle.server_model.specs.Events.{can_step, has_phase, enabled, begin_work, begin_at}
-use Rattle.heap_law.specs.Names.{Among}
-use Rattle.heap_law.specs.Things as things
-use Rattle.heap_law.specs.Things.{Location, at_slot, Thing, lies, shares, sent, uses, things_at, pin_things, value_things, slot_things, thread_things, message_things, server_things, servers_things, things_of}
-use Rattle.heap_law.specs.Follow.{Standing, value_in, cells_in, locate}
-use Rattle.heap_law.specs.Sight.{Pointer, pointers_of, pointers_in, taken_pointers, sight, issued}
-use Rattle.heap_law.specs.Words.{IsStale, HasWords, LeadsTo}
-use Rattle.heap_law.proofs.Bags.{among_split}
+use Rattle.read_law.specs.Below.fr_base.Lists.{is_in}
+use Rattle.read_law.specs.Below.fr_base.declared.name.ObjNo.{ObjNo}
+use Rattle.read_law.specs.Below.fr_base.declared.place.Lval.{Lval}
+use Rattle.read_law.specs.Below.fr_base.declared.instruction.Instr.{Instr}
+use Rattle.read_law.proofs.Below.fr_typing.PlaceLemmas.{eq_cases}
+use Rattle.read_law.specs.Below.global_addr.Words.{next_word}
+use Rattle.read_law.specs.Below.heap_partition.declared.value.Cell.{Cell}
+use Rattle.read_law.specs.Below.read_cache.Cache.{can_pin, pin}
+use Rattle.read_law.specs.Below.mut_borrow.declared.shared.SharedRef.{SharedRef}
+use Rattle.read_law.specs.Below.mut_borrow.declared.mutable.MutRef.{MutRef}
+use Rattle.read_law.specs.Below.journal.declared.act.Act.{Act}
+use Rattle.read_law.specs.Below.thread_state.View.{ThreadState, is_over}
+use Rattle.read_law.specs.Below.thread_state.declared.phase.Phase.{Phase}
+use Rattle.read_law.specs.Below.thread_state.declared.phase.Phase.TheVariants as phase
+use Rattle.read_law.specs.Below.thread_state.declared.value.Value.{Value}
+use Rattle.read_law.specs.Below.thread_state.declared.value.Value.TheVariants as value
+use Rattle.read_law.specs.Below.server_msgs.declared.message.Message.{Message}
+use Rattle.read_law.specs.Below.server_model.declared.event.What.TheVariants.{Step}
+use Rattle.read_law.specs.Below.server_model.Servers.{Server, Cluster, server_at}
+use Rattle.read_law.specs.Below.server_model.Work.{Hand, note, send, working, with_cache, with_phase, used_once, use_word, thread_in, set_thread, without_thread, put_back}
+use Rattle.read_law.specs.Below.server_model.NewWords.{issue_tint}
+use Rattle.read_law.specs.Below.server_model.Places.{Spot, in_slot, took, put_slot, put_word, load_at}
+use Rattle.read_law.specs.Below.server_model.Prepare.{box_of, pinned_once}
+use Rattle.read_law.specs.Below.server_model.Events.{can_step, has_phase, enabled, begin_work, begin_at}
+use Rattle.read_law.specs.Below.heap_law.Names.{Among}
+use Rattle.read_law.specs.Below.heap_law.Things as things
+use Rattle.read_law.specs.Below.heap_law.Things.{Location, at_slot, Thing, lies, shares, sent, uses, things_at, pin_things, value_things, slot_things, thread_things, message_things, server_things, servers_things, things_of}
+use Rattle.read_law.specs.Below.heap_law.Follow.{Standing, value_in, cells_in, locate}
+use Rattle.read_law.specs.Below.heap_law.Sight.{Pointer, pointers_of, pointers_in, taken_pointers, sight, issued}
+use Rattle.read_law.specs.Below.heap_law.Words.{IsStale, HasWords, LeadsTo}
+use Rattle.read_law.proofs.Below.heap_law.Bags.{among_split}
 use Rattle.read_law.specs.Below.type_law.ClusterTypes.{IsCoherent}
 use Rattle.read_law.specs.Below.path_law.HeapStore.{GoesOn}
 use Rattle.read_law.proofs.Below.path_law.Alike.{coherent_has_paths}
@@ -47,20 +47,20 @@ use Rattle.read_law.proofs.Below.word_law.Slots.{set_same, set_other, thread_cel
 use Rattle.read_law.proofs.Below.word_law.Tints.{SlotPut, slot_put, slot_stands, tint_rewords}
 use Rattle.read_law.proofs.Below.word_law.NewWord.{is_new}
 use Rattle.read_law.proofs.Below.word_law.Past.{first_issued}
-use Rattle.event_law.specs.Laws.{Gives}
-use Rattle.event_law.specs.Sums.{Sums}
-use Rattle.event_law.proofs.Results.{test_gives, both_give}
-use Rattle.event_law.proofs.Rules.{Rule, comes, goes, turned as rule_turned, beside as rules_beside, in_turn, is_plain}
-use Rattle.event_law.proofs.RulesKeep.{sums_kept}
-use Rattle.event_law.proofs.Trades.{tot-append}
-use Rattle.event_law.proofs.Sound.{sound_has_sums}
-use Rattle.event_law.proofs.Bags.{HandOk, all_standing, sent_number, thread_number}
-use Rattle.event_law.proofs.Chains.{takes, puts_back, phase_changes, hand_sends}
-use Rattle.event_law.proofs.Events.{others_of, tot-server, begins_site, ends_site}
-use Rattle.event_law.proofs.Objects.{one_goes}
-use Rattle.event_law.proofs.Values.{puts_at}
-use Rattle.event_law.proofs.Uses.{hand_begins, uses_word}
-use Rattle.event_law.proofs.ThreadThere.{thread_there}
+use Rattle.read_law.specs.Below.event_law.Laws.{Gives}
+use Rattle.read_law.specs.Below.event_law.Sums.{Sums}
+use Rattle.read_law.proofs.Below.event_law.Results.{test_gives, both_give}
+use Rattle.read_law.proofs.Below.event_law.Rules.{Rule, comes, goes, turned as rule_turned, beside as rules_beside, in_turn, is_plain}
+use Rattle.read_law.proofs.Below.event_law.RulesKeep.{sums_kept}
+use Rattle.read_law.proofs.Below.event_law.Trades.{tot-append}
+use Rattle.read_law.proofs.Below.event_law.Sound.{sound_has_sums}
+use Rattle.read_law.proofs.Below.event_law.Bags.{HandOk, all_standing, sent_number, thread_number}
+use Rattle.read_law.proofs.Below.event_law.Chains.{takes, puts_back, phase_changes, hand_sends}
+use Rattle.read_law.proofs.Below.event_law.Events.{others_of, tot-server, begins_site, ends_site}
+use Rattle.read_law.proofs.Below.event_law.Objects.{one_goes}
+use Rattle.read_law.proofs.Below.event_law.Values.{puts_at}
+use Rattle.read_law.proofs.Below.event_law.Uses.{hand_begins, uses_word}
+use Rattle.read_law.proofs.Below.event_law.ThreadThere.{thread_there}
 use Rattle.read_law.specs.Reading.{Reads, LiesUnder}
 use Rattle.read_law.proofs.FreshReads.{read_are_fresh}
 use Rattle.read_law.proofs.Homes.{read_lie_there}
@@ -295,7 +295,7 @@ module _ (k : Cluster) (coherent : IsCoherent k) (s : Server) (here : server_at 
           ⊎_elim (λ (q : IsStale (sight c) (Some l)). absurd (z q)) (λ (q : r.word ≡ b.word r.object). q)
           (b.same pointer (among_first pointer (pointers_in (things_of c)) (taken_pointers (sight c).code (sight c).ground (sight c).ground.threads) (told c l (value.Mut r) pointer f (inl refl))))
 
-      issued_all : Rattle.heap_law.specs.Coherent.Holds k Rattle.heap_law.specs.Coherent.are_issued
+      issued_all : Rattle.read_law.specs.Below.heap_law.Coherent.Holds k Rattle.read_law.specs.Below.heap_law.Coherent.are_issued
       issued_all = coherent.sound.words.are_issued
 
       words_k : HasWords (sight k)
@@ -319,7 +319,7 @@ module _ (k : Cluster) (coherent : IsCoherent k) (s : Server) (here : server_at 
       not_first : (q : MutRef) → value.Mut r ≡ value.Mut q → next_word r.word ≡ q.first → ⊥
       not_first q f z =
           let same : r ≡ q = cc in
-          let known : issued (sight k) r.first ≡ true = first_issued k issued_all l r (of_borrows (sight k).ground (record { at = l; holder = Rattle.heap_law.specs.Stale.holder_of (sight k).ground l r.holder; reference = r }) (things_of k) (reference_there k l r was)).among in
+          let known : issued (sight k) r.first ≡ true = first_issued k issued_all l r (of_borrows (sight k).ground (record { at = l; holder = Rattle.read_law.specs.Below.heap_law.Stale.holder_of (sight k).ground l r.holder; reference = r }) (things_of k) (reference_there k l r was)).among in
           let no : true ≡ false = sym known ∙ ap (issued (sight k)) (ap (λ (a : MutRef). a.first) same ∙ sym z) ∙ new in
           absurd cc
 

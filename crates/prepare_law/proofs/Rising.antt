@@ -1,11 +1,11 @@
 -- How words rise from one small step of an event to the next.
 use Rattle.std.proofs.Common.{◌≡◌, ◌⊎◌, inl, inr, ⊎_elim, ℕ, true, false, refl, sym, ap, subst, ◌∙◌}
-use Rattle.fr_base.specs.declared.name.ObjNo.{ObjNo}
-use Rattle.fr_store.proofs.Keys.{object_cases}
-use Rattle.server_model.specs.Servers.{Cluster}
-use Rattle.heap_law.specs.Sight.{sight, issued}
-use Rattle.heap_law.specs.Coherent.{Holds, IsSound, first_at_holder}
-use Rattle.heap_law.specs.Dirty.{DirtyAlone, PastWords}
+use Rattle.read_law.specs.Below.fr_base.declared.name.ObjNo.{ObjNo}
+use Rattle.read_law.proofs.Below.fr_store.Keys.{object_cases}
+use Rattle.read_law.specs.Below.server_model.Servers.{Cluster}
+use Rattle.read_law.specs.Below.heap_law.Sight.{sight, issued}
+use Rattle.read_law.specs.Below.heap_law.Coherent.{Holds, IsSound, first_at_holder}
+use Rattle.read_law.specs.Below.heap_law.Dirty.{DirtyAlone, PastWords}
 use Rattle.read_law.specs.Below.word_law.Unmoved.{LeavesWords}
 use Rattle.read_law.specs.Below.word_law.WordsAfter.{WordsAfter}
 use Rattle.prepare_law.specs.Requests.{WordsHold, WordsRise}

@@ -1,47 +1,47 @@
 -- A place is followed for reading: star by star, until it is ready or a request is sent.
 use Rattle.std.proofs.Common.{◌≡◌, ℕ, zero, suc, ◌+◌, ◌<◌, ◌==◌, Bool, true, false, nat_lt, if◌then◌else◌, List, ◌++◌, Option, Some, None, refl, sym, ap, subst, ◌∙◌, arith}
 use Rattle.std.specs.Prelude.{⊤, slice_get}
-use Rattle.fr_base.specs.declared.place.Lval.{Lval}
-use Rattle.fr_base.specs.declared.instruction.Instr.{Instr}
-use Rattle.global_addr.specs.Words.{colour_of, server_of}
-use Rattle.heap_partition.specs.declared.value.BoxPtr.{BoxPtr}
-use Rattle.heap_partition.specs.declared.value.Cell.{Cell}
-use Rattle.heap_partition.specs.declared.value.Owned.{Owned}
-use Rattle.heap_partition.specs.declared.value.Owned.TheVariants as owned
-use Rattle.read_cache.specs.Cache.{Copy, is_cached}
-use Rattle.mut_borrow.specs.Refs.{cleaned_answer}
-use Rattle.mut_borrow.specs.declared.shared.SharedRef.{SharedRef}
-use Rattle.mut_borrow.specs.declared.mutable.MutRef.{MutRef}
-use Rattle.mut_borrow.specs.declared.mutable.Cleaned.{Cleaned}
-use Rattle.mut_borrow.specs.declared.mutable.Cleaned.TheVariants as cleaned
-use Rattle.journal.specs.declared.act.Act.{Act}
-use Rattle.journal.specs.declared.act.Act.TheVariants as act
-use Rattle.thread_state.specs.View.{ThreadState}
-use Rattle.thread_state.specs.declared.phase.Phase.TheVariants as phase
-use Rattle.thread_state.specs.declared.value.Value.{Value}
-use Rattle.thread_state.specs.declared.value.Value.TheVariants as value
-use Rattle.place_walk.specs.declared.hop.Hop.{Hop}
-use Rattle.place_walk.specs.declared.hop.Hop.TheVariants as hop
-use Rattle.place_walk.specs.Hops.{clean_hop, dirty_hop, read_hop}
-use Rattle.server_msgs.specs.declared.message.Message.TheVariants as message
-use Rattle.server_model.specs.declared.event.What.TheVariants.{Step}
-use Rattle.server_model.specs.Servers.{Server, Cluster, server_at}
-use Rattle.server_model.specs.Work.{Hand, note, working, thread_in, without_thread, then_some}
-use Rattle.server_model.specs.NewWords.{issue_tint, issue_renewal}
-use Rattle.server_model.specs.Places.{Spot, in_slot, in_cell, in_copy, value_at, value_in as cell_value, cell_at, load_at, pointer_of, put_word}
-use Rattle.server_model.specs.Prepare.{Prepared, ready, requested, nothing, and_then, ready_at, ask_copy, ask_object, request_by, box_of, cleaned_by, clean_value, pinned_once, use_copy, hopped, hit_by, read_by, read_value, read_clean, tinted_first, read_star, read_stars}
-use Rattle.server_model.specs.Events.{enabled}
-use Rattle.heap_law.specs.Things.{Location, at_slot, servers_things}
-use Rattle.heap_law.specs.Follow.{Ground, value_in, value_behind, leads, locate}
-use Rattle.heap_law.specs.Sight.{sight}
+use Rattle.read_law.specs.Below.fr_base.declared.place.Lval.{Lval}
+use Rattle.read_law.specs.Below.fr_base.declared.instruction.Instr.{Instr}
+use Rattle.read_law.specs.Below.global_addr.Words.{colour_of, server_of}
+use Rattle.read_law.specs.Below.heap_partition.declared.value.BoxPtr.{BoxPtr}
+use Rattle.read_law.specs.Below.heap_partition.declared.value.Cell.{Cell}
+use Rattle.read_law.specs.Below.heap_partition.declared.value.Owned.{Owned}
+use Rattle.read_law.specs.Below.heap_partition.declared.value.Owned.TheVariants as owned
+use Rattle.read_law.specs.Below.read_cache.Cache.{Copy, is_cached}
+use Rattle.read_law.specs.Below.mut_borrow.Refs.{cleaned_answer}
+use Rattle.read_law.specs.Below.mut_borrow.declared.shared.SharedRef.{SharedRef}
+use Rattle.read_law.specs.Below.mut_borrow.declared.mutable.MutRef.{MutRef}
+use Rattle.read_law.specs.Below.mut_borrow.declared.mutable.Cleaned.{Cleaned}
+use Rattle.read_law.specs.Below.mut_borrow.declared.mutable.Cleaned.TheVariants as cleaned
+use Rattle.read_law.specs.Below.journal.declared.act.Act.{Act}
+use Rattle.read_law.specs.Below.journal.declared.act.Act.TheVariants as act
+use Rattle.read_law.specs.Below.thread_state.View.{ThreadState}
+use Rattle.read_law.specs.Below.thread_state.declared.phase.Phase.TheVariants as phase
+use Rattle.read_law.specs.Below.thread_state.declared.value.Value.{Value}
+use Rattle.read_law.specs.Below.thread_state.declared.value.Value.TheVariants as value
+use Rattle.read_law.specs.Below.place_walk.declared.hop.Hop.{Hop}
+use Rattle.read_law.specs.Below.place_walk.declared.hop.Hop.TheVariants as hop
+use Rattle.read_law.specs.Below.place_walk.Hops.{clean_hop, dirty_hop, read_hop}
+use Rattle.read_law.specs.Below.server_msgs.declared.message.Message.TheVariants as message
+use Rattle.read_law.specs.Below.server_model.declared.event.What.TheVariants.{Step}
+use Rattle.read_law.specs.Below.server_model.Servers.{Server, Cluster, server_at}
+use Rattle.read_law.specs.Below.server_model.Work.{Hand, note, working, thread_in, without_thread, then_some}
+use Rattle.read_law.specs.Below.server_model.NewWords.{issue_tint, issue_renewal}
+use Rattle.read_law.specs.Below.server_model.Places.{Spot, in_slot, in_cell, in_copy, value_at, value_in as cell_value, cell_at, load_at, pointer_of, put_word}
+use Rattle.read_law.specs.Below.server_model.Prepare.{Prepared, ready, requested, nothing, and_then, ready_at, ask_copy, ask_object, request_by, box_of, cleaned_by, clean_value, pinned_once, use_copy, hopped, hit_by, read_by, read_value, read_clean, tinted_first, read_star, read_stars}
+use Rattle.read_law.specs.Below.server_model.Events.{enabled}
+use Rattle.read_law.specs.Below.heap_law.Things.{Location, at_slot, servers_things}
+use Rattle.read_law.specs.Below.heap_law.Follow.{Ground, value_in, value_behind, leads, locate}
+use Rattle.read_law.specs.Below.heap_law.Sight.{sight}
 use Rattle.read_law.specs.Below.type_law.ClusterTypes.{IsCoherent}
 use Rattle.read_law.proofs.Below.word_law.Tints.{slot_stands}
-use Rattle.event_law.specs.Laws.{Gives}
-use Rattle.event_law.proofs.Results.{given_by}
-use Rattle.event_law.proofs.RulesKeep.{sums_kept}
-use Rattle.event_law.proofs.Bags.{all_standing, thread_number}
-use Rattle.event_law.proofs.Events.{others_of}
-use Rattle.event_law.proofs.NewWords.{puts_word}
+use Rattle.read_law.specs.Below.event_law.Laws.{Gives}
+use Rattle.read_law.proofs.Below.event_law.Results.{given_by}
+use Rattle.read_law.proofs.Below.event_law.RulesKeep.{sums_kept}
+use Rattle.read_law.proofs.Below.event_law.Bags.{all_standing, thread_number}
+use Rattle.read_law.proofs.Below.event_law.Events.{others_of}
+use Rattle.read_law.proofs.Below.event_law.NewWords.{puts_word}
 use Rattle.read_law.specs.Reading.{Reads}
 use Rattle.stay_law.proofs.Steps.{TakesNoneHere}
 use Rattle.prepare_law.proofs.Hands.{Ok, put, places, stands, State, Walks, noted, loaded, uses_copy, pins_copy, requests, cleans_slot}

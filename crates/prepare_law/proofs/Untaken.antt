@@ -1,15 +1,15 @@
 -- A thread that stands at no mutable borrow has taken no object.
 use Rattle.std.proofs.Common.{◌≡◌, ℕ, false, Some, None, subst, slice_get}
-use Rattle.fr_base.specs.declared.instruction.Instr.{Instr}
-use Rattle.thread_state.specs.View.{ThreadState}
-use Rattle.thread_state.specs.declared.phase.Phase.TheVariants as phase
-use Rattle.server_model.specs.Servers.{Server, Cluster, server_at}
-use Rattle.server_model.specs.Work.{thread_in}
-use Rattle.heap_law.specs.Follow.{Standing}
-use Rattle.heap_law.specs.Sight.{sight}
-use Rattle.heap_law.specs.Requests.{lent_place, taken_there, taken_phase}
-use Rattle.heap_law.specs.Coherent.{IsSound}
-use Rattle.event_law.proofs.GiftsTaken.{none_here}
+use Rattle.read_law.specs.Below.fr_base.declared.instruction.Instr.{Instr}
+use Rattle.read_law.specs.Below.thread_state.View.{ThreadState}
+use Rattle.read_law.specs.Below.thread_state.declared.phase.Phase.TheVariants as phase
+use Rattle.read_law.specs.Below.server_model.Servers.{Server, Cluster, server_at}
+use Rattle.read_law.specs.Below.server_model.Work.{thread_in}
+use Rattle.read_law.specs.Below.heap_law.Follow.{Standing}
+use Rattle.read_law.specs.Below.heap_law.Sight.{sight}
+use Rattle.read_law.specs.Below.heap_law.Requests.{lent_place, taken_there, taken_phase}
+use Rattle.read_law.specs.Below.heap_law.Coherent.{IsSound}
+use Rattle.read_law.proofs.Below.event_law.GiftsTaken.{none_here}
 
 pub not_taken : (k : Cluster) → IsSound k → (number : ℕ) (s : Server) → server_at k.servers number ≡ Some s → (t : ℕ) (y : ThreadState) → thread_in s.threads t ≡ Some y → (i : Instr) → slice_get k.code y.pc ≡ Some i → lent_place (Some i) ≡ None
     → (v : ℕ) → y.phase ≡ phase.Taken v → ⊥

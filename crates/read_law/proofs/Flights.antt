@@ -1,25 +1,25 @@
 -- An object under way comes to a thread that waits for it on its path.
 use Rattle.std.proofs.Common.{◌≡◌, inl, inr, ◌≤◌, ℕ, suc, zero, ◌+◌, ◌==◌, ◌&&◌, Bool, true, false, List, [], ◌∷◌, Option, Some, None, refl, sym, ap, subst, ◌∙◌, arith}
 use Rattle.std.proofs.lemmas.Bool.{eqb-true, eq-eqb}
-use Rattle.fr_base.specs.declared.name.ObjNo.{ObjNo}
-use Rattle.heap_partition.specs.declared.value.Cell.{Cell}
-use Rattle.thread_state.specs.declared.phase.Phase.{Phase}
-use Rattle.thread_state.specs.declared.phase.Phase.TheVariants as phase
-use Rattle.server_msgs.specs.declared.message.Message.{Message}
-use Rattle.server_msgs.specs.declared.message.Message.TheVariants as message
-use Rattle.server_model.specs.Servers.{Server, Cluster}
-use Rattle.heap_law.specs.Names.{tot, one, if_so, same_object, Among}
-use Rattle.heap_law.specs.Things.{Thing, flies, sent, stands, things_at, message_things, standing_things, waiting_things, leaving_things, server_things, servers_things, things_of}
-use Rattle.heap_law.specs.Follow.{Standing, threads_in, thread_at}
-use Rattle.heap_law.specs.Sight.{sight}
-use Rattle.heap_law.specs.Paths.{Awaited}
-use Rattle.heap_law.specs.Weights.{is_thread}
-use Rattle.heap_law.specs.Walking.{path, asks_for, asked_for}
-use Rattle.heap_law.specs.Requests.{waits, Answer, no_answer, whole_answer, half_answer, answer_of, halves, halves_to, halves_needed, is_cell, in_phase, carries}
-use Rattle.heap_law.specs.Turn.{InTurn}
-use Rattle.heap_law.specs.Coherent.{IsSound}
-use Rattle.heap_law.proofs.Names.{and_left, and_right, same_number}
-use Rattle.heap_law.proofs.Words.{none_at, named, itself}
+use Rattle.event_law.specs.Below.fr_base.declared.name.ObjNo.{ObjNo}
+use Rattle.event_law.specs.Below.heap_partition.declared.value.Cell.{Cell}
+use Rattle.event_law.specs.Below.thread_state.declared.phase.Phase.{Phase}
+use Rattle.event_law.specs.Below.thread_state.declared.phase.Phase.TheVariants as phase
+use Rattle.event_law.specs.Below.server_msgs.declared.message.Message.{Message}
+use Rattle.event_law.specs.Below.server_msgs.declared.message.Message.TheVariants as message
+use Rattle.event_law.specs.Below.server_model.Servers.{Server, Cluster}
+use Rattle.event_law.specs.Below.heap_law.Names.{tot, one, if_so, same_object, Among}
+use Rattle.event_law.specs.Below.heap_law.Things.{Thing, flies, sent, stands, things_at, message_things, standing_things, waiting_things, leaving_things, server_things, servers_things, things_of}
+use Rattle.event_law.specs.Below.heap_law.Follow.{Standing, threads_in, thread_at}
+use Rattle.event_law.specs.Below.heap_law.Sight.{sight}
+use Rattle.event_law.specs.Below.heap_law.Paths.{Awaited}
+use Rattle.event_law.specs.Below.heap_law.Weights.{is_thread}
+use Rattle.event_law.specs.Below.heap_law.Walking.{path, asks_for, asked_for}
+use Rattle.event_law.specs.Below.heap_law.Requests.{waits, Answer, no_answer, whole_answer, half_answer, answer_of, halves, halves_to, halves_needed, is_cell, in_phase, carries}
+use Rattle.event_law.specs.Below.heap_law.Turn.{InTurn}
+use Rattle.event_law.specs.Below.heap_law.Coherent.{IsSound}
+use Rattle.event_law.proofs.Below.heap_law.Names.{and_left, and_right, same_number}
+use Rattle.event_law.proofs.Below.heap_law.Words.{none_at, named, itself}
 use Rattle.event_law.proofs.Trades.{tot-append}
 use Rattle.event_law.proofs.Unseen.{Unseen, Unnoted, thread_alone, none_at as none_in, seen_of}
 use Rattle.event_law.proofs.Askers.{other_none}

@@ -1,27 +1,27 @@
 -- No pointer that a thread follows for reading is stale: no reference was made from it, and no other thread has taken its object for a mutable borrow.
 use Rattle.std.proofs.Common.{◌≡◌, ◌≢◌, ◌⊎◌, inl, inr, ℕ, suc, ◌+◌, ◌-◌, ◌<◌, Bool, true, false, List, [], ◌∷◌, length, Some, None, is_some, sym, ap, subst, ◌∙◌, arith}
-use Rattle.fr_typing.proofs.PlaceLemmas.{eq_cases}
-use Rattle.fr_typing.specs.Kinds.{Kind}
-use Rattle.fr_base.specs.declared.place.Lval.{Lval}
-use Rattle.fr_base.specs.declared.instruction.Instr.{Instr}
-use Rattle.fr_base.specs.declared.instruction.Instr.TheVariants as instr
-use Rattle.fr_store.specs.Keys.{Key, slot_k}
-use Rattle.fr_store.specs.Store.{Store, Place as StorePlace, below_key, add}
-use Rattle.fr_store.specs.Typed.{Exact, refers, KeyTypes, Resolves, Unlent}
-use Rattle.fr_store.specs.Thread.{ThreadTyped}
-use Rattle.fr_store.proofs.Chains.{unique, add_plus}
-use Rattle.fr_store.proofs.Sound.{ref_at, sound}
-use Rattle.fr_sound.specs.States.{hand_key, hand_kind}
-use Rattle.thread_state.specs.View.{is_over}
-use Rattle.server_model.specs.Servers.{Cluster}
-use Rattle.heap_law.specs.Names.{Among}
-use Rattle.heap_law.specs.Things.{Location, things_of}
-use Rattle.heap_law.specs.Follow.{Standing, Ground, threads_in, thread_at, locate}
-use Rattle.heap_law.specs.Stale.{Reference, references, is_held_at, changed_above, stale_above, taken_above}
-use Rattle.heap_law.specs.Sight.{sight}
-use Rattle.heap_law.specs.Walking.{instr_of}
-use Rattle.heap_law.specs.Words.{IsStale}
-use Rattle.heap_law.specs.OneHeap.{two_in, pair_of}
+use Rattle.event_law.proofs.Below.fr_typing.PlaceLemmas.{eq_cases}
+use Rattle.event_law.specs.Below.fr_typing.Kinds.{Kind}
+use Rattle.event_law.specs.Below.fr_base.declared.place.Lval.{Lval}
+use Rattle.event_law.specs.Below.fr_base.declared.instruction.Instr.{Instr}
+use Rattle.event_law.specs.Below.fr_base.declared.instruction.Instr.TheVariants as instr
+use Rattle.event_law.specs.Below.fr_store.Keys.{Key, slot_k}
+use Rattle.event_law.specs.Below.fr_store.Store.{Store, Place as StorePlace, below_key, add}
+use Rattle.event_law.specs.Below.fr_store.Typed.{Exact, refers, KeyTypes, Resolves, Unlent}
+use Rattle.event_law.specs.Below.fr_store.Thread.{ThreadTyped}
+use Rattle.event_law.proofs.Below.fr_store.Chains.{unique, add_plus}
+use Rattle.event_law.proofs.Below.fr_store.Sound.{ref_at, sound}
+use Rattle.word_law.specs.Below.fr_sound.States.{hand_key, hand_kind}
+use Rattle.event_law.specs.Below.thread_state.View.{is_over}
+use Rattle.event_law.specs.Below.server_model.Servers.{Cluster}
+use Rattle.event_law.specs.Below.heap_law.Names.{Among}
+use Rattle.event_law.specs.Below.heap_law.Things.{Location, things_of}
+use Rattle.event_law.specs.Below.heap_law.Follow.{Standing, Ground, threads_in, thread_at, locate}
+use Rattle.event_law.specs.Below.heap_law.Stale.{Reference, references, is_held_at, changed_above, stale_above, taken_above}
+use Rattle.event_law.specs.Below.heap_law.Sight.{sight}
+use Rattle.event_law.specs.Below.heap_law.Walking.{instr_of}
+use Rattle.event_law.specs.Below.heap_law.Words.{IsStale}
+use Rattle.event_law.specs.Below.heap_law.OneHeap.{two_in, pair_of}
 use Rattle.word_law.specs.Below.path_law.HeapStore.{in_store, heap_store, GoesOn, HasPaths}
 use Rattle.word_law.specs.Below.path_law.Pointing.{lends as lends_to}
 use Rattle.word_law.proofs.Below.path_law.Sole.{some_is, more_stars}

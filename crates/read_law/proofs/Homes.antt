@@ -1,27 +1,27 @@
 -- The object of a pointer that is read lies where the pointer's word leads.
 use Rattle.std.proofs.Common.{◌≡◌, ◌⊎◌, inl, ⊎_elim, ℕ, suc, ◌+◌, ◌-◌, ◌<◌, Option, Some, None, refl, sym, ap, subst, ◌∙◌, arith}
-use Rattle.fr_base.specs.declared.name.ObjNo.{ObjNo}
-use Rattle.fr_base.specs.declared.place.Lval.{Lval}
-use Rattle.fr_base.specs.declared.instruction.Instr.{Instr}
-use Rattle.heap_partition.specs.declared.value.BoxPtr.{BoxPtr}
-use Rattle.heap_partition.specs.declared.value.Cell.{Cell}
-use Rattle.heap_partition.specs.declared.value.Owned.TheVariants as owned
-use Rattle.mut_borrow.specs.declared.shared.SharedRef.{SharedRef}
-use Rattle.thread_state.specs.View.{is_over}
-use Rattle.thread_state.specs.declared.phase.Phase.TheVariants as phase
-use Rattle.thread_state.specs.declared.value.Value.{Value}
-use Rattle.thread_state.specs.declared.value.Value.TheVariants as value
-use Rattle.server_model.specs.Servers.{Cluster}
-use Rattle.server_model.specs.Places.{pointer_of}
-use Rattle.fr_store.specs.Store.{at_object, below_key}
-use Rattle.fr_store.specs.Keys.{slot_k}
-use Rattle.heap_law.specs.Names.{Among}
-use Rattle.heap_law.specs.Things.{Location, at_slot, at_temp, in_cell, Thing, shares, flies, lies, things_of}
-use Rattle.heap_law.specs.Follow.{Standing, Ground, thread_at, cell_of, value_of, value_in, value_behind, leads, locate}
-use Rattle.heap_law.specs.Sight.{Pointer, pointers_in, taken_pointers, sight}
-use Rattle.heap_law.specs.Walking.{instr_of, path}
-use Rattle.heap_law.specs.Words.{IsStale, HasWords, LeadsTo}
-use Rattle.heap_law.specs.OneHeap.{two_in}
+use Rattle.event_law.specs.Below.fr_base.declared.name.ObjNo.{ObjNo}
+use Rattle.event_law.specs.Below.fr_base.declared.place.Lval.{Lval}
+use Rattle.event_law.specs.Below.fr_base.declared.instruction.Instr.{Instr}
+use Rattle.event_law.specs.Below.heap_partition.declared.value.BoxPtr.{BoxPtr}
+use Rattle.event_law.specs.Below.heap_partition.declared.value.Cell.{Cell}
+use Rattle.event_law.specs.Below.heap_partition.declared.value.Owned.TheVariants as owned
+use Rattle.event_law.specs.Below.mut_borrow.declared.shared.SharedRef.{SharedRef}
+use Rattle.event_law.specs.Below.thread_state.View.{is_over}
+use Rattle.event_law.specs.Below.thread_state.declared.phase.Phase.TheVariants as phase
+use Rattle.event_law.specs.Below.thread_state.declared.value.Value.{Value}
+use Rattle.event_law.specs.Below.thread_state.declared.value.Value.TheVariants as value
+use Rattle.event_law.specs.Below.server_model.Servers.{Cluster}
+use Rattle.event_law.specs.Below.server_model.Places.{pointer_of}
+use Rattle.event_law.specs.Below.fr_store.Store.{at_object, below_key}
+use Rattle.event_law.specs.Below.fr_store.Keys.{slot_k}
+use Rattle.event_law.specs.Below.heap_law.Names.{Among}
+use Rattle.event_law.specs.Below.heap_law.Things.{Location, at_slot, at_temp, in_cell, Thing, shares, flies, lies, things_of}
+use Rattle.event_law.specs.Below.heap_law.Follow.{Standing, Ground, thread_at, cell_of, value_of, value_in, value_behind, leads, locate}
+use Rattle.event_law.specs.Below.heap_law.Sight.{Pointer, pointers_in, taken_pointers, sight}
+use Rattle.event_law.specs.Below.heap_law.Walking.{instr_of, path}
+use Rattle.event_law.specs.Below.heap_law.Words.{IsStale, HasWords, LeadsTo}
+use Rattle.event_law.specs.Below.heap_law.OneHeap.{two_in}
 use Rattle.word_law.specs.Below.type_law.ClusterTypes.{IsCoherent}
 use Rattle.word_law.specs.Below.path_law.HeapStore.{heap_store, GoesOn, HasPaths}
 use Rattle.word_law.proofs.Below.path_law.Sole.{some_is}

@@ -3,38 +3,38 @@ use Rattle.std.proofs.Common.{◌≡◌, ◌⊎◌, inl, inr, ◌≤◌, ℕ, �
 use Rattle.std.specs.Prelude.{slice_get}
 use Rattle.std.proofs.lemmas.Bool.{eqb-true, eq-eqb}
 use Rattle.std.proofs.lemmas.Bool.Decides.{Decides-int_eq}
-use Rattle.fr_typing.proofs.PlaceLemmas.{eq_cases}
-use Rattle.fr_base.specs.declared.name.ObjNo.{ObjNo}
-use Rattle.fr_base.specs.declared.place.Lval.{Lval}
-use Rattle.fr_base.specs.declared.instruction.Instr.{Instr}
-use Rattle.global_addr.specs.Words.{server_of, address_of, next_word}
-use Rattle.heap_partition.specs.Same.{same_box, same_owned, same_cell}
-use Rattle.heap_partition.specs.declared.value.BoxPtr.{BoxPtr}
-use Rattle.heap_partition.specs.declared.value.Cell.{Cell}
-use Rattle.heap_partition.specs.declared.value.Owned.{Owned}
-use Rattle.heap_partition.specs.declared.value.Owned.TheVariants as owned
-use Rattle.read_cache.specs.Cache.{Copy, copy_of, cell_in, hit, is_cached}
-use Rattle.mut_borrow.specs.declared.mutable.MutRef.{MutRef}
-use Rattle.thread_state.specs.declared.phase.Phase.TheVariants as phase
-use Rattle.thread_state.specs.declared.value.Value.{Value}
-use Rattle.thread_state.specs.declared.value.Value.TheVariants as value
-use Rattle.server_model.specs.Servers.{Server, Cluster, server_at}
-use Rattle.server_model.specs.Work.{look}
-use Rattle.server_model.specs.Places.{pointer_of}
-use Rattle.heap_law.specs.Names.{tot, one, other, same_object, Among}
-use Rattle.heap_law.specs.Things.{Location, Thing, shares, lies, flies, borrows, copied, counts, things_at, cell_things, free_things, copy_things, mutex_things, task_things, standing_things, waiting_things, leaving_things, server_things, servers_things, things_of}
-use Rattle.heap_law.specs.Follow.{Standing, Ground, cells_in, cell_of, value_in, locate}
-use Rattle.heap_law.specs.Stale.{is_among, is_held_at}
-use Rattle.heap_law.specs.Sight.{Pointer, word_of_object, is_word, cell_of_word, dirty_objects, is_object_among, taken_pointers, sight, word, issued, if_dirty}
-use Rattle.heap_law.specs.Balances.{AtMostOne}
-use Rattle.heap_law.specs.Weights.{cells, states, below}
-use Rattle.heap_law.specs.Walking.{instr_of}
-use Rattle.heap_law.specs.Words.{IsStale, Fresh, HasWords}
-use Rattle.heap_law.specs.Placing.{words as word_weights, is_word_of, shared_words, same_words, unless_dirty, if_clean, clean_cell, other_cell, other_copy, standing_pointers, standing_in}
-use Rattle.heap_law.specs.Coherent.{IsSound}
-use Rattle.heap_law.proofs.Names.{and_left, and_right, same_number, same_mutexes}
-use Rattle.heap_law.proofs.Sums.{server_parts}
-use Rattle.heap_law.proofs.Words.{none_at, named, itself, words_law, told as told_stale}
+use Rattle.event_law.proofs.Below.fr_typing.PlaceLemmas.{eq_cases}
+use Rattle.event_law.specs.Below.fr_base.declared.name.ObjNo.{ObjNo}
+use Rattle.event_law.specs.Below.fr_base.declared.place.Lval.{Lval}
+use Rattle.event_law.specs.Below.fr_base.declared.instruction.Instr.{Instr}
+use Rattle.event_law.specs.Below.global_addr.Words.{server_of, address_of, next_word}
+use Rattle.event_law.specs.Below.heap_partition.Same.{same_box, same_owned, same_cell}
+use Rattle.event_law.specs.Below.heap_partition.declared.value.BoxPtr.{BoxPtr}
+use Rattle.event_law.specs.Below.heap_partition.declared.value.Cell.{Cell}
+use Rattle.event_law.specs.Below.heap_partition.declared.value.Owned.{Owned}
+use Rattle.event_law.specs.Below.heap_partition.declared.value.Owned.TheVariants as owned
+use Rattle.event_law.specs.Below.read_cache.Cache.{Copy, copy_of, cell_in, hit, is_cached}
+use Rattle.event_law.specs.Below.mut_borrow.declared.mutable.MutRef.{MutRef}
+use Rattle.event_law.specs.Below.thread_state.declared.phase.Phase.TheVariants as phase
+use Rattle.event_law.specs.Below.thread_state.declared.value.Value.{Value}
+use Rattle.event_law.specs.Below.thread_state.declared.value.Value.TheVariants as value
+use Rattle.event_law.specs.Below.server_model.Servers.{Server, Cluster, server_at}
+use Rattle.event_law.specs.Below.server_model.Work.{look}
+use Rattle.event_law.specs.Below.server_model.Places.{pointer_of}
+use Rattle.event_law.specs.Below.heap_law.Names.{tot, one, other, same_object, Among}
+use Rattle.event_law.specs.Below.heap_law.Things.{Location, Thing, shares, lies, flies, borrows, copied, counts, things_at, cell_things, free_things, copy_things, mutex_things, task_things, standing_things, waiting_things, leaving_things, server_things, servers_things, things_of}
+use Rattle.event_law.specs.Below.heap_law.Follow.{Standing, Ground, cells_in, cell_of, value_in, locate}
+use Rattle.event_law.specs.Below.heap_law.Stale.{is_among, is_held_at}
+use Rattle.event_law.specs.Below.heap_law.Sight.{Pointer, word_of_object, is_word, cell_of_word, dirty_objects, is_object_among, taken_pointers, sight, word, issued, if_dirty}
+use Rattle.event_law.specs.Below.heap_law.Balances.{AtMostOne}
+use Rattle.event_law.specs.Below.heap_law.Weights.{cells, states, below}
+use Rattle.event_law.specs.Below.heap_law.Walking.{instr_of}
+use Rattle.event_law.specs.Below.heap_law.Words.{IsStale, Fresh, HasWords}
+use Rattle.event_law.specs.Below.heap_law.Placing.{words as word_weights, is_word_of, shared_words, same_words, unless_dirty, if_clean, clean_cell, other_cell, other_copy, standing_pointers, standing_in}
+use Rattle.event_law.specs.Below.heap_law.Coherent.{IsSound}
+use Rattle.event_law.proofs.Below.heap_law.Names.{and_left, and_right, same_number, same_mutexes}
+use Rattle.event_law.proofs.Below.heap_law.Sums.{server_parts}
+use Rattle.event_law.proofs.Below.heap_law.Words.{none_at, named, itself, words_law, told as told_stale}
 use Rattle.event_law.specs.Sums.{is_server}
 use Rattle.event_law.proofs.Sound.{sound_has_sums}
 use Rattle.event_law.proofs.Events.{tot-server}

@@ -1,9 +1,9 @@
 -- What a place reads that no mutable reference's type names: no mutable reference was made from a pointer on its way.
 use Rattle.std.proofs.Common.{◌≡◌, ℕ, suc, Bool, true, false, refl, sym, ap, subst, ◌∙◌, arith}
-use Rattle.fr_store.specs.Keys.{Key}
-use Rattle.fr_store.specs.Store.{Store, Place, add}
-use Rattle.fr_store.specs.Typed.{Exact, refers, KeyTypes, Resolves, here, through, Typed, Unlent}
-use Rattle.fr_store.proofs.Chains.{add_plus}
+use Rattle.event_law.specs.Below.fr_store.Keys.{Key}
+use Rattle.event_law.specs.Below.fr_store.Store.{Store, Place, add}
+use Rattle.event_law.specs.Below.fr_store.Typed.{Exact, refers, KeyTypes, Resolves, here, through, Typed, Unlent}
+use Rattle.event_law.proofs.Below.fr_store.Chains.{add_plus}
 
 -- from a key under so many stars the mutable references' types lead to another one
 pub data LentOn (E : KeyTypes) (k : Key) (d : ℕ) : Key → ℕ → Type 0 where

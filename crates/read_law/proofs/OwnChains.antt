@@ -1,30 +1,30 @@
 -- What comes to a thread that waits for it stands in a chain of one of the thread's own slots.
 use Rattle.std.proofs.Common.{◌≡◌, ◌⊎◌, inl, inr, ℕ, zero, suc, ◌-◌, ◌<◌, Bool, true, false, if◌then◌else◌, List, [], ◌∷◌, length, Option, Some, None, refl, sym, ap, subst, ◌∙◌, arith}
 use Rattle.std.specs.Prelude.{slice_get}
-use Rattle.fr_base.specs.declared.name.ObjNo.{ObjNo}
-use Rattle.fr_base.specs.declared.place.Lval.{Lval}
-use Rattle.fr_base.specs.declared.instruction.Instr.{Instr}
-use Rattle.fr_base.specs.declared.instruction.Instr.TheVariants as instr
-use Rattle.fr_store.specs.Keys.{Key, slot_k}
-use Rattle.fr_store.specs.Store.{Store, Place as StorePlace, at_object, below_key}
-use Rattle.fr_store.specs.Typed.{Exact, KeyTypes, Resolves}
-use Rattle.fr_store.proofs.Sound.{ref_at, sound}
-use Rattle.heap_partition.specs.declared.value.Cell.{Cell}
-use Rattle.heap_partition.specs.declared.value.Owned.TheVariants as owned
-use Rattle.mut_borrow.specs.declared.mutable.MutRef.{MutRef}
-use Rattle.thread_state.specs.View.{ThreadState}
-use Rattle.thread_state.specs.declared.value.Value.{Value}
-use Rattle.thread_state.specs.declared.value.Value.TheVariants as value
-use Rattle.server_model.specs.Servers.{Cluster}
-use Rattle.heap_law.specs.Names.{Among}
-use Rattle.heap_law.specs.Things.{Location, at_slot, at_temp, in_cell}
-use Rattle.heap_law.specs.Follow.{Standing, Ground, cell_of, slot_of, value_of, value_in, value_behind, leads, locate, place_at}
-use Rattle.heap_law.specs.Sight.{sight}
-use Rattle.heap_law.specs.Paths.{Path, reads, shares, lends, writes, ends, ending, taking, assigning, path_of, Awaited, is_spent, to_read, to_write, to_clean}
-use Rattle.heap_law.specs.Walking.{instr_of, path}
-use Rattle.heap_law.specs.Passing.{HopOf}
-use Rattle.heap_law.specs.Turn.{IsAsked, AwaitsAt, read_at, before_share, at_share, before_lend, at_lend, NextHop, InTurn, by_read, by_share, by_lend, by_write, by_end, by_holder}
-use Rattle.heap_law.proofs.Passing.{paths_law}
+use Rattle.event_law.specs.Below.fr_base.declared.name.ObjNo.{ObjNo}
+use Rattle.event_law.specs.Below.fr_base.declared.place.Lval.{Lval}
+use Rattle.event_law.specs.Below.fr_base.declared.instruction.Instr.{Instr}
+use Rattle.event_law.specs.Below.fr_base.declared.instruction.Instr.TheVariants as instr
+use Rattle.event_law.specs.Below.fr_store.Keys.{Key, slot_k}
+use Rattle.event_law.specs.Below.fr_store.Store.{Store, Place as StorePlace, at_object, below_key}
+use Rattle.event_law.specs.Below.fr_store.Typed.{Exact, KeyTypes, Resolves}
+use Rattle.event_law.proofs.Below.fr_store.Sound.{ref_at, sound}
+use Rattle.event_law.specs.Below.heap_partition.declared.value.Cell.{Cell}
+use Rattle.event_law.specs.Below.heap_partition.declared.value.Owned.TheVariants as owned
+use Rattle.event_law.specs.Below.mut_borrow.declared.mutable.MutRef.{MutRef}
+use Rattle.event_law.specs.Below.thread_state.View.{ThreadState}
+use Rattle.event_law.specs.Below.thread_state.declared.value.Value.{Value}
+use Rattle.event_law.specs.Below.thread_state.declared.value.Value.TheVariants as value
+use Rattle.event_law.specs.Below.server_model.Servers.{Cluster}
+use Rattle.event_law.specs.Below.heap_law.Names.{Among}
+use Rattle.event_law.specs.Below.heap_law.Things.{Location, at_slot, at_temp, in_cell}
+use Rattle.event_law.specs.Below.heap_law.Follow.{Standing, Ground, cell_of, slot_of, value_of, value_in, value_behind, leads, locate, place_at}
+use Rattle.event_law.specs.Below.heap_law.Sight.{sight}
+use Rattle.event_law.specs.Below.heap_law.Paths.{Path, reads, shares, lends, writes, ends, ending, taking, assigning, path_of, Awaited, is_spent, to_read, to_write, to_clean}
+use Rattle.event_law.specs.Below.heap_law.Walking.{instr_of, path}
+use Rattle.event_law.specs.Below.heap_law.Passing.{HopOf}
+use Rattle.event_law.specs.Below.heap_law.Turn.{IsAsked, AwaitsAt, read_at, before_share, at_share, before_lend, at_lend, NextHop, InTurn, by_read, by_share, by_lend, by_write, by_end, by_holder}
+use Rattle.event_law.proofs.Below.heap_law.Passing.{paths_law}
 use Rattle.word_law.specs.Below.type_law.ClusterTypes.{same_place, is_held_at}
 use Rattle.word_law.specs.Below.path_law.HeapStore.{heap_store, GoesOn, HasPaths}
 use Rattle.word_law.specs.Below.path_law.Pointing.{WritesTo, assigns, moves, lends as lends_to}

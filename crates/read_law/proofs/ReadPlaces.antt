@@ -1,22 +1,22 @@
 -- What typing lets an instruction read is a place that the thread may read.
 use Rattle.std.proofs.Common.{◌≡◌, ◌⊎◌, inl, inr, ℕ, true, false, Some, refl, sym, ap, subst, ◌∙◌}
-use Rattle.fr_base.specs.declared.place.Lval.{Lval}
-use Rattle.fr_base.specs.declared.instruction.Instr.{Instr}
-use Rattle.fr_base.specs.declared.instruction.Instr.TheVariants as instr
-use Rattle.fr_typing.specs.Kinds.{own, mutex, Piece, whole}
-use Rattle.fr_typing.specs.Places.{found, read_blocked}
-use Rattle.fr_store.specs.Keys.{slot_k}
-use Rattle.fr_store.specs.Typed.{KeyTypes}
-use Rattle.fr_store.proofs.Below.{mut_place, resolved}
-use Rattle.fr_store.proofs.ThreadKept.{unlent_key}
-use Rattle.fr_sound.specs.States.{hand_key, hand_kind}
-use Rattle.fr_code.specs.CodeTypes.{Entry, Table, HasType, is_variable, wait, InstrTypes, i_copy, i_borrow, i_dup, i_lock}
-use Rattle.fr_code.specs.CodeTable.{Leads, to_next, ends, Successors}
-use Rattle.thread_state.specs.declared.value.Value.TheVariants as value
-use Rattle.server_model.specs.Servers.{Cluster}
-use Rattle.heap_law.specs.Follow.{Standing}
-use Rattle.heap_law.specs.Sight.{sight}
-use Rattle.heap_law.specs.Walking.{instr_of}
+use Rattle.event_law.specs.Below.fr_base.declared.place.Lval.{Lval}
+use Rattle.event_law.specs.Below.fr_base.declared.instruction.Instr.{Instr}
+use Rattle.event_law.specs.Below.fr_base.declared.instruction.Instr.TheVariants as instr
+use Rattle.event_law.specs.Below.fr_typing.Kinds.{own, mutex, Piece, whole}
+use Rattle.event_law.specs.Below.fr_typing.Places.{found, read_blocked}
+use Rattle.event_law.specs.Below.fr_store.Keys.{slot_k}
+use Rattle.event_law.specs.Below.fr_store.Typed.{KeyTypes}
+use Rattle.event_law.proofs.Below.fr_store.Below.{mut_place, resolved}
+use Rattle.event_law.proofs.Below.fr_store.ThreadKept.{unlent_key}
+use Rattle.word_law.specs.Below.fr_sound.States.{hand_key, hand_kind}
+use Rattle.event_law.specs.Below.fr_code.CodeTypes.{Entry, Table, HasType, is_variable, wait, InstrTypes, i_copy, i_borrow, i_dup, i_lock}
+use Rattle.event_law.specs.Below.fr_code.CodeTable.{Leads, to_next, ends, Successors}
+use Rattle.event_law.specs.Below.thread_state.declared.value.Value.TheVariants as value
+use Rattle.event_law.specs.Below.server_model.Servers.{Cluster}
+use Rattle.event_law.specs.Below.heap_law.Follow.{Standing}
+use Rattle.event_law.specs.Below.heap_law.Sight.{sight}
+use Rattle.event_law.specs.Below.heap_law.Walking.{instr_of}
 use Rattle.word_law.specs.Below.type_law.ClusterTypes.{slot_form}
 use Rattle.word_law.specs.Below.path_law.HeapStore.{heap_store, GoesOn, IsUnmarked, HasPaths}
 use Rattle.word_law.specs.Below.path_law.Pointing.{MayWrite, lends as lends_to}

@@ -1,21 +1,21 @@
 -- WHAT A THREAD READS: the pointers that a place of an instruction follows for reading (Featherweight Rust's rule that what is lent mutably isn't read,
 -- over the locations of a cluster; this project's rule).
 use Rattle.std.specs.Prelude.{◌≡◌, ℕ, suc, ◌<◌, false, Some}
-use Rattle.fr_base.specs.declared.place.Lval.{Lval}
-use Rattle.fr_base.specs.declared.instruction.Instr.{Instr}
-use Rattle.fr_base.specs.declared.instruction.Instr.TheVariants as instr
-use Rattle.heap_partition.specs.declared.value.BoxPtr.{BoxPtr}
-use Rattle.thread_state.specs.declared.value.Value.{Value}
-use Rattle.thread_state.specs.declared.phase.Phase.TheVariants as phase
-use Rattle.server_model.specs.Servers.{Cluster}
-use Rattle.server_model.specs.Places.{pointer_of}
-use Rattle.fr_store.specs.Keys.{Key, slot_k}
-use Rattle.fr_store.specs.Typed.{Exact, Resolves, Unlent}
-use Rattle.heap_law.specs.Things.{Location}
-use Rattle.heap_law.specs.Follow.{Standing, value_in, locate}
-use Rattle.heap_law.specs.Walking.{instr_of}
-use Rattle.heap_law.specs.Sight.{sight}
-use Rattle.heap_law.specs.Words.{IsStale, LeadsTo}
+use Rattle.event_law.specs.Below.fr_base.declared.place.Lval.{Lval}
+use Rattle.event_law.specs.Below.fr_base.declared.instruction.Instr.{Instr}
+use Rattle.event_law.specs.Below.fr_base.declared.instruction.Instr.TheVariants as instr
+use Rattle.event_law.specs.Below.heap_partition.declared.value.BoxPtr.{BoxPtr}
+use Rattle.event_law.specs.Below.thread_state.declared.value.Value.{Value}
+use Rattle.event_law.specs.Below.thread_state.declared.phase.Phase.TheVariants as phase
+use Rattle.event_law.specs.Below.server_model.Servers.{Cluster}
+use Rattle.event_law.specs.Below.server_model.Places.{pointer_of}
+use Rattle.event_law.specs.Below.fr_store.Keys.{Key, slot_k}
+use Rattle.event_law.specs.Below.fr_store.Typed.{Exact, Resolves, Unlent}
+use Rattle.event_law.specs.Below.heap_law.Things.{Location}
+use Rattle.event_law.specs.Below.heap_law.Follow.{Standing, value_in, locate}
+use Rattle.event_law.specs.Below.heap_law.Walking.{instr_of}
+use Rattle.event_law.specs.Below.heap_law.Sight.{sight}
+use Rattle.event_law.specs.Below.heap_law.Words.{IsStale, LeadsTo}
 use Rattle.word_law.specs.Below.type_law.ClusterTypes.{Types, IsCoherent}
 use Rattle.word_law.specs.Below.path_law.HeapStore.{GoesOn, IsUnmarked, HasPaths}
 use Rattle.word_law.specs.Reworded.{LiesThere}

@@ -1,19 +1,19 @@
 -- Clusters on the way of an event whose server has other threads standing than it had: how words stay from one to the next.
 use Rattle.std.proofs.Common.{◌≡◌, ℕ, ◌+◌, false, List, [], ◌∷◌, ◌++◌, length, Option, Some, IsSome, refl, sym, subst, ◌∙◌}
-use Rattle.mut_borrow.specs.declared.mutable.MutRef.{MutRef}
-use Rattle.thread_state.specs.View.{ThreadState}
-use Rattle.thread_state.specs.declared.value.Value.TheVariants as value
-use Rattle.server_model.specs.Servers.{Rest, Cluster, server_at}
-use Rattle.server_model.specs.Clusters.{with_server}
-use Rattle.heap_law.specs.Things.{Location, Thing, counts, partition_things, copy_things, mutex_things, task_things, waiting_things, leaving_things, things_at, standing_things, thread_things, server_things, things_of}
-use Rattle.heap_law.specs.Follow.{value_in}
-use Rattle.heap_law.specs.Sight.{sight}
-use Rattle.heap_law.specs.Coherent.{Holds, first_at_holder, IsSound}
-use Rattle.word_law.specs.Reworded.{HasPlaces}
-use Rattle.word_law.specs.Unmoved.{Untouched, LeavesWords}
-use Rattle.word_law.proofs.Put.{Split, split_whole, split_left, split_right, servers_split}
-use Rattle.word_law.proofs.Follows.{seen_places_lead}
-use Rattle.word_law.proofs.Unmoved.{untouched_stays}
+use Rattle.carry_law.specs.Below.mut_borrow.declared.mutable.MutRef.{MutRef}
+use Rattle.carry_law.specs.Below.thread_state.View.{ThreadState}
+use Rattle.carry_law.specs.Below.thread_state.declared.value.Value.TheVariants as value
+use Rattle.carry_law.specs.Below.server_model.Servers.{Rest, Cluster, server_at}
+use Rattle.carry_law.specs.Below.server_model.Clusters.{with_server}
+use Rattle.carry_law.specs.Below.heap_law.Things.{Location, Thing, counts, partition_things, copy_things, mutex_things, task_things, waiting_things, leaving_things, things_at, standing_things, thread_things, server_things, things_of}
+use Rattle.carry_law.specs.Below.heap_law.Follow.{value_in}
+use Rattle.carry_law.specs.Below.heap_law.Sight.{sight}
+use Rattle.carry_law.specs.Below.heap_law.Coherent.{Holds, first_at_holder, IsSound}
+use Rattle.carry_law.specs.Below.word_law.Reworded.{HasPlaces}
+use Rattle.carry_law.specs.Below.word_law.Unmoved.{Untouched, LeavesWords}
+use Rattle.carry_law.proofs.Below.word_law.Put.{Split, split_whole, split_left, split_right, servers_split}
+use Rattle.carry_law.proofs.Below.word_law.Follows.{seen_places_lead}
+use Rattle.carry_law.proofs.Below.word_law.Unmoved.{untouched_stays}
 use Rattle.carry_law.specs.Carried.{Carried}
 use Rattle.carry_law.proofs.Carrying.{carried_stays}
 use Rattle.carry_law.proofs.Hands.{leaves_chain, RootedIn, rooted}

@@ -1,26 +1,26 @@
 -- A thread comes that has nothing: words see the same.
 use Rattle.std.proofs.Common.{◌≡◌, inl, inr, ⊎_elim, ℕ, Bool, List, ◌∷◌, Option, Some, None, refl, sym, ap, subst, ◌∙◌}
 use Rattle.std.specs.Prelude.{slice_get}
-use Rattle.fr_base.specs.declared.instruction.Instr.{Instr}
-use Rattle.fr_base.specs.declared.name.ObjNo.{ObjNo}
-use Rattle.heap_partition.specs.declared.value.Cell.{Cell}
-use Rattle.thread_state.specs.View.{ThreadState}
-use Rattle.thread_state.specs.declared.value.Value.{Value}
-use Rattle.server_model.specs.Servers.{Cluster}
-use Rattle.heap_law.specs.Names.{Among}
-use Rattle.heap_law.specs.Things.{Location, at_slot, at_temp, in_cell, Thing, lies, flies, stands, things_of}
-use Rattle.heap_law.specs.Follow.{Standing, threads_in, thread_at, cells_in, cell_of, slot_of, temp_of, value_of, value_in}
-use Rattle.heap_law.specs.Sight.{Pointer, pointers_of, pointers_in, sight}
-use Rattle.type_law.proofs.Branches.{found}
-use Rattle.path_law.proofs.Contained.{among_thread}
-use Rattle.word_law.specs.Reworded.{HasPlaces, LiesThere}
-use Rattle.word_law.specs.Unmoved.{pointing, owning, seen_at, Taking, taking_by, takings, Untouched}
-use Rattle.word_law.proofs.Loose.{box_nowhere}
-use Rattle.word_law.proofs.Standing.{CellOf, lying, flying, cell_among, cell_found, of_thing, pointers_among, stands_in}
-use Rattle.stay_law.proofs.Alike.{ShowsAs, Seen, Within, Alike, standing_turn}
+use Rattle.carry_law.specs.Below.fr_base.declared.instruction.Instr.{Instr}
+use Rattle.carry_law.specs.Below.fr_base.declared.name.ObjNo.{ObjNo}
+use Rattle.carry_law.specs.Below.heap_partition.declared.value.Cell.{Cell}
+use Rattle.carry_law.specs.Below.thread_state.View.{ThreadState}
+use Rattle.carry_law.specs.Below.thread_state.declared.value.Value.{Value}
+use Rattle.carry_law.specs.Below.server_model.Servers.{Cluster}
+use Rattle.carry_law.specs.Below.heap_law.Names.{Among}
+use Rattle.carry_law.specs.Below.heap_law.Things.{Location, at_slot, at_temp, in_cell, Thing, lies, flies, stands, things_of}
+use Rattle.carry_law.specs.Below.heap_law.Follow.{Standing, threads_in, thread_at, cells_in, cell_of, slot_of, temp_of, value_of, value_in}
+use Rattle.carry_law.specs.Below.heap_law.Sight.{Pointer, pointers_of, pointers_in, sight}
+use Rattle.carry_law.proofs.Below.type_law.Branches.{found}
+use Rattle.carry_law.proofs.Below.path_law.Contained.{among_thread}
+use Rattle.carry_law.specs.Below.word_law.Reworded.{HasPlaces, LiesThere}
+use Rattle.carry_law.specs.Below.word_law.Unmoved.{pointing, owning, seen_at, Taking, taking_by, takings, Untouched}
+use Rattle.carry_law.proofs.Below.word_law.Loose.{box_nowhere}
+use Rattle.carry_law.proofs.Below.word_law.Standing.{CellOf, lying, flying, cell_among, cell_found, of_thing, pointers_among, stands_in}
+use Rattle.carry_law.proofs.Below.stay_law.Alike.{ShowsAs, Seen, Within, Alike, standing_turn}
 use Rattle.carry_law.proofs.Far.{thread_thing, thing_thread, taking_listed, none_some}
 use Rattle.carry_law.proofs.Taken.{taker_of}
-use Rattle.stay_law.proofs.Seen.{pair, cell_pair, loose_on, taken_on}
+use Rattle.carry_law.proofs.Below.stay_law.Seen.{pair, cell_pair, loose_on, taken_on}
 
 same_thread : (s r : ℕ) (p q : Bool) (t u : ThreadState) → stands s p t ≡ stands r q u → t ≡ u
 same_thread s r p q t u e = cc

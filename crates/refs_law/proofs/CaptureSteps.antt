@@ -1,39 +1,39 @@
 -- What a new thread captures goes to it value by value: what moves as a gift, what is copied as a temporary value.
 use Rattle.std.proofs.Common.{◌≡◌, ◌⊎◌, inl, inr, ℕ, zero, suc, ◌+◌, Bool, true, false, if◌then◌else◌, List, [], ◌∷◌, ◌++◌, length, Option, Some, None, IsSome, refl, sym, ap, subst, ◌∙◌, arith}
 use Rattle.std.specs.Prelude.{slice_get, slice_set}
-use Rattle.fr_base.specs.declared.instruction.Instr.{Instr}
-use Rattle.fr_base.specs.declared.name.ObjNo.{ObjNo}
-use Rattle.heap_partition.specs.declared.value.Owned.{Owned}
-use Rattle.heap_partition.specs.declared.value.Owned.TheVariants as owned
-use Rattle.mut_borrow.specs.declared.mutable.MutRef.{MutRef}
-use Rattle.mut_borrow.specs.declared.shared.SharedRef.{SharedRef}
-use Rattle.thread_state.specs.View.{ThreadState}
-use Rattle.thread_state.specs.declared.value.Value.{Value}
-use Rattle.thread_state.specs.declared.value.Value.TheVariants as value
-use Rattle.server_model.specs.Servers.{Rest, Server, Cluster, server_at}
-use Rattle.server_model.specs.Work.{then_some}
-use Rattle.server_model.specs.Places.{owns_nothing}
-use Rattle.server_model.specs.Start.{captured, left_after, capture_from}
-use Rattle.heap_law.specs.Names.{Among, tot}
-use Rattle.heap_law.specs.Things.{Location, in_slot, at_slot, at_temp, Thing, holds, as_gift, shares, stands, counts, partition_things, copy_things, mutex_things, task_things, waiting_things, leaving_things, things_at, slot_things, temp_things, gift_things, walk_things, standing_things, thread_things, server_things, servers_things, things_of}
-use Rattle.heap_law.specs.Follow.{value_in}
-use Rattle.heap_law.specs.Sight.{sight}
-use Rattle.heap_law.specs.Weights.{cells, owners, is_thread}
-use Rattle.heap_law.specs.Coherent.{Holds, first_at_holder, IsSound}
-use Rattle.heap_law.proofs.Sums.{tot-append}
-use Rattle.path_law.proofs.Origins.{among_first, among_second}
-use Rattle.word_law.specs.Reworded.{HasPlaces}
-use Rattle.word_law.specs.Unmoved.{pointing, taking_by}
-use Rattle.word_law.proofs.Put.{Split}
-use Rattle.word_law.proofs.Standing.{standing_among}
-use Rattle.event_law.proofs.Bags.{body_things, all_standing}
-use Rattle.event_law.proofs.Events.{others_of, tot-server}
-use Rattle.stay_law.proofs.Alike.{ShowsAs, Alike, Within, Seen, seen_itself, within_both, within_first, itself, turned, chain, beside, in_front, joined, alone}
-use Rattle.stay_law.proofs.Servers.{held, held_if, server_body}
-use Rattle.stay_law.proofs.Threads.{slots_of, temps_of, thread_alike}
-use Rattle.stay_law.proofs.Sites.{replaced}
-use Rattle.stay_law.proofs.Steps.{IsUnseen, owned_unseen, last_points}
-use Rattle.stay_law.proofs.Seen.{seen_alike}
+use Rattle.carry_law.specs.Below.fr_base.declared.instruction.Instr.{Instr}
+use Rattle.carry_law.specs.Below.fr_base.declared.name.ObjNo.{ObjNo}
+use Rattle.carry_law.specs.Below.heap_partition.declared.value.Owned.{Owned}
+use Rattle.carry_law.specs.Below.heap_partition.declared.value.Owned.TheVariants as owned
+use Rattle.carry_law.specs.Below.mut_borrow.declared.mutable.MutRef.{MutRef}
+use Rattle.carry_law.specs.Below.mut_borrow.declared.shared.SharedRef.{SharedRef}
+use Rattle.carry_law.specs.Below.thread_state.View.{ThreadState}
+use Rattle.carry_law.specs.Below.thread_state.declared.value.Value.{Value}
+use Rattle.carry_law.specs.Below.thread_state.declared.value.Value.TheVariants as value
+use Rattle.carry_law.specs.Below.server_model.Servers.{Rest, Server, Cluster, server_at}
+use Rattle.carry_law.specs.Below.server_model.Work.{then_some}
+use Rattle.carry_law.specs.Below.server_model.Places.{owns_nothing}
+use Rattle.carry_law.specs.Below.server_model.Start.{captured, left_after, capture_from}
+use Rattle.carry_law.specs.Below.heap_law.Names.{Among, tot}
+use Rattle.carry_law.specs.Below.heap_law.Things.{Location, in_slot, at_slot, at_temp, Thing, holds, as_gift, shares, stands, counts, partition_things, copy_things, mutex_things, task_things, waiting_things, leaving_things, things_at, slot_things, temp_things, gift_things, walk_things, standing_things, thread_things, server_things, servers_things, things_of}
+use Rattle.carry_law.specs.Below.heap_law.Follow.{value_in}
+use Rattle.carry_law.specs.Below.heap_law.Sight.{sight}
+use Rattle.carry_law.specs.Below.heap_law.Weights.{cells, owners, is_thread}
+use Rattle.carry_law.specs.Below.heap_law.Coherent.{Holds, first_at_holder, IsSound}
+use Rattle.carry_law.proofs.Below.heap_law.Sums.{tot-append}
+use Rattle.carry_law.proofs.Below.path_law.Origins.{among_first, among_second}
+use Rattle.carry_law.specs.Below.word_law.Reworded.{HasPlaces}
+use Rattle.carry_law.specs.Below.word_law.Unmoved.{pointing, taking_by}
+use Rattle.carry_law.proofs.Below.word_law.Put.{Split}
+use Rattle.carry_law.proofs.Below.word_law.Standing.{standing_among}
+use Rattle.carry_law.proofs.Below.event_law.Bags.{body_things, all_standing}
+use Rattle.carry_law.proofs.Below.event_law.Events.{others_of, tot-server}
+use Rattle.carry_law.proofs.Below.stay_law.Alike.{ShowsAs, Alike, Within, Seen, seen_itself, within_both, within_first, itself, turned, chain, beside, in_front, joined, alone}
+use Rattle.carry_law.proofs.Below.stay_law.Servers.{held, held_if, server_body}
+use Rattle.carry_law.proofs.Below.stay_law.Threads.{slots_of, temps_of, thread_alike}
+use Rattle.carry_law.proofs.Below.stay_law.Sites.{replaced}
+use Rattle.carry_law.proofs.Below.stay_law.Steps.{IsUnseen, owned_unseen, last_points}
+use Rattle.carry_law.proofs.Below.stay_law.Seen.{seen_alike}
 use Rattle.carry_law.specs.Carried.{Carried}
 use Rattle.carry_law.proofs.Replaced.{tail_of, places_on}
 use Rattle.carry_law.proofs.Passing.{Here, slot, temp, nowhere, located, Passes, is_carried, is_quiet, here_a}

@@ -1,27 +1,27 @@
 -- Nothing names a slot that a new thread's captures move: what was moved before it is owned, so it blocks nothing.
 use Rattle.std.proofs.Common.{◌≡◌, inl, inr, ℕ, Bool, true, false, not, if◌then◌else◌, ◌||◌, List, [], ◌∷◌, length, Option, Some, None, refl, sym, ap, subst, ◌∙◌}
-use Rattle.fr_base.specs.Rooms.{WithRoom}
-use Rattle.fr_base.specs.declared.instruction.Instr.{Instr}
-use Rattle.fr_base.specs.declared.instruction.Instr.TheVariants as instr
-use Rattle.fr_typing.proofs.PlaceLemmas.{eq_cases}
-use Rattle.fr_typing.specs.Kinds.{Owned as OwnedType, Kind, own, shared, mutable, view, Piece, whole, gone, copies, map_some}
-use Rattle.fr_typing.specs.Places.{Env, found, type_at, blocks_write, write_blocked, put_at, heap_type}
-use Rattle.fr_typing.specs.Captures.{Capturer, by_spawn, by_par, captured_kind, captures_copy, captures_move}
-use Rattle.fr_code.specs.CodeTypes.{Entry, Table, SlotPasses, passes, SlotsPass, pass_none, pass_next, wait, InstrTypes, i_spawn, i_par}
-use Rattle.fr_code.specs.CodeTable.{Leads, to_next, ends, Successors}
-use Rattle.fr_store.specs.Keys.{slot_k}
-use Rattle.fr_store.specs.Typed.{Unnamed}
-use Rattle.fr_store.proofs.ThreadKept.{unnamed_key}
-use Rattle.fr_sound.specs.States.{hand_key, hand_kind}
-use Rattle.server_model.specs.Servers.{Cluster}
-use Rattle.heap_law.specs.Names.{Among}
-use Rattle.heap_law.specs.Follow.{Standing}
-use Rattle.heap_law.specs.Sight.{sight}
-use Rattle.heap_law.specs.Walking.{instr_of}
-use Rattle.path_law.specs.HeapStore.{heap_store, GoesOn, HasPaths}
-use Rattle.path_law.proofs.Sole.{some_is}
-use Rattle.path_law.proofs.Forms.{running_typed}
-use Rattle.path_law.proofs.MayWrites.{wait_names, top_free, awake_thread}
+use Rattle.carry_law.specs.Below.fr_base.Rooms.{WithRoom}
+use Rattle.carry_law.specs.Below.fr_base.declared.instruction.Instr.{Instr}
+use Rattle.carry_law.specs.Below.fr_base.declared.instruction.Instr.TheVariants as instr
+use Rattle.carry_law.proofs.Below.fr_typing.PlaceLemmas.{eq_cases}
+use Rattle.carry_law.specs.Below.fr_typing.Kinds.{Owned as OwnedType, Kind, own, shared, mutable, view, Piece, whole, gone, copies, map_some}
+use Rattle.carry_law.specs.Below.fr_typing.Places.{Env, found, type_at, blocks_write, write_blocked, put_at, heap_type}
+use Rattle.carry_law.specs.Below.fr_typing.Captures.{Capturer, by_spawn, by_par, captured_kind, captures_copy, captures_move}
+use Rattle.carry_law.specs.Below.fr_code.CodeTypes.{Entry, Table, SlotPasses, passes, SlotsPass, pass_none, pass_next, wait, InstrTypes, i_spawn, i_par}
+use Rattle.carry_law.specs.Below.fr_code.CodeTable.{Leads, to_next, ends, Successors}
+use Rattle.carry_law.specs.Below.fr_store.Keys.{slot_k}
+use Rattle.carry_law.specs.Below.fr_store.Typed.{Unnamed}
+use Rattle.carry_law.proofs.Below.fr_store.ThreadKept.{unnamed_key}
+use Rattle.carry_law.specs.Below.fr_sound.States.{hand_key, hand_kind}
+use Rattle.carry_law.specs.Below.server_model.Servers.{Cluster}
+use Rattle.carry_law.specs.Below.heap_law.Names.{Among}
+use Rattle.carry_law.specs.Below.heap_law.Follow.{Standing}
+use Rattle.carry_law.specs.Below.heap_law.Sight.{sight}
+use Rattle.carry_law.specs.Below.heap_law.Walking.{instr_of}
+use Rattle.carry_law.specs.Below.path_law.HeapStore.{heap_store, GoesOn, HasPaths}
+use Rattle.carry_law.proofs.Below.path_law.Sole.{some_is}
+use Rattle.carry_law.proofs.Below.path_law.Forms.{running_typed}
+use Rattle.carry_law.proofs.Below.path_law.MayWrites.{wait_names, top_free, awake_thread}
 
 found_is : {p q : Piece} → found p ≡ found q → p ≡ q
 found_is e = cc

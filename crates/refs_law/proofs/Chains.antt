@@ -1,34 +1,34 @@
 -- A step as a chain of small ones: a slot that no holder passes gives its value, a pointer is lost, a value moves.
 use Rattle.std.proofs.Common.{◌≡◌, ⊎_elim, ℕ, ◌+◌, ◌<◌, false, [], Option, Some, None, IsSome, refl, sym, ap, subst, ◌∙◌}
 use Rattle.std.specs.Prelude.{slice_get}
-use Rattle.mut_borrow.specs.declared.mutable.MutRef.{MutRef}
-use Rattle.thread_state.specs.View.{ThreadState}
-use Rattle.thread_state.specs.declared.value.Value.{Value}
-use Rattle.thread_state.specs.declared.value.Value.TheVariants as value
-use Rattle.server_model.specs.Servers.{Server, Cluster, server_at}
-use Rattle.server_model.specs.Work.{Hand, thread_in, put_back}
-use Rattle.server_model.specs.Events.{begin_at}
-use Rattle.heap_law.specs.Names.{Among, other}
-use Rattle.heap_law.specs.Things.{Location, at_slot, at_temp, thread_things, things_of}
-use Rattle.heap_law.specs.Follow.{Ground, value_in, value_behind, place_at}
-use Rattle.heap_law.specs.Stale.{Reference, references, holder_of}
-use Rattle.heap_law.specs.Sight.{sight}
-use Rattle.heap_law.specs.Placing.{is_first, other_first}
-use Rattle.heap_law.specs.Coherent.{Holds, first_at_holder, IsSound}
-use Rattle.heap_law.proofs.Words.{none_at}
-use Rattle.path_law.proofs.Contained.{reference_there}
-use Rattle.word_law.specs.Reworded.{HasPlaces}
-use Rattle.word_law.specs.Unmoved.{owning, seen_at, Taking, takings, Untouched, LeavesWords}
-use Rattle.word_law.specs.PutBack.{StandsHere}
-use Rattle.word_law.proofs.Put.{Split, put_split}
-use Rattle.word_law.proofs.Follows.{seen_places_lead}
-use Rattle.word_law.proofs.Takings.{reference_at}
-use Rattle.word_law.proofs.Unmoved.{untouched_stays}
-use Rattle.event_law.proofs.Bags.{thread_number}
-use Rattle.stay_law.proofs.Alike.{Alike}
-use Rattle.stay_law.proofs.Sites.{put_alike, begun_alike, servers_alike}
-use Rattle.stay_law.proofs.Steps.{hand_itself}
-use Rattle.stay_law.proofs.Seen.{seen_alike}
+use Rattle.carry_law.specs.Below.mut_borrow.declared.mutable.MutRef.{MutRef}
+use Rattle.carry_law.specs.Below.thread_state.View.{ThreadState}
+use Rattle.carry_law.specs.Below.thread_state.declared.value.Value.{Value}
+use Rattle.carry_law.specs.Below.thread_state.declared.value.Value.TheVariants as value
+use Rattle.carry_law.specs.Below.server_model.Servers.{Server, Cluster, server_at}
+use Rattle.carry_law.specs.Below.server_model.Work.{Hand, thread_in, put_back}
+use Rattle.carry_law.specs.Below.server_model.Events.{begin_at}
+use Rattle.carry_law.specs.Below.heap_law.Names.{Among, other}
+use Rattle.carry_law.specs.Below.heap_law.Things.{Location, at_slot, at_temp, thread_things, things_of}
+use Rattle.carry_law.specs.Below.heap_law.Follow.{Ground, value_in, value_behind, place_at}
+use Rattle.carry_law.specs.Below.heap_law.Stale.{Reference, references, holder_of}
+use Rattle.carry_law.specs.Below.heap_law.Sight.{sight}
+use Rattle.carry_law.specs.Below.heap_law.Placing.{is_first, other_first}
+use Rattle.carry_law.specs.Below.heap_law.Coherent.{Holds, first_at_holder, IsSound}
+use Rattle.carry_law.proofs.Below.heap_law.Words.{none_at}
+use Rattle.carry_law.proofs.Below.path_law.Contained.{reference_there}
+use Rattle.carry_law.specs.Below.word_law.Reworded.{HasPlaces}
+use Rattle.carry_law.specs.Below.word_law.Unmoved.{owning, seen_at, Taking, takings, Untouched, LeavesWords}
+use Rattle.carry_law.specs.Below.word_law.PutBack.{StandsHere}
+use Rattle.carry_law.proofs.Below.word_law.Put.{Split, put_split}
+use Rattle.carry_law.proofs.Below.word_law.Follows.{seen_places_lead}
+use Rattle.carry_law.proofs.Below.word_law.Takings.{reference_at}
+use Rattle.carry_law.proofs.Below.word_law.Unmoved.{untouched_stays}
+use Rattle.carry_law.proofs.Below.event_law.Bags.{thread_number}
+use Rattle.carry_law.proofs.Below.stay_law.Alike.{Alike}
+use Rattle.carry_law.proofs.Below.stay_law.Sites.{put_alike, begun_alike, servers_alike}
+use Rattle.carry_law.proofs.Below.stay_law.Steps.{hand_itself}
+use Rattle.carry_law.proofs.Below.stay_law.Seen.{seen_alike}
 use Rattle.carry_law.specs.Carried.{Carried}
 use Rattle.carry_law.proofs.Carrying.{is_at, carried_stays}
 use Rattle.carry_law.proofs.Replaced.{places_on}

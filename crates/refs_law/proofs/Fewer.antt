@@ -1,26 +1,26 @@
 -- Where pointers at no location go and nothing else changes that words see, the words stay.
 use Rattle.std.proofs.Common.{◌≡◌, ◌⊎◌, inl, inr, ⊎_elim, ℕ, true, Option, Some, None, refl, sym, ap, subst, ◌∙◌}
-use Rattle.fr_base.specs.declared.name.ObjNo.{ObjNo}
-use Rattle.fr_base.specs.declared.place.Lval.{Lval}
-use Rattle.heap_partition.specs.declared.value.Cell.{Cell}
-use Rattle.mut_borrow.specs.declared.mutable.MutRef.{MutRef}
-use Rattle.server_model.specs.Servers.{Cluster}
-use Rattle.thread_state.specs.declared.value.Value.TheVariants as value
-use Rattle.heap_law.specs.Names.{Among, other}
-use Rattle.heap_law.specs.Things.{Location, at_slot, in_cell, lies, things_of}
-use Rattle.heap_law.specs.Follow.{Ground, value_in, value_behind, leads}
-use Rattle.heap_law.specs.Stale.{Reference, references, holder_of, is_held_at}
-use Rattle.heap_law.specs.Sight.{Pointer, sight}
-use Rattle.heap_law.specs.Placing.{is_first, other_first, standing_pointers}
-use Rattle.heap_law.specs.Coherent.{Holds, first_at_holder}
-use Rattle.heap_law.specs.Words.{all_pointers, IsStale, HasWords, LeadsTo}
-use Rattle.heap_law.specs.Dirty.{DirtyAlone, PastWords}
-use Rattle.heap_law.proofs.Words.{none_at, none_all}
-use Rattle.word_law.specs.Reworded.{HasPlaces}
-use Rattle.word_law.specs.Unmoved.{seen_at, WordsStay}
-use Rattle.word_law.proofs.Follows.{seen_holders_lead}
-use Rattle.word_law.proofs.Takings.{leads_pointing, reference_at, first_at}
-use Rattle.word_law.proofs.Unmoved.{reference, stale_at, all, all_standing}
+use Rattle.carry_law.specs.Below.fr_base.declared.name.ObjNo.{ObjNo}
+use Rattle.carry_law.specs.Below.fr_base.declared.place.Lval.{Lval}
+use Rattle.carry_law.specs.Below.heap_partition.declared.value.Cell.{Cell}
+use Rattle.carry_law.specs.Below.mut_borrow.declared.mutable.MutRef.{MutRef}
+use Rattle.carry_law.specs.Below.server_model.Servers.{Cluster}
+use Rattle.carry_law.specs.Below.thread_state.declared.value.Value.TheVariants as value
+use Rattle.carry_law.specs.Below.heap_law.Names.{Among, other}
+use Rattle.carry_law.specs.Below.heap_law.Things.{Location, at_slot, in_cell, lies, things_of}
+use Rattle.carry_law.specs.Below.heap_law.Follow.{Ground, value_in, value_behind, leads}
+use Rattle.carry_law.specs.Below.heap_law.Stale.{Reference, references, holder_of, is_held_at}
+use Rattle.carry_law.specs.Below.heap_law.Sight.{Pointer, sight}
+use Rattle.carry_law.specs.Below.heap_law.Placing.{is_first, other_first, standing_pointers}
+use Rattle.carry_law.specs.Below.heap_law.Coherent.{Holds, first_at_holder}
+use Rattle.carry_law.specs.Below.heap_law.Words.{all_pointers, IsStale, HasWords, LeadsTo}
+use Rattle.carry_law.specs.Below.heap_law.Dirty.{DirtyAlone, PastWords}
+use Rattle.carry_law.proofs.Below.heap_law.Words.{none_at, none_all}
+use Rattle.carry_law.specs.Below.word_law.Reworded.{HasPlaces}
+use Rattle.carry_law.specs.Below.word_law.Unmoved.{seen_at, WordsStay}
+use Rattle.carry_law.proofs.Below.word_law.Follows.{seen_holders_lead}
+use Rattle.carry_law.proofs.Below.word_law.Takings.{leads_pointing, reference_at, first_at}
+use Rattle.carry_law.proofs.Below.word_law.Unmoved.{reference, stale_at, all, all_standing}
 use Rattle.refs_law.specs.Fewer.{IsRanked, Fewer, FewerStays}
 use Rattle.refs_law.proofs.FreshOwners.{fresh_owner}
 

@@ -1,33 +1,33 @@
 -- An object that lies somewhere has a pointer that isn't stale: its owner, or a reference above that.
 use Rattle.std.proofs.Common.{◌≡◌, ◌⊎◌, inl, inr, ⊎_elim, ℕ, zero, suc, ◌+◌, ◌<◌, ◌≤◌, ◌==◌, Bool, true, false, ◌||◌, List, [], ◌∷◌, Option, Some, None, refl, sym, ap, subst, ◌∙◌, arith}
-use Rattle.fr_base.specs.declared.name.ObjNo.{ObjNo}
-use Rattle.heap_partition.specs.declared.value.Cell.{Cell}
-use Rattle.heap_partition.specs.declared.value.Owned.{Owned}
-use Rattle.heap_partition.specs.declared.value.Owned.TheVariants as owned
-use Rattle.mut_borrow.specs.declared.mutable.MutRef.{MutRef}
-use Rattle.thread_state.specs.declared.value.Value.{Value}
-use Rattle.thread_state.specs.declared.value.Value.TheVariants as value
-use Rattle.server_msgs.specs.declared.message.Message.{Message}
-use Rattle.server_msgs.specs.declared.message.Message.TheVariants.{Drop}
-use Rattle.server_model.specs.Servers.{Cluster}
-use Rattle.heap_law.specs.Names.{Among, tot, one, other, same_object, boxes}
-use Rattle.heap_law.specs.Things.{Location, in_cell, Thing, holds, lies, flies, sent, things_of}
-use Rattle.heap_law.specs.Follow.{Ground, value_in, value_behind, leads, locate}
-use Rattle.heap_law.specs.Stale.{same_location, is_among, Reference, references, is_held_at, with_place, one_star_less, lent_places, changed_above, stale_above, taken_above}
-use Rattle.heap_law.specs.Sight.{Pointer, pointer_in, location_of, dropped_pointer, pointers_of, pointers_in, taken_object, taken_pointers, is_stale, sight}
-use Rattle.heap_law.specs.Placing.{is_first, other_first}
-use Rattle.heap_law.specs.Coherent.{Holds, first_at_holder}
-use Rattle.heap_law.specs.Weights.{cells, drops, owners}
-use Rattle.heap_law.specs.Words.{IsStale, Fresh}
-use Rattle.heap_law.proofs.Words.{itself, named, none_at, tells as tells_stale, told as told_stale}
-use Rattle.path_law.proofs.Climbs.{and_second}
-use Rattle.path_law.proofs.FreshPaths.{held_at, same_is}
-use Rattle.path_law.proofs.Origins.{among_first, among_second}
-use Rattle.word_law.specs.Reworded.{HasPlaces}
-use Rattle.word_law.specs.Unmoved.{takings}
-use Rattle.word_law.proofs.Grounds.{of_borrows}
-use Rattle.word_law.proofs.Standing.{pointer_at, tells, told, borrow_stands}
-use Rattle.word_law.proofs.Takings.{lents_are, takens_are, lent_by, taken_by, lent_told, taken_listed}
+use Rattle.carry_law.specs.Below.fr_base.declared.name.ObjNo.{ObjNo}
+use Rattle.carry_law.specs.Below.heap_partition.declared.value.Cell.{Cell}
+use Rattle.carry_law.specs.Below.heap_partition.declared.value.Owned.{Owned}
+use Rattle.carry_law.specs.Below.heap_partition.declared.value.Owned.TheVariants as owned
+use Rattle.carry_law.specs.Below.mut_borrow.declared.mutable.MutRef.{MutRef}
+use Rattle.carry_law.specs.Below.thread_state.declared.value.Value.{Value}
+use Rattle.carry_law.specs.Below.thread_state.declared.value.Value.TheVariants as value
+use Rattle.carry_law.specs.Below.server_msgs.declared.message.Message.{Message}
+use Rattle.carry_law.specs.Below.server_msgs.declared.message.Message.TheVariants.{Drop}
+use Rattle.carry_law.specs.Below.server_model.Servers.{Cluster}
+use Rattle.carry_law.specs.Below.heap_law.Names.{Among, tot, one, other, same_object, boxes}
+use Rattle.carry_law.specs.Below.heap_law.Things.{Location, in_cell, Thing, holds, lies, flies, sent, things_of}
+use Rattle.carry_law.specs.Below.heap_law.Follow.{Ground, value_in, value_behind, leads, locate}
+use Rattle.carry_law.specs.Below.heap_law.Stale.{same_location, is_among, Reference, references, is_held_at, with_place, one_star_less, lent_places, changed_above, stale_above, taken_above}
+use Rattle.carry_law.specs.Below.heap_law.Sight.{Pointer, pointer_in, location_of, dropped_pointer, pointers_of, pointers_in, taken_object, taken_pointers, is_stale, sight}
+use Rattle.carry_law.specs.Below.heap_law.Placing.{is_first, other_first}
+use Rattle.carry_law.specs.Below.heap_law.Coherent.{Holds, first_at_holder}
+use Rattle.carry_law.specs.Below.heap_law.Weights.{cells, drops, owners}
+use Rattle.carry_law.specs.Below.heap_law.Words.{IsStale, Fresh}
+use Rattle.carry_law.proofs.Below.heap_law.Words.{itself, named, none_at, tells as tells_stale, told as told_stale}
+use Rattle.carry_law.proofs.Below.path_law.Climbs.{and_second}
+use Rattle.carry_law.proofs.Below.path_law.FreshPaths.{held_at, same_is}
+use Rattle.carry_law.proofs.Below.path_law.Origins.{among_first, among_second}
+use Rattle.carry_law.specs.Below.word_law.Reworded.{HasPlaces}
+use Rattle.carry_law.specs.Below.word_law.Unmoved.{takings}
+use Rattle.carry_law.proofs.Below.word_law.Grounds.{of_borrows}
+use Rattle.carry_law.proofs.Below.word_law.Standing.{pointer_at, tells, told, borrow_stands}
+use Rattle.carry_law.proofs.Below.word_law.Takings.{lents_are, takens_are, lent_by, taken_by, lent_told, taken_listed}
 use Rattle.refs_law.specs.Fewer.{IsRanked, RankedAreFresh}
 
 -- ITS OWNER

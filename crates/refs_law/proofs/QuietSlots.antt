@@ -1,23 +1,23 @@
 -- Where a value goes from a slot that no holder passes, holders and what was taken are where they were.
 use Rattle.std.proofs.Common.{◌≡◌, ◌⊎◌, inl, inr, ⊎_elim, ℕ, zero, suc, ◌+◌, ◌-◌, ◌≤◌, false, Option, Some, None, refl, sym, ap, subst, ◌∙◌, arith}
 use Rattle.std.specs.Prelude.{slice_get}
-use Rattle.heap_partition.specs.declared.value.Owned.TheVariants as owned
-use Rattle.mut_borrow.specs.declared.mutable.MutRef.{MutRef}
-use Rattle.thread_state.specs.View.{ThreadState}
-use Rattle.thread_state.specs.declared.value.Value.{Value}
-use Rattle.thread_state.specs.declared.value.Value.TheVariants as value
-use Rattle.server_model.specs.Servers.{Cluster}
-use Rattle.heap_law.specs.Names.{Among}
-use Rattle.heap_law.specs.Things.{Location, at_slot, at_temp, in_cell, thread_things, things_of}
-use Rattle.heap_law.specs.Follow.{Ground, Standing, thread_at, value_in, value_behind, leads, locate, place_at}
-use Rattle.heap_law.specs.Stale.{holder_of, one_star_less}
-use Rattle.heap_law.specs.Sight.{sight}
-use Rattle.type_law.proofs.Branches.{found}
-use Rattle.path_law.proofs.Sole.{some_is}
-use Rattle.word_law.specs.Reworded.{HasPlaces}
-use Rattle.word_law.specs.Unmoved.{pointing, seen_at, Taking, taking_of, takings}
-use Rattle.word_law.proofs.Grounds.{same_place}
-use Rattle.word_law.proofs.Put.{Split}
+use Rattle.carry_law.specs.Below.heap_partition.declared.value.Owned.TheVariants as owned
+use Rattle.carry_law.specs.Below.mut_borrow.declared.mutable.MutRef.{MutRef}
+use Rattle.carry_law.specs.Below.thread_state.View.{ThreadState}
+use Rattle.carry_law.specs.Below.thread_state.declared.value.Value.{Value}
+use Rattle.carry_law.specs.Below.thread_state.declared.value.Value.TheVariants as value
+use Rattle.carry_law.specs.Below.server_model.Servers.{Cluster}
+use Rattle.carry_law.specs.Below.heap_law.Names.{Among}
+use Rattle.carry_law.specs.Below.heap_law.Things.{Location, at_slot, at_temp, in_cell, thread_things, things_of}
+use Rattle.carry_law.specs.Below.heap_law.Follow.{Ground, Standing, thread_at, value_in, value_behind, leads, locate, place_at}
+use Rattle.carry_law.specs.Below.heap_law.Stale.{holder_of, one_star_less}
+use Rattle.carry_law.specs.Below.heap_law.Sight.{sight}
+use Rattle.carry_law.proofs.Below.type_law.Branches.{found}
+use Rattle.carry_law.proofs.Below.path_law.Sole.{some_is}
+use Rattle.carry_law.specs.Below.word_law.Reworded.{HasPlaces}
+use Rattle.carry_law.specs.Below.word_law.Unmoved.{pointing, seen_at, Taking, taking_of, takings}
+use Rattle.carry_law.proofs.Below.word_law.Grounds.{same_place}
+use Rattle.carry_law.proofs.Below.word_law.Put.{Split}
 use Rattle.carry_law.proofs.Replaced.{at_a}
 use Rattle.carry_law.proofs.Passing.{Here, slot, temp, nowhere, located, Passes, Quiet, here_a, elsewhere, no_temp, leads_points, seen_leads, holder_no_temp}
 use Rattle.carry_law.proofs.Taken.{taker_of, taking_thread}

@@ -1,21 +1,21 @@
 -- By types each mutable reference ranks above the pointer that it was made from.
 use Rattle.std.proofs.Common.{◌≡◌, ℕ, suc, ◌<◌, Some, ap, arith}
-use Rattle.fr_base.specs.declared.name.ObjNo.{ObjNo}
-use Rattle.fr_store.specs.Keys.{Key, slot_k, temp_k}
-use Rattle.fr_store.specs.Store.{at_key, at_object, Store}
-use Rattle.fr_store.specs.Typed.{KeyTypes}
-use Rattle.mut_borrow.specs.declared.mutable.MutRef.{MutRef}
-use Rattle.thread_state.specs.declared.value.Value.TheVariants as value
-use Rattle.server_model.specs.Servers.{Cluster}
-use Rattle.heap_law.specs.Things.{Location, at_slot, at_temp, in_cell}
-use Rattle.heap_law.specs.Follow.{Ground, value_in}
-use Rattle.heap_law.specs.Stale.{Reference, holder_of}
-use Rattle.heap_law.specs.Sight.{sight}
-use Rattle.path_law.specs.Above.{IsMadeFrom}
-use Rattle.path_law.specs.HeapStore.{in_store, heap_store, HasPaths}
-use Rattle.path_law.proofs.Circles.{made_rank}
-use Rattle.path_law.proofs.Contained.{reference_there, held_there}
-use Rattle.path_law.proofs.FreshPaths.{flat, holds_there}
+use Rattle.carry_law.specs.Below.fr_base.declared.name.ObjNo.{ObjNo}
+use Rattle.carry_law.specs.Below.fr_store.Keys.{Key, slot_k, temp_k}
+use Rattle.carry_law.specs.Below.fr_store.Store.{at_key, at_object, Store}
+use Rattle.carry_law.specs.Below.fr_store.Typed.{KeyTypes}
+use Rattle.carry_law.specs.Below.mut_borrow.declared.mutable.MutRef.{MutRef}
+use Rattle.carry_law.specs.Below.thread_state.declared.value.Value.TheVariants as value
+use Rattle.carry_law.specs.Below.server_model.Servers.{Cluster}
+use Rattle.carry_law.specs.Below.heap_law.Things.{Location, at_slot, at_temp, in_cell}
+use Rattle.carry_law.specs.Below.heap_law.Follow.{Ground, value_in}
+use Rattle.carry_law.specs.Below.heap_law.Stale.{Reference, holder_of}
+use Rattle.carry_law.specs.Below.heap_law.Sight.{sight}
+use Rattle.carry_law.specs.Below.path_law.Above.{IsMadeFrom}
+use Rattle.carry_law.specs.Below.path_law.HeapStore.{in_store, heap_store, HasPaths}
+use Rattle.carry_law.proofs.Below.path_law.Circles.{made_rank}
+use Rattle.carry_law.proofs.Below.path_law.Contained.{reference_there, held_there}
+use Rattle.carry_law.proofs.Below.path_law.FreshPaths.{flat, holds_there}
 use Rattle.refs_law.specs.Fewer.{TypesRank}
 
 same_key : {a b : Key} → at_key a ≡ at_key b → a ≡ b

@@ -1,47 +1,47 @@
 -- Steps in which a reference goes, in their cluster.
 use Rattle.std.proofs.Common.{◌≡◌, ℕ, suc, ◌-◌, Bool, true, false, List, [], ◌∷◌, ◌++◌, Some, None, refl, sym, ap, subst, ◌∙◌}
 use Rattle.std.specs.Prelude.{slice_get, length}
-use Rattle.fr_base.specs.declared.place.Lval.{Lval}
-use Rattle.fr_base.specs.declared.instruction.Operand.{Operand}
-use Rattle.fr_base.specs.declared.instruction.Instr.{Instr}
-use Rattle.fr_base.specs.declared.instruction.Instr.TheVariants as instr
-use Rattle.fr_base.specs.declared.step.Fresh.TheVariants as fresh
-use Rattle.journal.specs.View.{EntryView}
-use Rattle.mut_borrow.specs.declared.mutable.MutRef.{MutRef}
-use Rattle.thread_state.specs.View.{ThreadState}
-use Rattle.thread_state.specs.declared.phase.Phase.{Phase}
-use Rattle.thread_state.specs.declared.phase.Phase.TheVariants as phase
-use Rattle.thread_state.specs.declared.value.Value.{Value}
-use Rattle.thread_state.specs.declared.value.Value.TheVariants as value
-use Rattle.server_model.specs.declared.event.What.TheVariants.{Step}
-use Rattle.server_model.specs.Servers.{Server, Cluster, server_at}
-use Rattle.server_model.specs.Work.{Hand, last_of, front_of, with_slots, with_temps, thread_in, without_thread, then_some, pop}
-use Rattle.server_model.specs.Clusters.{apply}
-use Rattle.server_model.specs.Places.{Spot, nowhere as no_spot, in_slot as spot_slot, on_top}
-use Rattle.server_model.specs.Prepare.{ending, assigned, prepare, read_or_taken, read_stars}
-use Rattle.server_model.specs.Commit.{goes_on, assign, replace_slot, read, discard, drop_slot}
-use Rattle.server_model.specs.Events.{can_step, has_phase, enabled, does, Stepped, committed, prepared, step}
-use Rattle.heap_law.specs.Things.{at_slot, servers_things}
-use Rattle.heap_law.specs.Follow.{Standing}
-use Rattle.heap_law.specs.Sight.{sight}
-use Rattle.type_law.specs.ClusterTypes.{IsCoherent}
-use Rattle.path_law.specs.HeapStore.{GoesOn, HasPaths}
-use Rattle.path_law.specs.Pointing.{moves as moves_from, assigns as assigns_to}
-use Rattle.path_law.proofs.Alike.{coherent_has_paths}
-use Rattle.path_law.proofs.Contained.{among_thread}
+use Rattle.carry_law.specs.Below.fr_base.declared.place.Lval.{Lval}
+use Rattle.carry_law.specs.Below.fr_base.declared.instruction.Operand.{Operand}
+use Rattle.carry_law.specs.Below.fr_base.declared.instruction.Instr.{Instr}
+use Rattle.carry_law.specs.Below.fr_base.declared.instruction.Instr.TheVariants as instr
+use Rattle.carry_law.specs.Below.fr_base.declared.step.Fresh.TheVariants as fresh
+use Rattle.carry_law.specs.Below.journal.View.{EntryView}
+use Rattle.carry_law.specs.Below.mut_borrow.declared.mutable.MutRef.{MutRef}
+use Rattle.carry_law.specs.Below.thread_state.View.{ThreadState}
+use Rattle.carry_law.specs.Below.thread_state.declared.phase.Phase.{Phase}
+use Rattle.carry_law.specs.Below.thread_state.declared.phase.Phase.TheVariants as phase
+use Rattle.carry_law.specs.Below.thread_state.declared.value.Value.{Value}
+use Rattle.carry_law.specs.Below.thread_state.declared.value.Value.TheVariants as value
+use Rattle.carry_law.specs.Below.server_model.declared.event.What.TheVariants.{Step}
+use Rattle.carry_law.specs.Below.server_model.Servers.{Server, Cluster, server_at}
+use Rattle.carry_law.specs.Below.server_model.Work.{Hand, last_of, front_of, with_slots, with_temps, thread_in, without_thread, then_some, pop}
+use Rattle.carry_law.specs.Below.server_model.Clusters.{apply}
+use Rattle.carry_law.specs.Below.server_model.Places.{Spot, nowhere as no_spot, in_slot as spot_slot, on_top}
+use Rattle.carry_law.specs.Below.server_model.Prepare.{ending, assigned, prepare, read_or_taken, read_stars}
+use Rattle.carry_law.specs.Below.server_model.Commit.{goes_on, assign, replace_slot, read, discard, drop_slot}
+use Rattle.carry_law.specs.Below.server_model.Events.{can_step, has_phase, enabled, does, Stepped, committed, prepared, step}
+use Rattle.carry_law.specs.Below.heap_law.Things.{at_slot, servers_things}
+use Rattle.carry_law.specs.Below.heap_law.Follow.{Standing}
+use Rattle.carry_law.specs.Below.heap_law.Sight.{sight}
+use Rattle.carry_law.specs.Below.type_law.ClusterTypes.{IsCoherent}
+use Rattle.carry_law.specs.Below.path_law.HeapStore.{GoesOn, HasPaths}
+use Rattle.carry_law.specs.Below.path_law.Pointing.{moves as moves_from, assigns as assigns_to}
+use Rattle.carry_law.proofs.Below.path_law.Alike.{coherent_has_paths}
+use Rattle.carry_law.proofs.Below.path_law.Contained.{among_thread}
 use Rattle.carry_law.specs.Below.end_law.Dropped.{GivesUp, written, dropped}
 use Rattle.carry_law.proofs.Below.end_law.Given.{given_up_may_be}
-use Rattle.word_law.specs.Unmoved.{taking_by, LeavesWords}
-use Rattle.event_law.specs.Kinds.{instr_kind}
-use Rattle.event_law.specs.Laws.{Gives}
-use Rattle.event_law.proofs.Proved.{IsProvedKind}
-use Rattle.event_law.proofs.RulesKeep.{sums_kept, sums_spend}
-use Rattle.event_law.proofs.Bags.{all_standing}
-use Rattle.event_law.proofs.Events.{others_of}
-use Rattle.event_law.proofs.Steps.{step_keeps}
-use Rattle.event_law.proofs.ThreadThere.{thread_there}
-use Rattle.event_law.proofs.Values.{last_split}
-use Rattle.stay_law.proofs.Steps.{TakesNoneHere}
+use Rattle.carry_law.specs.Below.word_law.Unmoved.{taking_by, LeavesWords}
+use Rattle.carry_law.specs.Below.event_law.Kinds.{instr_kind}
+use Rattle.carry_law.specs.Below.event_law.Laws.{Gives}
+use Rattle.carry_law.proofs.Below.event_law.Proved.{IsProvedKind}
+use Rattle.carry_law.proofs.Below.event_law.RulesKeep.{sums_kept, sums_spend}
+use Rattle.carry_law.proofs.Below.event_law.Bags.{all_standing}
+use Rattle.carry_law.proofs.Below.event_law.Events.{others_of}
+use Rattle.carry_law.proofs.Below.event_law.Steps.{step_keeps}
+use Rattle.carry_law.proofs.Below.event_law.ThreadThere.{thread_there}
+use Rattle.carry_law.proofs.Below.event_law.Values.{last_split}
+use Rattle.carry_law.proofs.Below.stay_law.Steps.{TakesNoneHere}
 use Rattle.carry_law.proofs.Below.prepare_law.Hands.{calm_goes}
 use Rattle.carry_law.proofs.Below.prepare_law.Asking.{found_number}
 use Rattle.carry_law.proofs.Passing.{slot, temp}

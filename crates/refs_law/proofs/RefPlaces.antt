@@ -1,27 +1,27 @@
 -- How a value of a slot goes to the end of the temporary values, whatever it is, and how a reference goes from there.
 use Rattle.std.proofs.Common.{◌≡◌, ⊎_elim, ℕ, zero, suc, ◌+◌, Bool, true, false, if◌then◌else◌, List, [], ◌∷◌, ◌++◌, Some, None, refl, sym, ap, subst, ◌∙◌, arith}
 use Rattle.std.specs.Prelude.{slice_get, slice_set, length}
-use Rattle.fr_base.specs.declared.instruction.Instr.{Instr}
-use Rattle.fr_base.specs.declared.name.ObjNo.{ObjNo}
-use Rattle.thread_state.specs.View.{ThreadState}
-use Rattle.thread_state.specs.declared.value.Value.{Value}
-use Rattle.thread_state.specs.declared.value.Value.TheVariants as value
-use Rattle.server_model.specs.Servers.{Cluster}
-use Rattle.heap_law.specs.Names.{Among, tot}
-use Rattle.heap_law.specs.Things.{Location, in_slot, in_temp, at_slot, at_temp, in_cell, Thing, uses, things_at, slot_things, temp_things, gift_things, walk_things, thread_things, things_of}
-use Rattle.heap_law.specs.Follow.{value_in}
-use Rattle.heap_law.specs.Sight.{Pointer, pointers_in, sight}
-use Rattle.heap_law.specs.Placing.{standing_in}
-use Rattle.heap_law.specs.Weights.{owners}
-use Rattle.heap_law.proofs.Sums.{tot-append}
-use Rattle.word_law.specs.Reworded.{HasPlaces}
-use Rattle.word_law.specs.Unmoved.{pointing, owning, seen_at, taking_by, takings}
-use Rattle.word_law.proofs.Put.{Split}
-use Rattle.word_law.proofs.Slots.{set_same, set_other}
-use Rattle.word_law.proofs.Standing.{stands_in}
-use Rattle.path_law.proofs.Origins.{among_first}
-use Rattle.stay_law.proofs.Steps.{last_points}
-use Rattle.stay_law.proofs.Alike.{Alike, Within, standing_turn, within_both, within_first, within_second, itself, turned, chain, beside, exchanged, in_front, joined}
+use Rattle.carry_law.specs.Below.fr_base.declared.instruction.Instr.{Instr}
+use Rattle.carry_law.specs.Below.fr_base.declared.name.ObjNo.{ObjNo}
+use Rattle.carry_law.specs.Below.thread_state.View.{ThreadState}
+use Rattle.carry_law.specs.Below.thread_state.declared.value.Value.{Value}
+use Rattle.carry_law.specs.Below.thread_state.declared.value.Value.TheVariants as value
+use Rattle.carry_law.specs.Below.server_model.Servers.{Cluster}
+use Rattle.carry_law.specs.Below.heap_law.Names.{Among, tot}
+use Rattle.carry_law.specs.Below.heap_law.Things.{Location, in_slot, in_temp, at_slot, at_temp, in_cell, Thing, uses, things_at, slot_things, temp_things, gift_things, walk_things, thread_things, things_of}
+use Rattle.carry_law.specs.Below.heap_law.Follow.{value_in}
+use Rattle.carry_law.specs.Below.heap_law.Sight.{Pointer, pointers_in, sight}
+use Rattle.carry_law.specs.Below.heap_law.Placing.{standing_in}
+use Rattle.carry_law.specs.Below.heap_law.Weights.{owners}
+use Rattle.carry_law.proofs.Below.heap_law.Sums.{tot-append}
+use Rattle.carry_law.specs.Below.word_law.Reworded.{HasPlaces}
+use Rattle.carry_law.specs.Below.word_law.Unmoved.{pointing, owning, seen_at, taking_by, takings}
+use Rattle.carry_law.proofs.Below.word_law.Put.{Split}
+use Rattle.carry_law.proofs.Below.word_law.Slots.{set_same, set_other}
+use Rattle.carry_law.proofs.Below.word_law.Standing.{stands_in}
+use Rattle.carry_law.proofs.Below.path_law.Origins.{among_first}
+use Rattle.carry_law.proofs.Below.stay_law.Steps.{last_points}
+use Rattle.carry_law.proofs.Below.stay_law.Alike.{Alike, Within, standing_turn, within_both, within_first, within_second, itself, turned, chain, beside, exchanged, in_front, joined}
 use Rattle.carry_law.proofs.Passing.{slot, temp, Passes, between}
 use Rattle.carry_law.proofs.Places.{end_is, end_none, end_other, end_things, end_sum, value_moves, value_owns}
 use Rattle.carry_law.proofs.Replaced.{tail_of, in_slots, in_temps, in_cells, takings_same, lies_back, pointer_back, standing_back, of_thread}

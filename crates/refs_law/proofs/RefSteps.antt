@@ -1,29 +1,29 @@
 -- What a step does to its thread and its server where a reference goes, as words see it.
 use Rattle.std.proofs.Common.{◌≡◌, ◌⊎◌, inl, inr, ℕ, Bool, true, false, if◌then◌else◌, List, [], ◌∷◌, ◌++◌, Option, Some, None, option_map, refl, sym, ap, subst, ◌∙◌}
 use Rattle.std.specs.Prelude.{nat_lt, slice_get, slice_set, length}
-use Rattle.fr_base.specs.declared.instruction.Operand.{Operand}
-use Rattle.fr_base.specs.declared.instruction.Operand.TheVariants as operand
-use Rattle.fr_base.specs.declared.instruction.Instr.{Instr}
-use Rattle.heap_partition.specs.declared.value.Owned.TheVariants as owned
-use Rattle.read_cache.specs.Cache.{can_unpin, unpin}
-use Rattle.thread_state.specs.View.{ThreadState}
-use Rattle.thread_state.specs.declared.value.Value.{Value}
-use Rattle.thread_state.specs.declared.value.Value.TheVariants as value
-use Rattle.server_model.specs.Work.{Hand, Popped, last_of, front_of, with_cache, with_slots, with_temps, push_temp, pop, then_some, working, unit}
-use Rattle.server_model.specs.Drop.{unpin_ref, drop_value}
-use Rattle.server_model.specs.Places.{load_at, in_slot as spot_slot, nowhere as no_spot, put_slot}
-use Rattle.server_model.specs.Commit.{label_dropped, replace_slot, read, read_as, discard, drop_slot}
-use Rattle.heap_law.specs.Things.{in_slot, at_slot, things_at, slot_things, thread_things}
-use Rattle.word_law.specs.Unmoved.{pointing}
-use Rattle.word_law.proofs.Slots.{set_same}
-use Rattle.event_law.specs.Laws.{Gives}
-use Rattle.event_law.proofs.Results.{weaker}
-use Rattle.event_law.proofs.Values.{last_split}
-use Rattle.event_law.proofs.Bags.{body_things}
-use Rattle.stay_law.proofs.Alike.{Alike, itself, turned, beside}
-use Rattle.stay_law.proofs.Servers.{held_if, other_copies}
-use Rattle.stay_law.proofs.Threads.{temps_of, thread_alike}
-use Rattle.stay_law.proofs.Steps.{IsUnseen, owned_unseen, TakesNoneHere}
+use Rattle.carry_law.specs.Below.fr_base.declared.instruction.Operand.{Operand}
+use Rattle.carry_law.specs.Below.fr_base.declared.instruction.Operand.TheVariants as operand
+use Rattle.carry_law.specs.Below.fr_base.declared.instruction.Instr.{Instr}
+use Rattle.carry_law.specs.Below.heap_partition.declared.value.Owned.TheVariants as owned
+use Rattle.carry_law.specs.Below.read_cache.Cache.{can_unpin, unpin}
+use Rattle.carry_law.specs.Below.thread_state.View.{ThreadState}
+use Rattle.carry_law.specs.Below.thread_state.declared.value.Value.{Value}
+use Rattle.carry_law.specs.Below.thread_state.declared.value.Value.TheVariants as value
+use Rattle.carry_law.specs.Below.server_model.Work.{Hand, Popped, last_of, front_of, with_cache, with_slots, with_temps, push_temp, pop, then_some, working, unit}
+use Rattle.carry_law.specs.Below.server_model.Drop.{unpin_ref, drop_value}
+use Rattle.carry_law.specs.Below.server_model.Places.{load_at, in_slot as spot_slot, nowhere as no_spot, put_slot}
+use Rattle.carry_law.specs.Below.server_model.Commit.{label_dropped, replace_slot, read, read_as, discard, drop_slot}
+use Rattle.carry_law.specs.Below.heap_law.Things.{in_slot, at_slot, things_at, slot_things, thread_things}
+use Rattle.carry_law.specs.Below.word_law.Unmoved.{pointing}
+use Rattle.carry_law.proofs.Below.word_law.Slots.{set_same}
+use Rattle.carry_law.specs.Below.event_law.Laws.{Gives}
+use Rattle.carry_law.proofs.Below.event_law.Results.{weaker}
+use Rattle.carry_law.proofs.Below.event_law.Values.{last_split}
+use Rattle.carry_law.proofs.Below.event_law.Bags.{body_things}
+use Rattle.carry_law.proofs.Below.stay_law.Alike.{Alike, itself, turned, beside}
+use Rattle.carry_law.proofs.Below.stay_law.Servers.{held_if, other_copies}
+use Rattle.carry_law.proofs.Below.stay_law.Threads.{temps_of, thread_alike}
+use Rattle.carry_law.proofs.Below.stay_law.Steps.{IsUnseen, owned_unseen, TakesNoneHere}
 use Rattle.carry_law.proofs.Passing.{slot, temp}
 use Rattle.carry_law.proofs.Places.{set_things, set_twice, set_seen, slot_filled}
 use Rattle.carry_law.proofs.Hands.{seen, passed, moved_on}

@@ -1,51 +1,51 @@
 -- The start of a thread or a pair in its cluster.
 use Rattle.std.proofs.Common.{◌≡◌, ◌⊎◌, inl, inr, ⊎_elim, ℕ, ◌+◌, ◌*◌, ◌^◌, ◌≤◌, ◌<◌, Bool, true, false, if◌then◌else◌, List, [], ◌∷◌, ◌++◌, Option, Some, None, option_map, refl, sym, ap, subst, ◌∙◌, arith}
 use Rattle.std.specs.Prelude.{slice_get}
-use Rattle.fr_typing.proofs.PlaceLemmas.{eq_cases}
-use Rattle.fr_base.specs.Rooms.{WithRoom}
-use Rattle.fr_base.specs.declared.instruction.Instr.{Instr}
-use Rattle.fr_base.specs.declared.instruction.Instr.TheVariants as instr
-use Rattle.journal.specs.View.{EntryView}
-use Rattle.thread_state.specs.View.{ThreadState, new_thread}
-use Rattle.thread_state.specs.declared.phase.Phase.{Phase}
-use Rattle.thread_state.specs.declared.phase.Phase.TheVariants as phase
-use Rattle.thread_state.specs.declared.value.Value.{Value}
-use Rattle.server_model.specs.declared.event.Event.{Event}
-use Rattle.server_model.specs.declared.event.What.TheVariants.{Step}
-use Rattle.server_model.specs.Servers.{Server, Cluster, server_at}
-use Rattle.server_model.specs.Work.{Hand, thread_in, set_thread, without_thread, then_some}
-use Rattle.server_model.specs.Start.{next_thread, capture}
-use Rattle.server_model.specs.Clusters.{with_server, done_at, act_at, apply}
-use Rattle.server_model.specs.Events.{can_step, has_phase, enabled, begin_work, does, Stepped, step, step_in, stepped}
-use Rattle.heap_law.specs.Names.{Among, tot, one}
-use Rattle.heap_law.specs.Things.{at_slot, Thing, stands, things_at, gift_things, walk_things, standing_things, thread_things, server_things, things_of}
-use Rattle.heap_law.specs.Follow.{Standing}
-use Rattle.heap_law.specs.Sight.{sight}
-use Rattle.heap_law.specs.Weights.{cells, owners, is_thread}
-use Rattle.heap_law.proofs.Sums.{tot-append}
-use Rattle.type_law.specs.ClusterTypes.{IsCoherent}
-use Rattle.path_law.specs.HeapStore.{GoesOn, HasPaths}
-use Rattle.path_law.proofs.Alike.{coherent_has_paths}
-use Rattle.path_law.proofs.Contained.{among_thread}
-use Rattle.word_law.specs.Reworded.{HasPlaces}
-use Rattle.word_law.specs.Unmoved.{taking_by, Untouched, LeavesWords}
-use Rattle.word_law.proofs.Unmoved.{untouched_stays}
-use Rattle.event_law.specs.Laws.{Gives, FewEvents}
-use Rattle.event_law.proofs.Results.{over_gives, both_give}
-use Rattle.event_law.proofs.Bags.{body_things, all_standing, tot-without, thread_number}
-use Rattle.event_law.proofs.Events.{tot-server}
-use Rattle.event_law.proofs.Sound.{sound_has_sums}
-use Rattle.event_law.proofs.NewThreads.{new_names}
-use Rattle.event_law.proofs.Each.{names_left, each_part}
-use Rattle.event_law.proofs.GiftsTaken.{gift_fits}
-use Rattle.event_law.proofs.ThreadThere.{thread_there}
-use Rattle.stay_law.proofs.Alike.{Alike, itself, turned, chain, beside, exchanged, in_front, joined}
-use Rattle.stay_law.proofs.Lists.{thread_taken, thread_set, taken_alike, shifted}
-use Rattle.stay_law.proofs.Servers.{held_if, server_body}
-use Rattle.stay_law.proofs.Threads.{slots_of, temps_of, thread_alike}
-use Rattle.stay_law.proofs.Sites.{replaced, servers_alike}
-use Rattle.stay_law.proofs.Seen.{seen_alike}
-use Rattle.stay_law.proofs.Steps.{TakesNoneHere}
+use Rattle.carry_law.proofs.Below.fr_typing.PlaceLemmas.{eq_cases}
+use Rattle.carry_law.specs.Below.fr_base.Rooms.{WithRoom}
+use Rattle.carry_law.specs.Below.fr_base.declared.instruction.Instr.{Instr}
+use Rattle.carry_law.specs.Below.fr_base.declared.instruction.Instr.TheVariants as instr
+use Rattle.carry_law.specs.Below.journal.View.{EntryView}
+use Rattle.carry_law.specs.Below.thread_state.View.{ThreadState, new_thread}
+use Rattle.carry_law.specs.Below.thread_state.declared.phase.Phase.{Phase}
+use Rattle.carry_law.specs.Below.thread_state.declared.phase.Phase.TheVariants as phase
+use Rattle.carry_law.specs.Below.thread_state.declared.value.Value.{Value}
+use Rattle.carry_law.specs.Below.server_model.declared.event.Event.{Event}
+use Rattle.carry_law.specs.Below.server_model.declared.event.What.TheVariants.{Step}
+use Rattle.carry_law.specs.Below.server_model.Servers.{Server, Cluster, server_at}
+use Rattle.carry_law.specs.Below.server_model.Work.{Hand, thread_in, set_thread, without_thread, then_some}
+use Rattle.carry_law.specs.Below.server_model.Start.{next_thread, capture}
+use Rattle.carry_law.specs.Below.server_model.Clusters.{with_server, done_at, act_at, apply}
+use Rattle.carry_law.specs.Below.server_model.Events.{can_step, has_phase, enabled, begin_work, does, Stepped, step, step_in, stepped}
+use Rattle.carry_law.specs.Below.heap_law.Names.{Among, tot, one}
+use Rattle.carry_law.specs.Below.heap_law.Things.{at_slot, Thing, stands, things_at, gift_things, walk_things, standing_things, thread_things, server_things, things_of}
+use Rattle.carry_law.specs.Below.heap_law.Follow.{Standing}
+use Rattle.carry_law.specs.Below.heap_law.Sight.{sight}
+use Rattle.carry_law.specs.Below.heap_law.Weights.{cells, owners, is_thread}
+use Rattle.carry_law.proofs.Below.heap_law.Sums.{tot-append}
+use Rattle.carry_law.specs.Below.type_law.ClusterTypes.{IsCoherent}
+use Rattle.carry_law.specs.Below.path_law.HeapStore.{GoesOn, HasPaths}
+use Rattle.carry_law.proofs.Below.path_law.Alike.{coherent_has_paths}
+use Rattle.carry_law.proofs.Below.path_law.Contained.{among_thread}
+use Rattle.carry_law.specs.Below.word_law.Reworded.{HasPlaces}
+use Rattle.carry_law.specs.Below.word_law.Unmoved.{taking_by, Untouched, LeavesWords}
+use Rattle.carry_law.proofs.Below.word_law.Unmoved.{untouched_stays}
+use Rattle.carry_law.specs.Below.event_law.Laws.{Gives, FewEvents}
+use Rattle.carry_law.proofs.Below.event_law.Results.{over_gives, both_give}
+use Rattle.carry_law.proofs.Below.event_law.Bags.{body_things, all_standing, tot-without, thread_number}
+use Rattle.carry_law.proofs.Below.event_law.Events.{tot-server}
+use Rattle.carry_law.proofs.Below.event_law.Sound.{sound_has_sums}
+use Rattle.carry_law.proofs.Below.event_law.NewThreads.{new_names}
+use Rattle.carry_law.proofs.Below.event_law.Each.{names_left, each_part}
+use Rattle.carry_law.proofs.Below.event_law.GiftsTaken.{gift_fits}
+use Rattle.carry_law.proofs.Below.event_law.ThreadThere.{thread_there}
+use Rattle.carry_law.proofs.Below.stay_law.Alike.{Alike, itself, turned, chain, beside, exchanged, in_front, joined}
+use Rattle.carry_law.proofs.Below.stay_law.Lists.{thread_taken, thread_set, taken_alike, shifted}
+use Rattle.carry_law.proofs.Below.stay_law.Servers.{held_if, server_body}
+use Rattle.carry_law.proofs.Below.stay_law.Threads.{slots_of, temps_of, thread_alike}
+use Rattle.carry_law.proofs.Below.stay_law.Sites.{replaced, servers_alike}
+use Rattle.carry_law.proofs.Below.stay_law.Seen.{seen_alike}
+use Rattle.carry_law.proofs.Below.stay_law.Steps.{TakesNoneHere}
 use Rattle.carry_law.proofs.Below.prepare_law.Hands.{calm_goes}
 use Rattle.carry_law.proofs.Below.prepare_law.Asking.{found_number}
 use Rattle.carry_law.proofs.Hands.{There, leaves_chain, left_where}

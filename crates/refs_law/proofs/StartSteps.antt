@@ -1,32 +1,32 @@
 -- What the start of a thread or a pair does to its parent and its server, as words see it.
 use Rattle.std.proofs.Common.{◌≡◌, ℕ, ◌+◌, ◌*◌, ◌^◌, ◌==◌, Bool, true, false, if◌then◌else◌, List, [], ◌∷◌, ◌++◌, Option, Some, None, option_map, refl, sym, ap, subst, ◌∙◌}
-use Rattle.fr_base.specs.Rooms.{WithRoom}
-use Rattle.fr_base.specs.declared.step.Fresh.{Fresh}
-use Rattle.fr_base.specs.declared.step.Fresh.TheVariants as fresh
-use Rattle.fr_base.specs.declared.instruction.Instr.{Instr}
-use Rattle.heap_partition.specs.declared.value.Owned.TheVariants as owned
-use Rattle.join_home.specs.Tasks.{TaskState, going, in_pair, can_begin, begin, can_begin_pair, begin_pair, noted}
-use Rattle.server_msgs.specs.declared.message.Message.{Message}
-use Rattle.server_msgs.specs.declared.message.Message.TheVariants as message
-use Rattle.thread_state.specs.View.{ThreadState, new_thread}
-use Rattle.thread_state.specs.declared.phase.Phase.TheVariants as phase
-use Rattle.thread_state.specs.declared.value.Value.{Value}
-use Rattle.thread_state.specs.declared.value.Value.TheVariants as value
-use Rattle.server_model.specs.Servers.{Rest}
-use Rattle.server_model.specs.Work.{add_waiting, sent_from, Work, Hand, with_tasks, with_slots, with_phase, push_temp, working, then_some}
-use Rattle.server_model.specs.Start.{next_thread, server_for, start_thread, capture}
-use Rattle.server_model.specs.Commit.{done_where, go_on, spawn_with, spawn, par_with, par, settle}
-use Rattle.server_model.specs.Events.{Stepped, done_step, committed}
-use Rattle.heap_law.specs.Things.{holds, in_slot, at_slot, sent, things_at, slot_things, task_things, thread_things, message_things}
-use Rattle.event_law.specs.Laws.{Gives}
-use Rattle.event_law.proofs.Results.{over_gives}
-use Rattle.event_law.proofs.Bags.{body_things, all_standing, sent_number}
-use Rattle.stay_law.proofs.Alike.{Alike, itself, turned, chain, beside, joined, alone, blank, goes}
-use Rattle.stay_law.proofs.Lists.{at_end, taken_alike}
-use Rattle.stay_law.proofs.Servers.{held_if, note_shows, other_notes, sends}
-use Rattle.stay_law.proofs.Threads.{slots_of, temps_of, value_alike, thread_alike}
-use Rattle.stay_law.proofs.Sites.{HandAlike}
-use Rattle.stay_law.proofs.Steps.{IsUnseen, TakesNoneHere, pushes, settles}
+use Rattle.carry_law.specs.Below.fr_base.Rooms.{WithRoom}
+use Rattle.carry_law.specs.Below.fr_base.declared.step.Fresh.{Fresh}
+use Rattle.carry_law.specs.Below.fr_base.declared.step.Fresh.TheVariants as fresh
+use Rattle.carry_law.specs.Below.fr_base.declared.instruction.Instr.{Instr}
+use Rattle.carry_law.specs.Below.heap_partition.declared.value.Owned.TheVariants as owned
+use Rattle.carry_law.specs.Below.join_home.Tasks.{TaskState, going, in_pair, can_begin, begin, can_begin_pair, begin_pair, noted}
+use Rattle.carry_law.specs.Below.server_msgs.declared.message.Message.{Message}
+use Rattle.carry_law.specs.Below.server_msgs.declared.message.Message.TheVariants as message
+use Rattle.carry_law.specs.Below.thread_state.View.{ThreadState, new_thread}
+use Rattle.carry_law.specs.Below.thread_state.declared.phase.Phase.TheVariants as phase
+use Rattle.carry_law.specs.Below.thread_state.declared.value.Value.{Value}
+use Rattle.carry_law.specs.Below.thread_state.declared.value.Value.TheVariants as value
+use Rattle.carry_law.specs.Below.server_model.Servers.{Rest}
+use Rattle.carry_law.specs.Below.server_model.Work.{add_waiting, sent_from, Work, Hand, with_tasks, with_slots, with_phase, push_temp, working, then_some}
+use Rattle.carry_law.specs.Below.server_model.Start.{next_thread, server_for, start_thread, capture}
+use Rattle.carry_law.specs.Below.server_model.Commit.{done_where, go_on, spawn_with, spawn, par_with, par, settle}
+use Rattle.carry_law.specs.Below.server_model.Events.{Stepped, done_step, committed}
+use Rattle.carry_law.specs.Below.heap_law.Things.{holds, in_slot, at_slot, sent, things_at, slot_things, task_things, thread_things, message_things}
+use Rattle.carry_law.specs.Below.event_law.Laws.{Gives}
+use Rattle.carry_law.proofs.Below.event_law.Results.{over_gives}
+use Rattle.carry_law.proofs.Below.event_law.Bags.{body_things, all_standing, sent_number}
+use Rattle.carry_law.proofs.Below.stay_law.Alike.{Alike, itself, turned, chain, beside, joined, alone, blank, goes}
+use Rattle.carry_law.proofs.Below.stay_law.Lists.{at_end, taken_alike}
+use Rattle.carry_law.proofs.Below.stay_law.Servers.{held_if, note_shows, other_notes, sends}
+use Rattle.carry_law.proofs.Below.stay_law.Threads.{slots_of, temps_of, value_alike, thread_alike}
+use Rattle.carry_law.proofs.Below.stay_law.Sites.{HandAlike}
+use Rattle.carry_law.proofs.Below.stay_law.Steps.{IsUnseen, TakesNoneHere, pushes, settles}
 use Rattle.carry_law.proofs.Steps.{goes_next}
 use Rattle.carry_law.proofs.Hands.{Together, each_together, together_chain}
 

@@ -1,29 +1,29 @@
 -- No holder's place passes a slot that no type names.
 use Rattle.std.proofs.Common.{◌≡◌, ◌≢◌, Bool, ⊎_elim, ℕ, zero, suc, ◌+◌, ◌-◌, ◌≤◌, true, Some, refl, sym, subst, ◌∙◌, arith}
 use Rattle.std.specs.Prelude.{slice_get}
-use Rattle.fr_base.specs.declared.place.Lval.{Lval}
-use Rattle.fr_store.specs.Keys.{Key, slot_k}
-use Rattle.fr_store.specs.Store.{at_key, Store, Place as StorePlace, walk}
-use Rattle.fr_store.specs.Typed.{Exact, KeyTypes, Resolves, Typed, Unnamed}
-use Rattle.fr_store.proofs.Chains.{unique}
-use Rattle.fr_store.proofs.Sound.{ref_at, sound}
-use Rattle.fr_store.proofs.Rows.{not_to}
-use Rattle.mut_borrow.specs.declared.mutable.MutRef.{MutRef}
-use Rattle.thread_state.specs.declared.value.Value.TheVariants as value
-use Rattle.server_model.specs.Servers.{Cluster}
-use Rattle.heap_law.specs.Things.{Location, at_slot, at_temp, things_of}
-use Rattle.heap_law.specs.Follow.{Standing, Ground, leads, locate, place_at}
-use Rattle.heap_law.specs.Stale.{Reference, holder_of}
-use Rattle.heap_law.specs.Sight.{sight}
-use Rattle.type_law.specs.ClusterTypes.{leads_as, same_place, is_held_at}
-use Rattle.path_law.specs.HeapStore.{heap_store, GoesOn, HasPaths}
-use Rattle.path_law.proofs.Alike.{leads_in_heap}
-use Rattle.path_law.proofs.Circles.{shorter}
-use Rattle.path_law.proofs.Climbs.{held_as, and_second}
-use Rattle.path_law.proofs.Contained.{reference_there}
-use Rattle.path_law.proofs.FreshPaths.{MutThere, slot_there, temp_there}
-use Rattle.path_law.proofs.Pointers.{borrowed_at}
-use Rattle.word_law.proofs.Grounds.{of_borrows}
+use Rattle.carry_law.specs.Below.fr_base.declared.place.Lval.{Lval}
+use Rattle.carry_law.specs.Below.fr_store.Keys.{Key, slot_k}
+use Rattle.carry_law.specs.Below.fr_store.Store.{at_key, Store, Place as StorePlace, walk}
+use Rattle.carry_law.specs.Below.fr_store.Typed.{Exact, KeyTypes, Resolves, Typed, Unnamed}
+use Rattle.carry_law.proofs.Below.fr_store.Chains.{unique}
+use Rattle.carry_law.proofs.Below.fr_store.Sound.{ref_at, sound}
+use Rattle.carry_law.proofs.Below.fr_store.Rows.{not_to}
+use Rattle.carry_law.specs.Below.mut_borrow.declared.mutable.MutRef.{MutRef}
+use Rattle.carry_law.specs.Below.thread_state.declared.value.Value.TheVariants as value
+use Rattle.carry_law.specs.Below.server_model.Servers.{Cluster}
+use Rattle.carry_law.specs.Below.heap_law.Things.{Location, at_slot, at_temp, things_of}
+use Rattle.carry_law.specs.Below.heap_law.Follow.{Standing, Ground, leads, locate, place_at}
+use Rattle.carry_law.specs.Below.heap_law.Stale.{Reference, holder_of}
+use Rattle.carry_law.specs.Below.heap_law.Sight.{sight}
+use Rattle.carry_law.specs.Below.type_law.ClusterTypes.{leads_as, same_place, is_held_at}
+use Rattle.carry_law.specs.Below.path_law.HeapStore.{heap_store, GoesOn, HasPaths}
+use Rattle.carry_law.proofs.Below.path_law.Alike.{leads_in_heap}
+use Rattle.carry_law.proofs.Below.path_law.Circles.{shorter}
+use Rattle.carry_law.proofs.Below.path_law.Climbs.{held_as, and_second}
+use Rattle.carry_law.proofs.Below.path_law.Contained.{reference_there}
+use Rattle.carry_law.proofs.Below.path_law.FreshPaths.{MutThere, slot_there, temp_there}
+use Rattle.carry_law.proofs.Below.path_law.Pointers.{borrowed_at}
+use Rattle.carry_law.proofs.Below.word_law.Grounds.{of_borrows}
 use Rattle.refs_law.specs.Unpassed.{IsUnpassed, UnnamedAreUnpassed}
 
 -- a holder's type has a star more

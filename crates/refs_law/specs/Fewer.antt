@@ -1,21 +1,21 @@
 -- A POINTER LESS (this project's rule): a shared reference goes. Each object that lies somewhere still has a pointer that isn't stale: where its owner is stale, a
 -- mutable reference to it was made from that, and so on, and no circle of them.
 use Rattle.std.specs.Prelude.{◌≡◌, ◌<◌, ℕ, Some, None}
-use Rattle.heap_partition.specs.declared.value.Cell.{Cell}
-use Rattle.mut_borrow.specs.declared.mutable.MutRef.{MutRef}
-use Rattle.thread_state.specs.declared.value.Value.TheVariants as value
-use Rattle.server_model.specs.Servers.{Cluster}
-use Rattle.heap_law.specs.Names.{Among}
-use Rattle.heap_law.specs.Things.{Location, lies, things_of}
-use Rattle.heap_law.specs.Follow.{value_in}
-use Rattle.heap_law.specs.Stale.{holder_of}
-use Rattle.heap_law.specs.Sight.{Pointer, pointers_in, sight}
-use Rattle.heap_law.specs.Placing.{standing_in}
-use Rattle.heap_law.specs.Words.{Fresh}
-use Rattle.heap_law.specs.Coherent.{Holds, first_at_holder}
-use Rattle.path_law.specs.HeapStore.{HasPaths}
-use Rattle.word_law.specs.Reworded.{HasPlaces, LiesThere}
-use Rattle.word_law.specs.Unmoved.{seen_at, Taking, takings, LeavesWords}
+use Rattle.carry_law.specs.Below.heap_partition.declared.value.Cell.{Cell}
+use Rattle.carry_law.specs.Below.mut_borrow.declared.mutable.MutRef.{MutRef}
+use Rattle.carry_law.specs.Below.thread_state.declared.value.Value.TheVariants as value
+use Rattle.carry_law.specs.Below.server_model.Servers.{Cluster}
+use Rattle.carry_law.specs.Below.heap_law.Names.{Among}
+use Rattle.carry_law.specs.Below.heap_law.Things.{Location, lies, things_of}
+use Rattle.carry_law.specs.Below.heap_law.Follow.{value_in}
+use Rattle.carry_law.specs.Below.heap_law.Stale.{holder_of}
+use Rattle.carry_law.specs.Below.heap_law.Sight.{Pointer, pointers_in, sight}
+use Rattle.carry_law.specs.Below.heap_law.Placing.{standing_in}
+use Rattle.carry_law.specs.Below.heap_law.Words.{Fresh}
+use Rattle.carry_law.specs.Below.heap_law.Coherent.{Holds, first_at_holder}
+use Rattle.carry_law.specs.Below.path_law.HeapStore.{HasPaths}
+use Rattle.carry_law.specs.Below.word_law.Reworded.{HasPlaces, LiesThere}
+use Rattle.carry_law.specs.Below.word_law.Unmoved.{seen_at, Taking, takings, LeavesWords}
 
 -- each mutable reference ranks above the pointer that it was made from
 pub record IsRanked (k : Cluster) : Type 0 where

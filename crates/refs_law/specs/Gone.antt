@@ -1,21 +1,21 @@
 -- STEPS IN WHICH A REFERENCE GOES (this project's rules): it is moved out of a variable, goes with its slot or from the hand, or is assigned over.
 use Rattle.std.specs.Prelude.{◌≡◌, ℕ, true, Some, slice_get}
-use Rattle.fr_base.specs.declared.place.Lval.{Lval}
-use Rattle.fr_base.specs.declared.instruction.Operand.{Operand}
-use Rattle.fr_base.specs.declared.instruction.Instr.{Instr}
-use Rattle.fr_base.specs.declared.instruction.Instr.TheVariants as instr
-use Rattle.journal.specs.View.{EntryView}
-use Rattle.mut_borrow.specs.declared.shared.SharedRef.{SharedRef}
-use Rattle.thread_state.specs.View.{ThreadState}
-use Rattle.thread_state.specs.declared.value.Value.{Value}
-use Rattle.thread_state.specs.declared.value.Value.TheVariants as value
-use Rattle.server_model.specs.declared.event.What.TheVariants.{Step}
-use Rattle.server_model.specs.Servers.{Server, Cluster, server_at}
-use Rattle.server_model.specs.Work.{thread_in, last_of}
-use Rattle.server_model.specs.Clusters.{apply}
-use Rattle.type_law.specs.ClusterTypes.{IsCoherent}
-use Rattle.event_law.specs.Laws.{Gives, FewEvents}
-use Rattle.word_law.specs.Unmoved.{LeavesWords}
+use Rattle.carry_law.specs.Below.fr_base.declared.place.Lval.{Lval}
+use Rattle.carry_law.specs.Below.fr_base.declared.instruction.Operand.{Operand}
+use Rattle.carry_law.specs.Below.fr_base.declared.instruction.Instr.{Instr}
+use Rattle.carry_law.specs.Below.fr_base.declared.instruction.Instr.TheVariants as instr
+use Rattle.carry_law.specs.Below.journal.View.{EntryView}
+use Rattle.carry_law.specs.Below.mut_borrow.declared.shared.SharedRef.{SharedRef}
+use Rattle.carry_law.specs.Below.thread_state.View.{ThreadState}
+use Rattle.carry_law.specs.Below.thread_state.declared.value.Value.{Value}
+use Rattle.carry_law.specs.Below.thread_state.declared.value.Value.TheVariants as value
+use Rattle.carry_law.specs.Below.server_model.declared.event.What.TheVariants.{Step}
+use Rattle.carry_law.specs.Below.server_model.Servers.{Server, Cluster, server_at}
+use Rattle.carry_law.specs.Below.server_model.Work.{thread_in, last_of}
+use Rattle.carry_law.specs.Below.server_model.Clusters.{apply}
+use Rattle.carry_law.specs.Below.type_law.ClusterTypes.{IsCoherent}
+use Rattle.carry_law.specs.Below.event_law.Laws.{Gives, FewEvents}
+use Rattle.carry_law.specs.Below.word_law.Unmoved.{LeavesWords}
 
 -- a reference to a slot, or a shared one to an object: it has no part in which words objects have but that it is there
 pub data IsLight : Value → Type 0 where

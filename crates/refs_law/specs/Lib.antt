@@ -1,3 +1,4 @@
+pub mod Below
 pub mod Unpassed
 pub mod Fewer
 pub mod Gone

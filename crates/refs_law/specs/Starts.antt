@@ -1,17 +1,17 @@
 -- STARTS OF THREADS (this project's rules): what a new thread captures goes from its parent's slots to its own.
 use Rattle.std.specs.Prelude.{◌≡◌, ℕ, Bool, Some, slice_get}
-use Rattle.fr_base.specs.Rooms.{WithRoom}
-use Rattle.fr_base.specs.declared.instruction.Instr.{Instr}
-use Rattle.fr_base.specs.declared.instruction.Instr.TheVariants as instr
-use Rattle.journal.specs.View.{EntryView}
-use Rattle.thread_state.specs.View.{ThreadState}
-use Rattle.server_model.specs.declared.event.What.TheVariants.{Step}
-use Rattle.server_model.specs.Servers.{Server, Cluster, server_at}
-use Rattle.server_model.specs.Work.{thread_in}
-use Rattle.server_model.specs.Clusters.{apply}
-use Rattle.type_law.specs.ClusterTypes.{IsCoherent}
-use Rattle.event_law.specs.Laws.{Gives, FewEvents}
-use Rattle.word_law.specs.Unmoved.{LeavesWords}
+use Rattle.carry_law.specs.Below.fr_base.Rooms.{WithRoom}
+use Rattle.carry_law.specs.Below.fr_base.declared.instruction.Instr.{Instr}
+use Rattle.carry_law.specs.Below.fr_base.declared.instruction.Instr.TheVariants as instr
+use Rattle.carry_law.specs.Below.journal.View.{EntryView}
+use Rattle.carry_law.specs.Below.thread_state.View.{ThreadState}
+use Rattle.carry_law.specs.Below.server_model.declared.event.What.TheVariants.{Step}
+use Rattle.carry_law.specs.Below.server_model.Servers.{Server, Cluster, server_at}
+use Rattle.carry_law.specs.Below.server_model.Work.{thread_in}
+use Rattle.carry_law.specs.Below.server_model.Clusters.{apply}
+use Rattle.carry_law.specs.Below.type_law.ClusterTypes.{IsCoherent}
+use Rattle.carry_law.specs.Below.event_law.Laws.{Gives, FewEvents}
+use Rattle.carry_law.specs.Below.word_law.Unmoved.{LeavesWords}
 
 -- a thread starts, or a pair
 pub data StartsThreads : Instr → Type 0 where

@@ -1,15 +1,15 @@
 -- A SLOT THAT NO HOLDER PASSES (this project's rule): the place of no mutable reference's holder comes to it, whatever stands in it.
 use Rattle.std.specs.Prelude.{◌≡◌, ◌≤◌, ℕ, Some}
-use Rattle.mut_borrow.specs.declared.mutable.MutRef.{MutRef}
-use Rattle.thread_state.specs.declared.value.Value.TheVariants as value
-use Rattle.server_model.specs.Servers.{Cluster}
-use Rattle.fr_store.specs.Keys.{slot_k}
-use Rattle.fr_store.specs.Typed.{Unnamed}
-use Rattle.heap_law.specs.Things.{Location, at_slot}
-use Rattle.heap_law.specs.Follow.{value_in}
-use Rattle.heap_law.specs.Stale.{holder_of}
-use Rattle.heap_law.specs.Sight.{sight}
-use Rattle.path_law.specs.HeapStore.{HasPaths}
+use Rattle.carry_law.specs.Below.mut_borrow.declared.mutable.MutRef.{MutRef}
+use Rattle.carry_law.specs.Below.thread_state.declared.value.Value.TheVariants as value
+use Rattle.carry_law.specs.Below.server_model.Servers.{Cluster}
+use Rattle.carry_law.specs.Below.fr_store.Keys.{slot_k}
+use Rattle.carry_law.specs.Below.fr_store.Typed.{Unnamed}
+use Rattle.carry_law.specs.Below.heap_law.Things.{Location, at_slot}
+use Rattle.carry_law.specs.Below.heap_law.Follow.{value_in}
+use Rattle.carry_law.specs.Below.heap_law.Stale.{holder_of}
+use Rattle.carry_law.specs.Below.heap_law.Sight.{sight}
+use Rattle.carry_law.specs.Below.path_law.HeapStore.{HasPaths}
 
 -- however many stars of the holder's place are taken
 abbrev pub IsUnpassed : Cluster → Location → Type 0

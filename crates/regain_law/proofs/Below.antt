@@ -1,4 +1,26 @@
 -- What this law stands on, passed on to the laws above it, which need not list that then.
+pub use Rattle.await_law.proofs.Below.arrive_law as arrive_law
 pub use Rattle.await_law.proofs as await_law
-pub use Rattle.return_law.proofs as return_law
+pub use Rattle.return_law.proofs.Below.carry_law as carry_law
+pub use Rattle.return_law.proofs.Below.end_law as end_law
+pub use Rattle.free_law.proofs.Below.event_law as event_law
 pub use Rattle.return_law.proofs.Below.finish_law as finish_law
+pub use Rattle.free_law.proofs.Below.fr_store as fr_store
+pub use Rattle.free_law.proofs.Below.fr_typing as fr_typing
+pub use Rattle.free_law.proofs as free_law
+pub use Rattle.free_law.proofs.Below.heap_law as heap_law
+pub use Rattle.free_law.proofs.Below.local_law as local_law
+pub use Rattle.free_law.proofs.Below.made_law as made_law
+pub use Rattle.await_law.proofs.Below.move_law as move_law
+pub use Rattle.free_law.proofs.Below.path_law as path_law
+pub use Rattle.await_law.proofs.Below.prepare_law as prepare_law
+pub use Rattle.await_law.proofs.Below.read_law as read_law
+pub use Rattle.return_law.proofs.Below.refs_law as refs_law
+pub use Rattle.free_law.proofs.Below.result_law as result_law
+pub use Rattle.return_law.proofs as return_law
+pub use Rattle.await_law.proofs.Below.rewrite_law as rewrite_law
+pub use Rattle.await_law.proofs.Below.stay_law as stay_law
+pub use Rattle.free_law.proofs.Below.still_law as still_law
+pub use Rattle.free_law.proofs.Below.value_law as value_law
+pub use Rattle.await_law.proofs.Below.word_law as word_law
+pub use Rattle.await_law.proofs.Below.write_law as write_law

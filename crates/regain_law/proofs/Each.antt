@@ -1,34 +1,34 @@
 -- Each event keeps the words, kind by kind.
 use Rattle.std.proofs.Common.{◌≡◌, inl, inr, ℕ, true, false, Option, Some, None, option_map, refl, sym, ap, subst, ◌∙◌}
 use Rattle.std.specs.Prelude.{slice_get, length}
-use Rattle.fr_base.specs.declared.instruction.Instr.{Instr}
-use Rattle.fr_base.specs.declared.instruction.Instr.TheVariants as instr
-use Rattle.journal.specs.View.{EntryView}
-use Rattle.thread_state.specs.View.{ThreadState}
-use Rattle.server_msgs.specs.declared.message.Message.{Message}
-use Rattle.server_msgs.specs.declared.message.Message.TheVariants as message
-use Rattle.server_model.specs.declared.event.What.{What}
-use Rattle.server_model.specs.declared.event.What.TheVariants.{Step, Deliver, Evict, Migrate}
-use Rattle.server_model.specs.Servers.{Server, Cluster, server_at}
-use Rattle.server_model.specs.Work.{then_some, thread_in}
-use Rattle.server_model.specs.Clusters.{hand_over_newer, done_at, apply}
-use Rattle.server_model.specs.Events.{begin_work, left_by, received, deliver_message, stepped, step, step_in}
-use Rattle.type_law.specs.ClusterTypes.{IsCoherent}
-use Rattle.event_law.specs.Kinds.{Kind, fetch, fetched, asks_lock, granted, unlocked, asks_dup, dupped, released, starts, asks_join, joined, finished, arrives, step_arith, step_print, step_par_end, evicts, migrates, message_kind, instr_kind, kind_at}
-use Rattle.event_law.specs.Laws.{Gives, FewEvents}
-use Rattle.event_law.proofs.Results.{weaker}
-use Rattle.word_law.specs.Unmoved.{Delivers, LeavesWords}
-use Rattle.stay_law.specs.Laws.{LeaveWords}
-use Rattle.stay_law.proofs.StayKinds.{kind_stays}
-use Rattle.prepare_law.specs.Requests.{WordsHold, WordsRise}
-use Rattle.prepare_law.proofs.Rising.{rise_itself, rise_changed, holds_so}
-use Rattle.prepare_law.proofs.Copying.{copies_keep}
-use Rattle.prepare_law.proofs.Dupping.{dups_keep}
-use Rattle.carry_law.specs.Steps.{a_let, a_mutex, a_join, an_end, puts_back}
-use Rattle.carry_law.proofs.Events.{steps_carry}
-use Rattle.carry_law.proofs.Gives.{owned_goes}
-use Rattle.carry_law.proofs.Leaving.{moves_leave}
-use Rattle.carry_law.proofs.Locks.{holds_on, locks_keep}
+use Rattle.free_law.specs.Below.fr_base.declared.instruction.Instr.{Instr}
+use Rattle.free_law.specs.Below.fr_base.declared.instruction.Instr.TheVariants as instr
+use Rattle.free_law.specs.Below.journal.View.{EntryView}
+use Rattle.free_law.specs.Below.thread_state.View.{ThreadState}
+use Rattle.free_law.specs.Below.server_msgs.declared.message.Message.{Message}
+use Rattle.free_law.specs.Below.server_msgs.declared.message.Message.TheVariants as message
+use Rattle.free_law.specs.Below.server_model.declared.event.What.{What}
+use Rattle.free_law.specs.Below.server_model.declared.event.What.TheVariants.{Step, Deliver, Evict, Migrate}
+use Rattle.free_law.specs.Below.server_model.Servers.{Server, Cluster, server_at}
+use Rattle.free_law.specs.Below.server_model.Work.{then_some, thread_in}
+use Rattle.free_law.specs.Below.server_model.Clusters.{hand_over_newer, done_at, apply}
+use Rattle.free_law.specs.Below.server_model.Events.{begin_work, left_by, received, deliver_message, stepped, step, step_in}
+use Rattle.free_law.specs.Below.type_law.ClusterTypes.{IsCoherent}
+use Rattle.free_law.specs.Below.event_law.Kinds.{Kind, fetch, fetched, asks_lock, granted, unlocked, asks_dup, dupped, released, starts, asks_join, joined, finished, arrives, step_arith, step_print, step_par_end, evicts, migrates, message_kind, instr_kind, kind_at}
+use Rattle.free_law.specs.Below.event_law.Laws.{Gives, FewEvents}
+use Rattle.free_law.proofs.Below.event_law.Results.{weaker}
+use Rattle.await_law.specs.Below.word_law.Unmoved.{Delivers, LeavesWords}
+use Rattle.await_law.specs.Below.stay_law.Laws.{LeaveWords}
+use Rattle.await_law.proofs.Below.stay_law.StayKinds.{kind_stays}
+use Rattle.await_law.specs.Below.prepare_law.Requests.{WordsHold, WordsRise}
+use Rattle.await_law.proofs.Below.prepare_law.Rising.{rise_itself, rise_changed, holds_so}
+use Rattle.await_law.proofs.Below.prepare_law.Copying.{copies_keep}
+use Rattle.await_law.proofs.Below.prepare_law.Dupping.{dups_keep}
+use Rattle.return_law.specs.Below.carry_law.Steps.{a_let, a_mutex, a_join, an_end, puts_back}
+use Rattle.return_law.proofs.Below.carry_law.Events.{steps_carry}
+use Rattle.return_law.proofs.Below.carry_law.Gives.{owned_goes}
+use Rattle.return_law.proofs.Below.carry_law.Leaving.{moves_leave}
+use Rattle.return_law.proofs.Below.carry_law.Locks.{holds_on, locks_keep}
 use Rattle.free_law.specs.Below.made_law.Boxes.{HasNewWord}
 use Rattle.free_law.proofs.Below.made_law.Boxes.{boxes_keep}
 use Rattle.return_law.proofs.Below.borrow_law.Shares.{shared_borrows_keep}

@@ -2,41 +2,41 @@
 -- through which its object is written.
 use Rattle.std.proofs.Common.{◌≡◌, ◌⊎◌, inl, inr, ⊎_elim, ℕ, suc, ◌-◌, ◌≤◌, ◌<◌, true, Option, Some, None, refl, sym, ap, subst, ◌∙◌, arith}
 use Rattle.std.specs.Prelude.{slice_get}
-use Rattle.fr_base.specs.declared.name.ObjNo.{ObjNo}
-use Rattle.fr_store.specs.Keys.{Key, slot_k, temp_k}
-use Rattle.fr_store.specs.Store.{at_key, at_object, Val, ref_v, Store, Place as StorePlace, star_hop, walk, below_key}
-use Rattle.fr_store.specs.Typed.{KeyTypes, Resolves, Loaned, self, loan, Unnamed, RefFits}
-use Rattle.fr_store.proofs.Sound.{ref_at, sound, walk_last}
-use Rattle.mut_borrow.specs.declared.mutable.MutRef.{MutRef}
-use Rattle.mut_borrow.specs.declared.shared.SharedRef.{SharedRef}
-use Rattle.thread_state.specs.declared.value.Value.TheVariants as value
-use Rattle.server_model.specs.Servers.{Cluster}
-use Rattle.heap_law.specs.Names.{Among}
-use Rattle.heap_law.specs.Things.{Location, at_slot, at_temp, in_cell, shares, things_of}
-use Rattle.heap_law.specs.Follow.{Standing, Ground, value_in, value_behind, leads, locate}
-use Rattle.heap_law.specs.OneHeap.{two_in}
-use Rattle.heap_law.specs.Paths.{ends}
-use Rattle.heap_law.specs.Stale.{Reference, references, is_held_at}
-use Rattle.heap_law.specs.Sight.{Pointer, pointers_in, sight}
-use Rattle.heap_law.specs.Walking.{path}
-use Rattle.path_law.specs.Above.{StandsAbove}
-use Rattle.path_law.specs.HeapStore.{in_store, heap_store, GoesOn, HasPaths, IsUnmarked}
-use Rattle.path_law.specs.Pointing.{Above}
-use Rattle.path_law.proofs.Alike.{lead_alike, mark_unnamed, leads_in_heap, leads_in_cluster, heap_of_shown, slot_shared, temp_shared}
-use Rattle.path_law.proofs.Circles.{shorter, base_in}
-use Rattle.path_law.proofs.Climbs.{one_location, climbs, ref_is}
-use Rattle.path_law.proofs.Forms.{not_mutable}
-use Rattle.path_law.proofs.FreshPaths.{MutThere, OwnSlot, own_closed, flat, holds_there}
-use Rattle.path_law.proofs.Pointers.{Stood, pointed_at, shared_at, temp_unnamed}
-use Rattle.path_law.proofs.Sole.{some_is}
-use Rattle.end_law.proofs.Alone.{holder_stars}
-use Rattle.end_law.proofs.Ends.{EndsAt}
-use Rattle.end_law.proofs.Lent.{none_before}
-use Rattle.read_law.proofs.OwnChains.{OwnObject}
-use Rattle.word_law.specs.Soles.{IsSole}
-use Rattle.word_law.specs.Unmoved.{taking_by}
-use Rattle.word_law.proofs.Alone.{leads_any}
-use Rattle.result_law.proofs.Mutables.{apart}
+use Rattle.free_law.specs.Below.fr_base.declared.name.ObjNo.{ObjNo}
+use Rattle.free_law.specs.Below.fr_store.Keys.{Key, slot_k, temp_k}
+use Rattle.free_law.specs.Below.fr_store.Store.{at_key, at_object, Val, ref_v, Store, Place as StorePlace, star_hop, walk, below_key}
+use Rattle.free_law.specs.Below.fr_store.Typed.{KeyTypes, Resolves, Loaned, self, loan, Unnamed, RefFits}
+use Rattle.free_law.proofs.Below.fr_store.Sound.{ref_at, sound, walk_last}
+use Rattle.free_law.specs.Below.mut_borrow.declared.mutable.MutRef.{MutRef}
+use Rattle.free_law.specs.Below.mut_borrow.declared.shared.SharedRef.{SharedRef}
+use Rattle.free_law.specs.Below.thread_state.declared.value.Value.TheVariants as value
+use Rattle.free_law.specs.Below.server_model.Servers.{Cluster}
+use Rattle.free_law.specs.Below.heap_law.Names.{Among}
+use Rattle.free_law.specs.Below.heap_law.Things.{Location, at_slot, at_temp, in_cell, shares, things_of}
+use Rattle.free_law.specs.Below.heap_law.Follow.{Standing, Ground, value_in, value_behind, leads, locate}
+use Rattle.free_law.specs.Below.heap_law.OneHeap.{two_in}
+use Rattle.free_law.specs.Below.heap_law.Paths.{ends}
+use Rattle.free_law.specs.Below.heap_law.Stale.{Reference, references, is_held_at}
+use Rattle.free_law.specs.Below.heap_law.Sight.{Pointer, pointers_in, sight}
+use Rattle.free_law.specs.Below.heap_law.Walking.{path}
+use Rattle.free_law.specs.Below.path_law.Above.{StandsAbove}
+use Rattle.free_law.specs.Below.path_law.HeapStore.{in_store, heap_store, GoesOn, HasPaths, IsUnmarked}
+use Rattle.free_law.specs.Below.path_law.Pointing.{Above}
+use Rattle.free_law.proofs.Below.path_law.Alike.{lead_alike, mark_unnamed, leads_in_heap, leads_in_cluster, heap_of_shown, slot_shared, temp_shared}
+use Rattle.free_law.proofs.Below.path_law.Circles.{shorter, base_in}
+use Rattle.free_law.proofs.Below.path_law.Climbs.{one_location, climbs, ref_is}
+use Rattle.free_law.proofs.Below.path_law.Forms.{not_mutable}
+use Rattle.free_law.proofs.Below.path_law.FreshPaths.{MutThere, OwnSlot, own_closed, flat, holds_there}
+use Rattle.free_law.proofs.Below.path_law.Pointers.{Stood, pointed_at, shared_at, temp_unnamed}
+use Rattle.free_law.proofs.Below.path_law.Sole.{some_is}
+use Rattle.return_law.proofs.Below.end_law.Alone.{holder_stars}
+use Rattle.return_law.proofs.Below.end_law.Ends.{EndsAt}
+use Rattle.return_law.proofs.Below.end_law.Lent.{none_before}
+use Rattle.await_law.proofs.Below.read_law.OwnChains.{OwnObject}
+use Rattle.await_law.specs.Below.word_law.Soles.{IsSole}
+use Rattle.await_law.specs.Below.word_law.Unmoved.{taking_by}
+use Rattle.await_law.proofs.Below.word_law.Alone.{leads_any}
+use Rattle.free_law.proofs.Below.result_law.Mutables.{apart}
 use Rattle.return_law.proofs.Lending.{IsLender, refers_there, points_there}
 use Rattle.return_law.proofs.Placed.{placed_alone}
 

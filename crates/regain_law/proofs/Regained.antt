@@ -2,37 +2,37 @@
 use Rattle.std.proofs.Common.{◌≡◌, inl, ℕ, ◌-◌, ◌==◌, Bool, true, false, if◌then◌else◌, length, Some, refl, sym, ap, subst, ◌∙◌}
 use Rattle.std.specs.Prelude.{slice_get}
 use Rattle.std.proofs.lemmas.Bool.{eqb-true, eq-eqb}
-use Rattle.fr_base.specs.declared.instruction.Instr.{Instr}
-use Rattle.fr_base.specs.declared.instruction.Instr.TheVariants as instr
-use Rattle.heap_partition.specs.declared.value.Cell.{Cell}
-use Rattle.journal.specs.View.{EntryView}
-use Rattle.mut_borrow.specs.declared.mutable.MutRef.{MutRef}
-use Rattle.owner_box.specs.Partition.{new_word}
-use Rattle.thread_state.specs.View.{ThreadState}
-use Rattle.thread_state.specs.declared.phase.Phase.TheVariants as phase
-use Rattle.thread_state.specs.declared.value.Value.TheVariants as value
-use Rattle.server_msgs.specs.declared.message.Message.TheVariants.{Moved}
-use Rattle.server_model.specs.declared.event.What.TheVariants.{Deliver}
-use Rattle.server_model.specs.Servers.{Server, Cluster, server_at}
-use Rattle.server_model.specs.Work.{Hand, front_of, thread_in}
-use Rattle.server_model.specs.Clusters.{apply}
-use Rattle.server_model.specs.NewWords.{can_grow}
-use Rattle.server_model.specs.Places.{Spot, in_slot, on_top, value_at}
-use Rattle.server_model.specs.Prepare.{EndRef, access_of, assigned as access_assigned, ending as access_ending}
-use Rattle.server_model.specs.Objects.{arrived_at, arrived_write, arrived_end, arrived, instr_access}
-use Rattle.heap_law.specs.OneHeap.{two_in}
-use Rattle.heap_law.specs.Follow.{Standing}
-use Rattle.heap_law.specs.Paths.{Path, ends, ending, assigning, path_of, Awaited, written_place}
-use Rattle.heap_law.specs.Sight.{sight}
-use Rattle.heap_law.specs.Turn.{InTurn, NextHop, by_end, by_holder}
-use Rattle.heap_law.specs.Walking.{path}
-use Rattle.type_law.specs.ClusterTypes.{IsCoherent}
-use Rattle.event_law.specs.Laws.{Gives, FewEvents}
-use Rattle.path_law.specs.HeapStore.{GoesOn, HasPaths}
-use Rattle.path_law.specs.Pointing as given
-use Rattle.end_law.proofs.Ends.{ends_at}
-use Rattle.prepare_law.specs.Requests.{WordsRise}
-use Rattle.arrive_law.specs.Awaited.{Awaits}
+use Rattle.free_law.specs.Below.fr_base.declared.instruction.Instr.{Instr}
+use Rattle.free_law.specs.Below.fr_base.declared.instruction.Instr.TheVariants as instr
+use Rattle.free_law.specs.Below.heap_partition.declared.value.Cell.{Cell}
+use Rattle.free_law.specs.Below.journal.View.{EntryView}
+use Rattle.free_law.specs.Below.mut_borrow.declared.mutable.MutRef.{MutRef}
+use Rattle.free_law.specs.Below.owner_box.Partition.{new_word}
+use Rattle.free_law.specs.Below.thread_state.View.{ThreadState}
+use Rattle.free_law.specs.Below.thread_state.declared.phase.Phase.TheVariants as phase
+use Rattle.free_law.specs.Below.thread_state.declared.value.Value.TheVariants as value
+use Rattle.free_law.specs.Below.server_msgs.declared.message.Message.TheVariants.{Moved}
+use Rattle.free_law.specs.Below.server_model.declared.event.What.TheVariants.{Deliver}
+use Rattle.free_law.specs.Below.server_model.Servers.{Server, Cluster, server_at}
+use Rattle.free_law.specs.Below.server_model.Work.{Hand, front_of, thread_in}
+use Rattle.free_law.specs.Below.server_model.Clusters.{apply}
+use Rattle.free_law.specs.Below.server_model.NewWords.{can_grow}
+use Rattle.free_law.specs.Below.server_model.Places.{Spot, in_slot, on_top, value_at}
+use Rattle.free_law.specs.Below.server_model.Prepare.{EndRef, access_of, assigned as access_assigned, ending as access_ending}
+use Rattle.free_law.specs.Below.server_model.Objects.{arrived_at, arrived_write, arrived_end, arrived, instr_access}
+use Rattle.free_law.specs.Below.heap_law.OneHeap.{two_in}
+use Rattle.free_law.specs.Below.heap_law.Follow.{Standing}
+use Rattle.free_law.specs.Below.heap_law.Paths.{Path, ends, ending, assigning, path_of, Awaited, written_place}
+use Rattle.free_law.specs.Below.heap_law.Sight.{sight}
+use Rattle.free_law.specs.Below.heap_law.Turn.{InTurn, NextHop, by_end, by_holder}
+use Rattle.free_law.specs.Below.heap_law.Walking.{path}
+use Rattle.free_law.specs.Below.type_law.ClusterTypes.{IsCoherent}
+use Rattle.free_law.specs.Below.event_law.Laws.{Gives, FewEvents}
+use Rattle.free_law.specs.Below.path_law.HeapStore.{GoesOn, HasPaths}
+use Rattle.free_law.specs.Below.path_law.Pointing as given
+use Rattle.return_law.proofs.Below.end_law.Ends.{ends_at}
+use Rattle.await_law.specs.Below.prepare_law.Requests.{WordsRise}
+use Rattle.await_law.specs.Below.arrive_law.Awaited.{Awaits}
 use Rattle.await_law.proofs.Behind.{write_arrives}
 use Rattle.await_law.proofs.EndArrivals.{end_arrivals_keep}
 use Rattle.await_law.proofs.Landing.{before, landed, Kept, paths, on, awaits, untaken, delivered}
@@ -54,7 +54,7 @@ holder_next k x old a r _ other e _ = absurd (cc e)
 -- what it needs is the end of that reference
 ends_there : (y : ThreadState) (r : MutRef) (h : Hand) → h.thread ≡ y → (j : Instr) → EndsReference y r j → (sp : Spot) × (access_of j y ≡ Some (EndRef sp)) × (value_at h sp ≡ Some (value.Mut r))
 ends_there y r h mine _ (drops e) = (in_slot (length y.slots - 1), ap (access_ending (in_slot (length y.slots - 1))) e, ap (λ (z : ThreadState). slice_get z.slots (length y.slots - 1)) mine ∙ e)
-ends_there y r h mine _ (discards e) = (on_top, ap (access_ending on_top) e, ap (λ (z : ThreadState). Rattle.server_model.specs.Work.last_of z.temps) mine ∙ e)
+ends_there y r h mine _ (discards e) = (on_top, ap (access_ending on_top) e, ap (λ (z : ThreadState). Rattle.free_law.specs.Below.server_model.Work.last_of z.temps) mine ∙ e)
 ends_there y r h mine _ (assigns w o flat e) = (in_slot w.slot, ap (λ d. access_assigned w d y) flat ∙ ap (access_ending (in_slot w.slot)) e, ap (λ (z : ThreadState). slice_get z.slots w.slot) mine ∙ e)
 
 module _ (k : Cluster) (coherent : IsCoherent k) (few : FewEvents k) (s : Server) (here : server_at k.servers s.rest.number ≡ Some s) (t : ℕ) (y : ThreadState) (at : thread_in s.threads t ≡ Some y) (i old : ℕ) (c : Cell) (message_there : slice_get s.rest.inbox i ≡ Some (Moved old c t))

@@ -1,11 +1,11 @@
 -- EACH EVENT KEEPS THE WORDS (this project's rule), whatever it is.
-use Rattle.journal.specs.View.{EntryView}
-use Rattle.server_model.specs.declared.event.Event.{Event}
-use Rattle.server_model.specs.Servers.{Cluster}
-use Rattle.server_model.specs.Clusters.{apply}
-use Rattle.type_law.specs.ClusterTypes.{IsCoherent}
-use Rattle.event_law.specs.Laws.{Gives, FewEvents}
-use Rattle.prepare_law.specs.Requests.{WordsHold, WordsRise}
+use Rattle.free_law.specs.Below.journal.View.{EntryView}
+use Rattle.free_law.specs.Below.server_model.declared.event.Event.{Event}
+use Rattle.free_law.specs.Below.server_model.Servers.{Cluster}
+use Rattle.free_law.specs.Below.server_model.Clusters.{apply}
+use Rattle.free_law.specs.Below.type_law.ClusterTypes.{IsCoherent}
+use Rattle.free_law.specs.Below.event_law.Laws.{Gives, FewEvents}
+use Rattle.await_law.specs.Below.prepare_law.Requests.{WordsHold, WordsRise}
 
 -- from a coherent cluster in which few events were done: after each event that has a result, its messages handed over, each object has a word, references know the words at
 -- their holders, dirty references are alone, and first words that were left are no words of today

@@ -1,15 +1,15 @@
 -- A thread waits for one answer: a message that brings an object to it is what it asks for.
 use Rattle.std.proofs.Common.{◌≡◌, ◌≤◌, ℕ, ◌+◌, ◌*◌, ◌==◌, ◌&&◌, not, Bool, true, false, List, [], ◌∷◌, refl, arith}
-use Rattle.fr_base.specs.declared.name.ObjNo.{ObjNo}
-use Rattle.fr_typing.proofs.PlaceLemmas.{eq_cases}
-use Rattle.server_msgs.specs.declared.message.Message.{Message}
-use Rattle.server_msgs.specs.declared.message.Message.TheVariants as message
-use Rattle.heap_law.specs.Names.{tot, one, if_so, same_object}
-use Rattle.heap_law.specs.Things.{Thing, sent, stands}
-use Rattle.heap_law.specs.Paths.{Awaited}
-use Rattle.heap_law.specs.Weights.{is_thread}
-use Rattle.heap_law.specs.Walking.{asked_for, asks_for}
-use Rattle.heap_law.specs.Requests.{waits, halves, halves_to, halves_needed, message_answer}
+use Rattle.event_law.specs.Below.fr_base.declared.name.ObjNo.{ObjNo}
+use Rattle.event_law.proofs.Below.fr_typing.PlaceLemmas.{eq_cases}
+use Rattle.event_law.specs.Below.server_msgs.declared.message.Message.{Message}
+use Rattle.event_law.specs.Below.server_msgs.declared.message.Message.TheVariants as message
+use Rattle.event_law.specs.Below.heap_law.Names.{tot, one, if_so, same_object}
+use Rattle.event_law.specs.Below.heap_law.Things.{Thing, sent, stands}
+use Rattle.event_law.specs.Below.heap_law.Paths.{Awaited}
+use Rattle.event_law.specs.Below.heap_law.Weights.{is_thread}
+use Rattle.event_law.specs.Below.heap_law.Walking.{asked_for, asks_for}
+use Rattle.event_law.specs.Below.heap_law.Requests.{waits, halves, halves_to, halves_needed, message_answer}
 
 module _ (t : ℕ) (a : Awaited) (o : ObjNo) where
   -- a message that brings the object to the thread without being what it asks for

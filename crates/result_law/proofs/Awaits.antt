@@ -2,39 +2,39 @@
 use Rattle.std.proofs.Common.{◌≡◌, ◌⊎◌, inl, inr, ◌≤◌, ◌<◌, ℕ, zero, suc, ◌-◌, ◌==◌, ◌&&◌, Bool, true, false, if◌then◌else◌, List, [], ◌∷◌, length, Option, Some, None, refl, sym, ap, subst, ◌∙◌, arith}
 use Rattle.std.specs.Prelude.{slice_get}
 use Rattle.std.proofs.lemmas.Bool.{eqb-true}
-use Rattle.fr_base.specs.Lists.{last_of}
-use Rattle.fr_base.specs.declared.name.ObjNo.{ObjNo}
-use Rattle.fr_base.specs.declared.place.Lval.{Lval}
-use Rattle.fr_base.specs.declared.instruction.Instr.{Instr}
-use Rattle.fr_base.specs.declared.instruction.Instr.TheVariants as instr
-use Rattle.fr_store.specs.Keys.{slot_k}
-use Rattle.fr_store.specs.Store.{at_key, at_object, Store, Place as StorePlace, walk}
-use Rattle.fr_store.specs.Typed.{KeyTypes}
-use Rattle.fr_store.proofs.Sound.{ref_at}
-use Rattle.heap_partition.specs.declared.value.Cell.{Cell}
-use Rattle.heap_partition.specs.declared.value.BoxPtr.{BoxPtr}
-use Rattle.heap_partition.specs.declared.value.Owned.TheVariants as owned
-use Rattle.mut_borrow.specs.declared.mutable.MutRef.{MutRef}
-use Rattle.thread_state.specs.View.{ThreadState, is_over}
-use Rattle.thread_state.specs.declared.value.Value.{Value}
-use Rattle.thread_state.specs.declared.value.Value.TheVariants as value
-use Rattle.thread_state.specs.declared.phase.Phase.{Phase}
-use Rattle.thread_state.specs.declared.phase.Phase.TheVariants as phase
-use Rattle.server_msgs.specs.declared.message.Message.TheVariants as message
-use Rattle.server_model.specs.Servers.{Cluster}
-use Rattle.heap_law.specs.Names.{tot, other, Among, same_object}
-use Rattle.heap_law.specs.Things.{Location, at_slot, at_temp, in_cell, flies, sent, things_of}
-use Rattle.heap_law.specs.Follow.{Standing, Ground, thread_at, cell_of, value_in, value_behind, value_of, slot_of, leads, locate, place_at}
-use Rattle.heap_law.specs.Sight.{sight}
-use Rattle.heap_law.specs.Paths.{Path, reads, shares, lends, writes, ends, path_of, taking, assigning, ending, Awaited, to_read, to_write, to_clean, is_spent}
-use Rattle.heap_law.specs.Passing.{HopOf}
-use Rattle.heap_law.specs.Walking.{path, instr_of, asked_for, asks_for}
-use Rattle.heap_law.specs.Requests.{is_cell, in_phase, carries}
-use Rattle.heap_law.specs.Turn.{AwaitsAt, read_at, before_share, at_share, before_lend, at_lend, InTurn, by_read, by_share, by_lend, by_write, by_end, by_holder}
-use Rattle.heap_law.specs.Coherent.{IsSound}
-use Rattle.heap_law.proofs.Names.{and_left, and_right}
-use Rattle.heap_law.proofs.Words.{named, itself, none_at}
-use Rattle.heap_law.proofs.Passing.{paths_law}
+use Rattle.event_law.specs.Below.fr_base.Lists.{last_of}
+use Rattle.event_law.specs.Below.fr_base.declared.name.ObjNo.{ObjNo}
+use Rattle.event_law.specs.Below.fr_base.declared.place.Lval.{Lval}
+use Rattle.event_law.specs.Below.fr_base.declared.instruction.Instr.{Instr}
+use Rattle.event_law.specs.Below.fr_base.declared.instruction.Instr.TheVariants as instr
+use Rattle.event_law.specs.Below.fr_store.Keys.{slot_k}
+use Rattle.event_law.specs.Below.fr_store.Store.{at_key, at_object, Store, Place as StorePlace, walk}
+use Rattle.event_law.specs.Below.fr_store.Typed.{KeyTypes}
+use Rattle.event_law.proofs.Below.fr_store.Sound.{ref_at}
+use Rattle.event_law.specs.Below.heap_partition.declared.value.Cell.{Cell}
+use Rattle.event_law.specs.Below.heap_partition.declared.value.BoxPtr.{BoxPtr}
+use Rattle.event_law.specs.Below.heap_partition.declared.value.Owned.TheVariants as owned
+use Rattle.event_law.specs.Below.mut_borrow.declared.mutable.MutRef.{MutRef}
+use Rattle.event_law.specs.Below.thread_state.View.{ThreadState, is_over}
+use Rattle.event_law.specs.Below.thread_state.declared.value.Value.{Value}
+use Rattle.event_law.specs.Below.thread_state.declared.value.Value.TheVariants as value
+use Rattle.event_law.specs.Below.thread_state.declared.phase.Phase.{Phase}
+use Rattle.event_law.specs.Below.thread_state.declared.phase.Phase.TheVariants as phase
+use Rattle.event_law.specs.Below.server_msgs.declared.message.Message.TheVariants as message
+use Rattle.event_law.specs.Below.server_model.Servers.{Cluster}
+use Rattle.event_law.specs.Below.heap_law.Names.{tot, other, Among, same_object}
+use Rattle.event_law.specs.Below.heap_law.Things.{Location, at_slot, at_temp, in_cell, flies, sent, things_of}
+use Rattle.event_law.specs.Below.heap_law.Follow.{Standing, Ground, thread_at, cell_of, value_in, value_behind, value_of, slot_of, leads, locate, place_at}
+use Rattle.event_law.specs.Below.heap_law.Sight.{sight}
+use Rattle.event_law.specs.Below.heap_law.Paths.{Path, reads, shares, lends, writes, ends, path_of, taking, assigning, ending, Awaited, to_read, to_write, to_clean, is_spent}
+use Rattle.event_law.specs.Below.heap_law.Passing.{HopOf}
+use Rattle.event_law.specs.Below.heap_law.Walking.{path, instr_of, asked_for, asks_for}
+use Rattle.event_law.specs.Below.heap_law.Requests.{is_cell, in_phase, carries}
+use Rattle.event_law.specs.Below.heap_law.Turn.{AwaitsAt, read_at, before_share, at_share, before_lend, at_lend, InTurn, by_read, by_share, by_lend, by_write, by_end, by_holder}
+use Rattle.event_law.specs.Below.heap_law.Coherent.{IsSound}
+use Rattle.event_law.proofs.Below.heap_law.Names.{and_left, and_right}
+use Rattle.event_law.proofs.Below.heap_law.Words.{named, itself, none_at}
+use Rattle.event_law.proofs.Below.heap_law.Passing.{paths_law}
 use Rattle.event_law.proofs.Askers.{other_none}
 use Rattle.path_law.specs.Below.type_law.ClusterTypes.{same_place, is_held_at}
 use Rattle.path_law.specs.HeapStore.{heap_store, GoesOn, HasPaths}

@@ -3,34 +3,34 @@ use Rattle.std.proofs.Common.{◌≡◌, ◌≤◌, ◌<◌, ℕ, zero, suc, ◌
 use Rattle.std.specs.Prelude.{slice_get, slice_set}
 use Rattle.std.proofs.lemmas.Option.{slice_get_within}
 use Rattle.std.proofs.lemmas.Bool.Decides.{nat_tests}
-use Rattle.fr_base.specs.declared.place.Lval.{Lval}
-use Rattle.fr_base.specs.declared.instruction.Instr.{Instr}
-use Rattle.fr_base.specs.declared.instruction.Instr.TheVariants as instr
-use Rattle.fr_typing.specs.Kinds.{Kind}
-use Rattle.fr_code.specs.CodeTypes.{Entry, Table, InstrTypes, i_borrow}
-use Rattle.global_addr.specs.Words.{colour_of, server_of, next_word}
-use Rattle.heap_partition.specs.declared.value.Cell.{Cell}
-use Rattle.heap_partition.specs.declared.value.Owned.{Owned}
-use Rattle.heap_partition.specs.declared.value.Owned.TheVariants as owned
-use Rattle.mut_borrow.specs.declared.mutable.MutRef.{MutRef}
-use Rattle.mut_borrow.specs.declared.mutable.Cleaned.TheVariants as cleaned
-use Rattle.mut_borrow.specs.Refs.{cleaned_answer}
-use Rattle.owner_box.specs.View.{PartitionState}
-use Rattle.owner_box.specs.Partition.{cell_of}
-use Rattle.thread_state.specs.View.{ThreadState}
-use Rattle.thread_state.specs.declared.value.Value.{Value}
-use Rattle.thread_state.specs.declared.value.Value.TheVariants as value
-use Rattle.server_model.specs.declared.event.What.TheVariants.{Step}
-use Rattle.server_model.specs.Servers.{Server, Cluster}
-use Rattle.server_model.specs.Work.{Hand, with_slots, push_temp, look, leads_here, then_some}
-use Rattle.server_model.specs.NewWords.{NewWord, can_grow, is_last, issue_tint, issue_renewal}
-use Rattle.server_model.specs.Places.{Spot, in_slot, in_cell, in_copy, on_top, nowhere, value_at, load_at, with_word, took, put_at, put_word}
-use Rattle.server_model.specs.Prepare.{Prepared, ready, requested, nothing, and_then, ready_at, ask_object, box_of, cleaned_by, clean_value, read_pointer, read_stars}
-use Rattle.server_model.specs.Commit.{goes_on, shared_from, borrow_from}
-use Rattle.server_model.specs.Events.{committed, prepared}
-use Rattle.heap_law.specs.Things.{Location, in_cell as in_object}
-use Rattle.heap_law.specs.Follow.{Standing, Ground, value_in, value_of, leads, locate}
-use Rattle.heap_law.specs.Sight.{Pointer, sight}
+use Rattle.event_law.specs.Below.fr_base.declared.place.Lval.{Lval}
+use Rattle.event_law.specs.Below.fr_base.declared.instruction.Instr.{Instr}
+use Rattle.event_law.specs.Below.fr_base.declared.instruction.Instr.TheVariants as instr
+use Rattle.event_law.specs.Below.fr_typing.Kinds.{Kind}
+use Rattle.event_law.specs.Below.fr_code.CodeTypes.{Entry, Table, InstrTypes, i_borrow}
+use Rattle.event_law.specs.Below.global_addr.Words.{colour_of, server_of, next_word}
+use Rattle.event_law.specs.Below.heap_partition.declared.value.Cell.{Cell}
+use Rattle.event_law.specs.Below.heap_partition.declared.value.Owned.{Owned}
+use Rattle.event_law.specs.Below.heap_partition.declared.value.Owned.TheVariants as owned
+use Rattle.event_law.specs.Below.mut_borrow.declared.mutable.MutRef.{MutRef}
+use Rattle.event_law.specs.Below.mut_borrow.declared.mutable.Cleaned.TheVariants as cleaned
+use Rattle.event_law.specs.Below.mut_borrow.Refs.{cleaned_answer}
+use Rattle.event_law.specs.Below.owner_box.View.{PartitionState}
+use Rattle.event_law.specs.Below.owner_box.Partition.{cell_of}
+use Rattle.event_law.specs.Below.thread_state.View.{ThreadState}
+use Rattle.event_law.specs.Below.thread_state.declared.value.Value.{Value}
+use Rattle.event_law.specs.Below.thread_state.declared.value.Value.TheVariants as value
+use Rattle.event_law.specs.Below.server_model.declared.event.What.TheVariants.{Step}
+use Rattle.event_law.specs.Below.server_model.Servers.{Server, Cluster}
+use Rattle.event_law.specs.Below.server_model.Work.{Hand, with_slots, push_temp, look, leads_here, then_some}
+use Rattle.event_law.specs.Below.server_model.NewWords.{NewWord, can_grow, is_last, issue_tint, issue_renewal}
+use Rattle.event_law.specs.Below.server_model.Places.{Spot, in_slot, in_cell, in_copy, on_top, nowhere, value_at, load_at, with_word, took, put_at, put_word}
+use Rattle.event_law.specs.Below.server_model.Prepare.{Prepared, ready, requested, nothing, and_then, ready_at, ask_object, box_of, cleaned_by, clean_value, read_pointer, read_stars}
+use Rattle.event_law.specs.Below.server_model.Commit.{goes_on, shared_from, borrow_from}
+use Rattle.event_law.specs.Below.server_model.Events.{committed, prepared}
+use Rattle.event_law.specs.Below.heap_law.Things.{Location, in_cell as in_object}
+use Rattle.event_law.specs.Below.heap_law.Follow.{Standing, Ground, value_in, value_of, leads, locate}
+use Rattle.event_law.specs.Below.heap_law.Sight.{Pointer, sight}
 use Rattle.event_law.specs.Kinds.{step_borrow, instr_kind}
 use Rattle.event_law.specs.Laws.{HasResult}
 use Rattle.path_law.specs.HeapStore.{HasPaths}

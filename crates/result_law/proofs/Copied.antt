@@ -2,26 +2,26 @@
 use Rattle.std.proofs.Common.{◌≡◌, inl, inr, ⊎_elim, ◌≤◌, ℕ, ◌+◌, ◌*◌, ◌==◌, ◌&&◌, ◌||◌, not, nat_lt, is_some, Bool, true, false, if◌then◌else◌, List, [], ◌∷◌, Option, Some, None, refl, sym, ap, subst, ◌∙◌, arith}
 use Rattle.std.specs.Prelude.{slice_get}
 use Rattle.std.proofs.lemmas.Bool.Decides.{nat_tests}
-use Rattle.fr_base.specs.declared.name.ObjNo.{ObjNo}
-use Rattle.global_addr.specs.Words.{colour_of, server_of, address_of, next_word}
-use Rattle.heap_partition.specs.declared.value.Cell.{Cell}
-use Rattle.mut_borrow.specs.declared.mutable.MutRef.{MutRef}
-use Rattle.read_cache.specs.Cache.{Copy, copy_of, cell_in, hit, is_cached, users}
-use Rattle.thread_state.specs.declared.value.Value.TheVariants as value
-use Rattle.server_model.specs.Servers.{Server, Cluster, server_at}
-use Rattle.heap_law.specs.Names.{tot, one, other, Among, same_object, same_cell}
-use Rattle.heap_law.specs.Things.{Location, at_slot, at_temp, Thing, borrows, lies, flies, vacant, retired, copied, counts, things_of}
-use Rattle.heap_law.specs.Follow.{cells_in, cell_of, value_in, slot_of, temp_of}
-use Rattle.heap_law.specs.Stale.{is_among, is_held_at, holder_of}
-use Rattle.heap_law.specs.Sight.{Pointer, pointers_in, taken_pointers, sight, word, word_of_object, is_word, cell_of_word, dirty_objects, if_dirty, is_object_among, colour_up_to, is_spot, is_issued_at, is_issued, issued}
-use Rattle.heap_law.specs.Words.{HasWords, IsStale, LeadsTo}
-use Rattle.heap_law.specs.Placing.{words, standing_in, other_copy, other_cell, clean_cell, if_clean, unless_dirty, same_words, shared_words, is_word_of}
-use Rattle.heap_law.specs.Weights.{states, below}
-use Rattle.heap_law.specs.Naming.{large_counts, events_of}
-use Rattle.heap_law.specs.Coherent.{IsSound}
-use Rattle.heap_law.proofs.Names.{and_left, and_right, same_number}
-use Rattle.heap_law.proofs.Sums.{server_parts}
-use Rattle.heap_law.proofs.Words.{named, none_at, words_law, told as told_stale}
+use Rattle.event_law.specs.Below.fr_base.declared.name.ObjNo.{ObjNo}
+use Rattle.event_law.specs.Below.global_addr.Words.{colour_of, server_of, address_of, next_word}
+use Rattle.event_law.specs.Below.heap_partition.declared.value.Cell.{Cell}
+use Rattle.event_law.specs.Below.mut_borrow.declared.mutable.MutRef.{MutRef}
+use Rattle.event_law.specs.Below.read_cache.Cache.{Copy, copy_of, cell_in, hit, is_cached, users}
+use Rattle.event_law.specs.Below.thread_state.declared.value.Value.TheVariants as value
+use Rattle.event_law.specs.Below.server_model.Servers.{Server, Cluster, server_at}
+use Rattle.event_law.specs.Below.heap_law.Names.{tot, one, other, Among, same_object, same_cell}
+use Rattle.event_law.specs.Below.heap_law.Things.{Location, at_slot, at_temp, Thing, borrows, lies, flies, vacant, retired, copied, counts, things_of}
+use Rattle.event_law.specs.Below.heap_law.Follow.{cells_in, cell_of, value_in, slot_of, temp_of}
+use Rattle.event_law.specs.Below.heap_law.Stale.{is_among, is_held_at, holder_of}
+use Rattle.event_law.specs.Below.heap_law.Sight.{Pointer, pointers_in, taken_pointers, sight, word, word_of_object, is_word, cell_of_word, dirty_objects, if_dirty, is_object_among, colour_up_to, is_spot, is_issued_at, is_issued, issued}
+use Rattle.event_law.specs.Below.heap_law.Words.{HasWords, IsStale, LeadsTo}
+use Rattle.event_law.specs.Below.heap_law.Placing.{words, standing_in, other_copy, other_cell, clean_cell, if_clean, unless_dirty, same_words, shared_words, is_word_of}
+use Rattle.event_law.specs.Below.heap_law.Weights.{states, below}
+use Rattle.event_law.specs.Below.heap_law.Naming.{large_counts, events_of}
+use Rattle.event_law.specs.Below.heap_law.Coherent.{IsSound}
+use Rattle.event_law.proofs.Below.heap_law.Names.{and_left, and_right, same_number}
+use Rattle.event_law.proofs.Below.heap_law.Sums.{server_parts}
+use Rattle.event_law.proofs.Below.heap_law.Words.{named, none_at, words_law, told as told_stale}
 use Rattle.event_law.proofs.Askers.{other_none}
 use Rattle.event_law.proofs.Copies.{copy_word, copy_goes}
 use Rattle.event_law.specs.Sums.{is_server}
@@ -154,7 +154,7 @@ module _ (k : Cluster) (c : HasPaths k) (sound : IsSound k) (number : ℕ) (s : 
   pub few_users : (w : ℕ) → users s.rest.cache w ≤ 16 * events_of (sight k)
   few_users w = by (copy_of s.rest.cache w) refl
     where
-      by : (o : Option Copy) → copy_of s.rest.cache w ≡ o → Rattle.read_cache.specs.Cache.users_in o ≤ 16 * events_of (sight k)
+      by : (o : Option Copy) → copy_of s.rest.cache w ≡ o → Rattle.event_law.specs.Below.read_cache.Cache.users_in o ≤ 16 * events_of (sight k)
       by None e = omega arith
       by (Some x) e =
           let all : tot (large_counts (events_of (sight k))) (things_of k) ≡ 0 = sound.names.counts_bounded in

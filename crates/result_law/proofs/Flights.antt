@@ -1,15 +1,15 @@
 -- An object under way comes to a thread that waits for it, and stands in a slot of that thread: it follows it by boxes and mutable references alone.
 use Rattle.std.proofs.Common.{◌≡◌, inl, inr, ◌≤◌, ℕ, zero, suc, ◌+◌, Bool, true, false, List, [], ◌∷◌, refl, ap, subst, arith}
-use Rattle.fr_base.specs.declared.name.ObjNo.{ObjNo}
-use Rattle.heap_partition.specs.declared.value.Cell.{Cell}
-use Rattle.thread_state.specs.View.{ThreadState}
-use Rattle.server_msgs.specs.declared.message.Message.{Message}
-use Rattle.server_msgs.specs.declared.message.Message.TheVariants as message
-use Rattle.server_model.specs.Servers.{Sent, Server, Cluster}
-use Rattle.heap_law.specs.Names.{tot, one, Among, same_object}
-use Rattle.heap_law.specs.Things.{Location, at_slot, at_temp, in_cell, Thing, flies, sent, stands, things_at, message_things, waiting_things, leaving_things, standing_things, server_things, servers_things, things_of}
-use Rattle.heap_law.proofs.Words.{named, itself}
-use Rattle.heap_law.proofs.Sums.{tot-append}
+use Rattle.event_law.specs.Below.fr_base.declared.name.ObjNo.{ObjNo}
+use Rattle.event_law.specs.Below.heap_partition.declared.value.Cell.{Cell}
+use Rattle.event_law.specs.Below.thread_state.View.{ThreadState}
+use Rattle.event_law.specs.Below.server_msgs.declared.message.Message.{Message}
+use Rattle.event_law.specs.Below.server_msgs.declared.message.Message.TheVariants as message
+use Rattle.event_law.specs.Below.server_model.Servers.{Sent, Server, Cluster}
+use Rattle.event_law.specs.Below.heap_law.Names.{tot, one, Among, same_object}
+use Rattle.event_law.specs.Below.heap_law.Things.{Location, at_slot, at_temp, in_cell, Thing, flies, sent, stands, things_at, message_things, waiting_things, leaving_things, standing_things, server_things, servers_things, things_of}
+use Rattle.event_law.proofs.Below.heap_law.Words.{named, itself}
+use Rattle.event_law.proofs.Below.heap_law.Sums.{tot-append}
 use Rattle.event_law.proofs.Unseen.{Unseen, Unnoted, thread_alone, seen_of}
 
 -- WHAT FLIES IS CARRIED BY A MESSAGE
@@ -81,8 +81,8 @@ module _ (o : ObjNo) where
   of_threads n i [] = (refl, refl)
   of_threads n i (t ∷ ts) =
       let rest = of_threads n (i + 1) ts in (
-        omega (arith, rest.0, thread_alone flying n (no_flight n) n false t, tot-append flying (Rattle.heap_law.specs.Things.thread_things n false t) (things_at (standing_things n) (i + 1) ts)),
-        omega (arith, rest.1, thread_alone moving n (no_move n) n false t, tot-append moving (Rattle.heap_law.specs.Things.thread_things n false t) (things_at (standing_things n) (i + 1) ts)),
+        omega (arith, rest.0, thread_alone flying n (no_flight n) n false t, tot-append flying (Rattle.event_law.specs.Below.heap_law.Things.thread_things n false t) (things_at (standing_things n) (i + 1) ts)),
+        omega (arith, rest.1, thread_alone moving n (no_move n) n false t, tot-append moving (Rattle.event_law.specs.Below.heap_law.Things.thread_things n false t) (things_at (standing_things n) (i + 1) ts)),
       )
 
   of_servers : (ss : List Server) → tot flying (servers_things ss) ≡ tot moving (servers_things ss)

@@ -1,34 +1,34 @@
 -- The pointers that a thread follows which steps: none is stale, their objects lie somewhere, and their words lead there.
 use Rattle.std.proofs.Common.{◌≡◌, inl, inr, ◌≤◌, ◌<◌, ℕ, zero, suc, ◌+◌, ◌-◌, ◌||◌, Bool, true, false, List, [], ◌∷◌, Option, Some, None, refl, sym, ap, subst, ◌∙◌, arith}
 use Rattle.std.specs.Prelude.{slice_get}
-use Rattle.fr_base.specs.declared.name.ObjNo.{ObjNo}
-use Rattle.fr_base.specs.declared.place.Lval.{Lval}
-use Rattle.fr_base.specs.declared.instruction.Instr.{Instr}
-use Rattle.fr_base.specs.declared.instruction.Instr.TheVariants as instr
-use Rattle.fr_store.specs.Keys.{Key, slot_k}
-use Rattle.fr_store.specs.Store.{at_key, at_object, Store, walk, below_key}
-use Rattle.fr_store.specs.Typed.{Exact, KeyTypes, Resolves, Unlent}
-use Rattle.fr_store.proofs.Sound.{sound}
-use Rattle.global_addr.specs.Words.{colour_of, server_of, next_word}
-use Rattle.heap_partition.specs.declared.value.Cell.{Cell}
-use Rattle.heap_partition.specs.declared.value.Owned.TheVariants as owned
-use Rattle.mut_borrow.specs.declared.mutable.MutRef.{MutRef}
-use Rattle.read_cache.specs.Cache.{hit, is_cached}
-use Rattle.thread_state.specs.View.{is_over}
-use Rattle.thread_state.specs.declared.value.Value.{Value}
-use Rattle.thread_state.specs.declared.value.Value.TheVariants as value
-use Rattle.thread_state.specs.declared.phase.Phase.{Phase}
-use Rattle.thread_state.specs.declared.phase.Phase.TheVariants as phase
-use Rattle.server_model.specs.Servers.{Server, Cluster, server_at}
-use Rattle.server_model.specs.Work.{look}
-use Rattle.server_model.specs.Events.{can_step}
-use Rattle.heap_law.specs.Names.{Among}
-use Rattle.heap_law.specs.Things.{Location, in_cell, lies, flies, things_of}
-use Rattle.heap_law.specs.Follow.{Standing, Ground, thread_at, cell_of, value_in, value_behind, value_of, slot_of, leads, locate}
-use Rattle.heap_law.specs.Stale.{same_location, is_among, one_star_less, lent_place, with_place, lent_places, changed_above, stale_above, taken_above}
-use Rattle.heap_law.specs.Sight.{Pointer, sight}
-use Rattle.heap_law.specs.Words.{IsStale}
-use Rattle.heap_law.specs.Coherent.{IsSound}
+use Rattle.event_law.specs.Below.fr_base.declared.name.ObjNo.{ObjNo}
+use Rattle.event_law.specs.Below.fr_base.declared.place.Lval.{Lval}
+use Rattle.event_law.specs.Below.fr_base.declared.instruction.Instr.{Instr}
+use Rattle.event_law.specs.Below.fr_base.declared.instruction.Instr.TheVariants as instr
+use Rattle.event_law.specs.Below.fr_store.Keys.{Key, slot_k}
+use Rattle.event_law.specs.Below.fr_store.Store.{at_key, at_object, Store, walk, below_key}
+use Rattle.event_law.specs.Below.fr_store.Typed.{Exact, KeyTypes, Resolves, Unlent}
+use Rattle.event_law.proofs.Below.fr_store.Sound.{sound}
+use Rattle.event_law.specs.Below.global_addr.Words.{colour_of, server_of, next_word}
+use Rattle.event_law.specs.Below.heap_partition.declared.value.Cell.{Cell}
+use Rattle.event_law.specs.Below.heap_partition.declared.value.Owned.TheVariants as owned
+use Rattle.event_law.specs.Below.mut_borrow.declared.mutable.MutRef.{MutRef}
+use Rattle.event_law.specs.Below.read_cache.Cache.{hit, is_cached}
+use Rattle.event_law.specs.Below.thread_state.View.{is_over}
+use Rattle.event_law.specs.Below.thread_state.declared.value.Value.{Value}
+use Rattle.event_law.specs.Below.thread_state.declared.value.Value.TheVariants as value
+use Rattle.event_law.specs.Below.thread_state.declared.phase.Phase.{Phase}
+use Rattle.event_law.specs.Below.thread_state.declared.phase.Phase.TheVariants as phase
+use Rattle.event_law.specs.Below.server_model.Servers.{Server, Cluster, server_at}
+use Rattle.event_law.specs.Below.server_model.Work.{look}
+use Rattle.event_law.specs.Below.server_model.Events.{can_step}
+use Rattle.event_law.specs.Below.heap_law.Names.{Among}
+use Rattle.event_law.specs.Below.heap_law.Things.{Location, in_cell, lies, flies, things_of}
+use Rattle.event_law.specs.Below.heap_law.Follow.{Standing, Ground, thread_at, cell_of, value_in, value_behind, value_of, slot_of, leads, locate}
+use Rattle.event_law.specs.Below.heap_law.Stale.{same_location, is_among, one_star_less, lent_place, with_place, lent_places, changed_above, stale_above, taken_above}
+use Rattle.event_law.specs.Below.heap_law.Sight.{Pointer, sight}
+use Rattle.event_law.specs.Below.heap_law.Words.{IsStale}
+use Rattle.event_law.specs.Below.heap_law.Coherent.{IsSound}
 use Rattle.path_law.specs.HeapStore.{in_store, heap_store, GoesOn, IsUnmarked, HasPaths}
 use Rattle.path_law.specs.Pointing.{lends}
 use Rattle.path_law.proofs.Alike.{leads_in_heap, IsShown, a_slot, an_object, lead_alike}
@@ -251,9 +251,9 @@ module _ (k : Cluster) (sound_there : IsSound k) (c : HasPaths k) (number : ℕ)
         pub new : is_cached s.rest.cache (next_word p.word) ≡ false
 
       shown_cell : (o : ObjNo) → IsShown k c x g (in_cell o) → (d : Cell) × (cell_of ground.cells o ≡ Some d)
-      shown_cell _ (an_object o u h) = by (Rattle.heap_law.specs.OneHeap.object_value (sight k) o) refl h
+      shown_cell _ (an_object o u h) = by (Rattle.event_law.specs.Below.heap_law.OneHeap.object_value (sight k) o) refl h
         where
-          by : (p : Option Rattle.fr_base.specs.declared.label.Plain.Plain) → Rattle.heap_law.specs.OneHeap.object_value (sight k) o ≡ p → Rattle.fr_sound.specs.Seen.seen_cell c.types.typing.gives p ≡ Some u → (d : Cell) × (cell_of ground.cells o ≡ Some d)
+          by : (p : Option Rattle.event_law.specs.Below.fr_base.declared.label.Plain.Plain) → Rattle.event_law.specs.Below.heap_law.OneHeap.object_value (sight k) o ≡ p → Rattle.path_law.specs.Below.fr_sound.Seen.seen_cell c.types.typing.gives p ≡ Some u → (d : Cell) × (cell_of ground.cells o ≡ Some d)
           by None q f = absurd cc
           by (Some p) q f = let r = object_shown (sight k) o p q in (r.0, r.1)
 

@@ -1,30 +1,30 @@
 -- What stands where a thread's place leads has the form of the place's type.
 use Rattle.std.proofs.Common.{◌≡◌, ◌⊎◌, ℕ, zero, Bool, true, false, List, [], Option, Some, None, is_some, refl, sym, ap, subst, ◌∙◌}
 use Rattle.std.specs.Prelude.{slice_get}
-use Rattle.fr_base.specs.declared.name.ObjNo.{ObjNo}
-use Rattle.fr_base.specs.declared.name.MutexNo.{MutexNo}
-use Rattle.fr_base.specs.declared.place.Lval.{Lval}
-use Rattle.fr_typing.specs.Kinds.{Owned as OwnedType, unit, int, box, mutex, task, Kind, own, shared, mutable, view, Piece, whole, gone, boxed, copies}
-use Rattle.fr_store.specs.Keys.{Key, slot_k}
-use Rattle.fr_store.specs.Store.{at_key, at_object, Val, gone_v, unit_v, int_v, box_v, mutex_v, task_v, ref_v, Store, value_at, below_key}
-use Rattle.fr_store.specs.Typed.{Tree, hole, unit_tree, int_tree, mutex_tree, task_tree, box_tree, Exact, owns, refers, KeyTypes, TopFits, Fits, Resolves}
-use Rattle.fr_store.specs.Below.{tree_of, TreeOf, RefOf, ExactOf}
-use Rattle.fr_store.proofs.Chains.{unique}
-use Rattle.fr_store.proofs.Rows.{found_place}
-use Rattle.fr_store.proofs.Sound.{res_part}
-use Rattle.fr_sound.specs.Seen.{Gives, owned_val, seen_cell}
-use Rattle.heap_partition.specs.Plain.{plain_of}
-use Rattle.heap_partition.specs.declared.value.Cell.{Cell}
-use Rattle.heap_partition.specs.declared.value.Owned.{Owned}
-use Rattle.heap_partition.specs.declared.value.Owned.TheVariants as owned
-use Rattle.thread_state.specs.declared.value.Value.{Value}
-use Rattle.thread_state.specs.declared.value.Value.TheVariants as value
-use Rattle.server_model.specs.Servers.{Cluster}
-use Rattle.server_model.specs.Places.{second_of}
-use Rattle.heap_law.specs.Things.{Location, at_slot, in_cell}
-use Rattle.heap_law.specs.Follow.{Standing, Ground, cell_of, value_in, value_of, slot_of, locate}
-use Rattle.heap_law.specs.Sight.{sight}
-use Rattle.heap_law.specs.OneHeap.{object_value}
+use Rattle.event_law.specs.Below.fr_base.declared.name.ObjNo.{ObjNo}
+use Rattle.event_law.specs.Below.fr_base.declared.name.MutexNo.{MutexNo}
+use Rattle.event_law.specs.Below.fr_base.declared.place.Lval.{Lval}
+use Rattle.event_law.specs.Below.fr_typing.Kinds.{Owned as OwnedType, unit, int, box, mutex, task, Kind, own, shared, mutable, view, Piece, whole, gone, boxed, copies}
+use Rattle.event_law.specs.Below.fr_store.Keys.{Key, slot_k}
+use Rattle.event_law.specs.Below.fr_store.Store.{at_key, at_object, Val, gone_v, unit_v, int_v, box_v, mutex_v, task_v, ref_v, Store, value_at, below_key}
+use Rattle.event_law.specs.Below.fr_store.Typed.{Tree, hole, unit_tree, int_tree, mutex_tree, task_tree, box_tree, Exact, owns, refers, KeyTypes, TopFits, Fits, Resolves}
+use Rattle.event_law.specs.Below.fr_store.Below.{tree_of, TreeOf, RefOf, ExactOf}
+use Rattle.event_law.proofs.Below.fr_store.Chains.{unique}
+use Rattle.event_law.proofs.Below.fr_store.Rows.{found_place}
+use Rattle.event_law.proofs.Below.fr_store.Sound.{res_part}
+use Rattle.path_law.specs.Below.fr_sound.Seen.{Gives, owned_val, seen_cell}
+use Rattle.event_law.specs.Below.heap_partition.Plain.{plain_of}
+use Rattle.event_law.specs.Below.heap_partition.declared.value.Cell.{Cell}
+use Rattle.event_law.specs.Below.heap_partition.declared.value.Owned.{Owned}
+use Rattle.event_law.specs.Below.heap_partition.declared.value.Owned.TheVariants as owned
+use Rattle.event_law.specs.Below.thread_state.declared.value.Value.{Value}
+use Rattle.event_law.specs.Below.thread_state.declared.value.Value.TheVariants as value
+use Rattle.event_law.specs.Below.server_model.Servers.{Cluster}
+use Rattle.event_law.specs.Below.server_model.Places.{second_of}
+use Rattle.event_law.specs.Below.heap_law.Things.{Location, at_slot, in_cell}
+use Rattle.event_law.specs.Below.heap_law.Follow.{Standing, Ground, cell_of, value_in, value_of, slot_of, locate}
+use Rattle.event_law.specs.Below.heap_law.Sight.{sight}
+use Rattle.event_law.specs.Below.heap_law.OneHeap.{object_value}
 use Rattle.path_law.specs.Below.type_law.Names.{NameTypes}
 use Rattle.path_law.specs.Below.type_law.ClusterTypes.{has_form, slot_form}
 use Rattle.path_law.specs.HeapStore.{in_store, heap_store, store_place, GoesOn, IsUnmarked, HasPaths}
@@ -162,9 +162,9 @@ module _ (k : Cluster) (c : HasPaths k) (x : Standing) (g : GoesOn k x) where
       part j e =
           let one = unique st c.types.state.typed.owner b (slot_k t j) n zero (at_key (slot_k t j)) e refl in
           let h = res_part E only (slot_k t w.slot) w.depth b n p r in
-          some_is (part_zero_is (E (slot_k t j)) ∙ subst (λ z. Rattle.fr_store.specs.Typed.exact_under zero (E z) ≡ Some p) one.0 (subst (λ z. Rattle.fr_store.specs.Typed.exact_under z (E b) ≡ Some p) one.1 h))
+          some_is (part_zero_is (E (slot_k t j)) ∙ subst (λ z. Rattle.event_law.specs.Below.fr_store.Typed.exact_under zero (E z) ≡ Some p) one.0 (subst (λ z. Rattle.event_law.specs.Below.fr_store.Typed.exact_under z (E b) ≡ Some p) one.1 h))
         where
-          part_zero_is : (q : Exact) → Some q ≡ Rattle.fr_store.specs.Typed.exact_under zero q
+          part_zero_is : (q : Exact) → Some q ≡ Rattle.event_law.specs.Below.fr_store.Typed.exact_under zero q
           part_zero_is (owns t) = refl
           part_zero_is (refers m u) = refl
 
@@ -183,7 +183,7 @@ module _ (k : Cluster) (c : HasPaths k) (x : Standing) (g : GoesOn k x) where
           in_ground : (o : Option Value) → slice_get x.thread.slots j ≡ o → value_in ground (at_slot t j) ≡ o
           in_ground o e = ap (λ z. slot_of z j) (stands_there k c x g) ∙ e
 
-          by_form : (v : Value) (P : Rattle.fr_typing.specs.Places.Slot) (q : Bool) → slot_form (names k c x g) P q v ≡ true → IsUnmarked x j → slice_get x.thread.slots j ≡ Some v → has_form (names k c x g) P.part v ≡ true
+          by_form : (v : Value) (P : Rattle.event_law.specs.Below.fr_typing.Places.Slot) (q : Bool) → slot_form (names k c x g) P q v ≡ true → IsUnmarked x j → slice_get x.thread.slots j ≡ Some v → has_form (names k c x g) P.part v ≡ true
           by_form v P true f un e = f
           by_form (value.Held m) P false f un e = absurd (un m e)
           by_form value.Gone P false f un e = absurd cc
@@ -203,7 +203,7 @@ module _ (k : Cluster) (c : HasPaths k) (x : Standing) (g : GoesOn k x) where
               absurd (no_gone p (subst (Fits E st p) (sym (some_is gone_there)) fits) filled)
       by _ (an_object o u h) clear val there fits chain = by_plain (object_value (sight k) o) refl h
         where
-          by_plain : (q : Option Rattle.fr_base.specs.declared.label.Plain.Plain) → object_value (sight k) o ≡ q → seen_cell gives q ≡ Some u → (v : Value) × (value_in ground (in_cell o) ≡ Some v) × Stood p (in_cell o) v
+          by_plain : (q : Option Rattle.event_law.specs.Below.fr_base.declared.label.Plain.Plain) → object_value (sight k) o ≡ q → seen_cell gives q ≡ Some u → (v : Value) × (value_in ground (in_cell o) ≡ Some v) × Stood p (in_cell o) v
           by_plain None q f = absurd cc
           by_plain (Some a) q f =
               let d = object_shown (sight k) o a q in
@@ -267,7 +267,7 @@ module _ (k : Cluster) (c : HasPaths k) (x : Standing) (g : GoesOn k x) where
       light v (view o) (owns tr) is c f = absurd is
       light v (shared us) (refers m b) is c f = absurd (no_reference v f.target f.is)
         where
-          no_reference : (v : Owned) (l : Rattle.fr_store.specs.Store.Location) → owned_val gives (plain_of v) ≡ ref_v l → ⊥
+          no_reference : (v : Owned) (l : Rattle.event_law.specs.Below.fr_store.Store.Location) → owned_val gives (plain_of v) ≡ ref_v l → ⊥
           no_reference owned.Nothing l e = cc
           no_reference owned.Unit l e = cc
           no_reference (owned.Int i) l e = cc
@@ -277,7 +277,7 @@ module _ (k : Cluster) (c : HasPaths k) (x : Standing) (g : GoesOn k x) where
       light v (mutable us) (refers m b) is c f = absurd (cc c)
       light v (view o) (refers m b) is c f = absurd (no_reference v f.target f.is)
         where
-          no_reference : (v : Owned) (l : Rattle.fr_store.specs.Store.Location) → owned_val gives (plain_of v) ≡ ref_v l → ⊥
+          no_reference : (v : Owned) (l : Rattle.event_law.specs.Below.fr_store.Store.Location) → owned_val gives (plain_of v) ≡ ref_v l → ⊥
           no_reference owned.Nothing l e = cc
           no_reference owned.Unit l e = cc
           no_reference (owned.Int i) l e = cc

@@ -2,26 +2,26 @@
 use Rattle.std.proofs.Common.{◌≡◌, ℕ, ◌*◌, ◌^◌, ◌<◌, ◌≤◌, not, true, false, length, reverse, Some, IsSome, refl, sym, ap, subst, ◌∙◌, arith}
 use Rattle.std.specs.Prelude.{slice_get, option_map}
 use Rattle.std.proofs.lemmas.Bool.Decides.{nat_tests}
-use Rattle.fr_base.specs.declared.instruction.Instr.{Instr}
-use Rattle.fr_base.specs.declared.step.Fresh.{Fresh}
-use Rattle.fr_code.specs.CodeTypes.{Entry}
-use Rattle.fr_code.specs.CodeTable.{Leads, Successors}
-use Rattle.thread_state.specs.View.{ThreadState, is_over}
-use Rattle.thread_state.specs.declared.phase.Phase.{Phase}
-use Rattle.thread_state.specs.declared.phase.Phase.TheVariants as phase
-use Rattle.migration.specs.Packing.{unpin_all}
-use Rattle.mutex_home.specs.Mutexes.{can_make}
-use Rattle.server_model.specs.declared.event.What.TheVariants.{Step}
-use Rattle.server_model.specs.Servers.{Server, Cluster, server_at}
-use Rattle.server_model.specs.Work.{Hand, thread_in, then_some}
-use Rattle.server_model.specs.NewWords.{can_grow}
-use Rattle.server_model.specs.Commit.{done, settle}
-use Rattle.server_model.specs.Events.{can_step, has_phase, enabled, begin_work, committed, done_step, step, step_in, stepped}
-use Rattle.heap_law.specs.Names.{tot, if_so}
-use Rattle.heap_law.specs.Things.{things_of}
-use Rattle.heap_law.specs.Follow.{Standing}
-use Rattle.heap_law.specs.Sight.{sight}
-use Rattle.heap_law.specs.Naming.{events_of, large_counts, many_names}
+use Rattle.event_law.specs.Below.fr_base.declared.instruction.Instr.{Instr}
+use Rattle.event_law.specs.Below.fr_base.declared.step.Fresh.{Fresh}
+use Rattle.event_law.specs.Below.fr_code.CodeTypes.{Entry}
+use Rattle.event_law.specs.Below.fr_code.CodeTable.{Leads, Successors}
+use Rattle.event_law.specs.Below.thread_state.View.{ThreadState, is_over}
+use Rattle.event_law.specs.Below.thread_state.declared.phase.Phase.{Phase}
+use Rattle.event_law.specs.Below.thread_state.declared.phase.Phase.TheVariants as phase
+use Rattle.event_law.specs.Below.migration.Packing.{unpin_all}
+use Rattle.event_law.specs.Below.mutex_home.Mutexes.{can_make}
+use Rattle.event_law.specs.Below.server_model.declared.event.What.TheVariants.{Step}
+use Rattle.event_law.specs.Below.server_model.Servers.{Server, Cluster, server_at}
+use Rattle.event_law.specs.Below.server_model.Work.{Hand, thread_in, then_some}
+use Rattle.event_law.specs.Below.server_model.NewWords.{can_grow}
+use Rattle.event_law.specs.Below.server_model.Commit.{done, settle}
+use Rattle.event_law.specs.Below.server_model.Events.{can_step, has_phase, enabled, begin_work, committed, done_step, step, step_in, stepped}
+use Rattle.event_law.specs.Below.heap_law.Names.{tot, if_so}
+use Rattle.event_law.specs.Below.heap_law.Things.{things_of}
+use Rattle.event_law.specs.Below.heap_law.Follow.{Standing}
+use Rattle.event_law.specs.Below.heap_law.Sight.{sight}
+use Rattle.event_law.specs.Below.heap_law.Naming.{events_of, large_counts, many_names}
 use Rattle.event_law.specs.Laws.{FewEvents, HasResult}
 use Rattle.event_law.proofs.Each.{at_most}
 use Rattle.event_law.proofs.Events.{tot-server}

@@ -1,34 +1,34 @@
 -- Mutable borrows through stars have results: the last pointer is none that is shared, and the stars before it are read.
 use Rattle.std.proofs.Common.{◌≡◌, ◌≤◌, ℕ, zero, suc, ◌==◌, Bool, true, false, if◌then◌else◌, Option, Some, option_map, IsSome, refl, sym, ap, subst, ◌∙◌, arith}
 use Rattle.std.specs.Prelude.{slice_get}
-use Rattle.fr_base.specs.declared.place.Lval.{Lval}
-use Rattle.fr_base.specs.declared.instruction.Instr.{Instr}
-use Rattle.fr_base.specs.declared.instruction.Instr.TheVariants as instr
-use Rattle.fr_store.specs.Keys.{Key, slot_k}
-use Rattle.fr_store.specs.Store.{Store}
-use Rattle.fr_store.specs.Typed.{KeyTypes, Typed}
-use Rattle.fr_code.specs.CodeTypes.{Entry, Table, InstrTypes, i_borrow_mut}
-use Rattle.global_addr.specs.Words.{server_of}
-use Rattle.heap_partition.specs.declared.value.BoxPtr.{BoxPtr}
-use Rattle.heap_partition.specs.declared.value.Cell.{Cell}
-use Rattle.heap_partition.specs.declared.value.Owned.{Owned}
-use Rattle.heap_partition.specs.declared.value.Owned.TheVariants as owned
-use Rattle.mut_borrow.specs.declared.shared.SharedRef.{SharedRef}
-use Rattle.place_walk.specs.declared.hop.Hop.{Hop as Jump}
-use Rattle.place_walk.specs.declared.hop.Hop.TheVariants as hop
-use Rattle.thread_state.specs.View.{ThreadState}
-use Rattle.thread_state.specs.declared.value.Value.{Value}
-use Rattle.thread_state.specs.declared.value.Value.TheVariants as value
-use Rattle.server_model.specs.declared.event.What.TheVariants.{Step}
-use Rattle.server_model.specs.Servers.{Server, Cluster}
-use Rattle.server_model.specs.Work.{Hand, push_temp, then_some}
-use Rattle.server_model.specs.Places.{Spot, in_slot, value_at, load_at, pointer_of}
-use Rattle.server_model.specs.Prepare.{Prepared, ready, requested, nothing, and_then, ask_object, request_by, is_taken, lend_by, lend_value, lend_pointer, read_stars}
-use Rattle.server_model.specs.Commit.{goes_on, mutable_from, borrow_mut_from}
-use Rattle.server_model.specs.Events.{committed, prepared}
-use Rattle.heap_law.specs.Things.{Location, at_slot}
-use Rattle.heap_law.specs.Follow.{Standing, Ground, value_in, value_of, leads, locate}
-use Rattle.heap_law.specs.Sight.{sight}
+use Rattle.event_law.specs.Below.fr_base.declared.place.Lval.{Lval}
+use Rattle.event_law.specs.Below.fr_base.declared.instruction.Instr.{Instr}
+use Rattle.event_law.specs.Below.fr_base.declared.instruction.Instr.TheVariants as instr
+use Rattle.event_law.specs.Below.fr_store.Keys.{Key, slot_k}
+use Rattle.event_law.specs.Below.fr_store.Store.{Store}
+use Rattle.event_law.specs.Below.fr_store.Typed.{KeyTypes, Typed}
+use Rattle.event_law.specs.Below.fr_code.CodeTypes.{Entry, Table, InstrTypes, i_borrow_mut}
+use Rattle.event_law.specs.Below.global_addr.Words.{server_of}
+use Rattle.event_law.specs.Below.heap_partition.declared.value.BoxPtr.{BoxPtr}
+use Rattle.event_law.specs.Below.heap_partition.declared.value.Cell.{Cell}
+use Rattle.event_law.specs.Below.heap_partition.declared.value.Owned.{Owned}
+use Rattle.event_law.specs.Below.heap_partition.declared.value.Owned.TheVariants as owned
+use Rattle.event_law.specs.Below.mut_borrow.declared.shared.SharedRef.{SharedRef}
+use Rattle.event_law.specs.Below.place_walk.declared.hop.Hop.{Hop as Jump}
+use Rattle.event_law.specs.Below.place_walk.declared.hop.Hop.TheVariants as hop
+use Rattle.event_law.specs.Below.thread_state.View.{ThreadState}
+use Rattle.event_law.specs.Below.thread_state.declared.value.Value.{Value}
+use Rattle.event_law.specs.Below.thread_state.declared.value.Value.TheVariants as value
+use Rattle.event_law.specs.Below.server_model.declared.event.What.TheVariants.{Step}
+use Rattle.event_law.specs.Below.server_model.Servers.{Server, Cluster}
+use Rattle.event_law.specs.Below.server_model.Work.{Hand, push_temp, then_some}
+use Rattle.event_law.specs.Below.server_model.Places.{Spot, in_slot, value_at, load_at, pointer_of}
+use Rattle.event_law.specs.Below.server_model.Prepare.{Prepared, ready, requested, nothing, and_then, ask_object, request_by, is_taken, lend_by, lend_value, lend_pointer, read_stars}
+use Rattle.event_law.specs.Below.server_model.Commit.{goes_on, mutable_from, borrow_mut_from}
+use Rattle.event_law.specs.Below.server_model.Events.{committed, prepared}
+use Rattle.event_law.specs.Below.heap_law.Things.{Location, at_slot}
+use Rattle.event_law.specs.Below.heap_law.Follow.{Standing, Ground, value_in, value_of, leads, locate}
+use Rattle.event_law.specs.Below.heap_law.Sight.{sight}
 use Rattle.event_law.specs.Kinds.{step_borrow_mut, instr_kind}
 use Rattle.event_law.specs.Laws.{HasResult}
 use Rattle.path_law.specs.HeapStore.{heap_store, GoesOn, HasPaths}

@@ -1,10 +1,10 @@
 -- No mutable reference was made from a pointer that a place follows whose variable no type lends mutably, in a typed store.
 use Rattle.std.proofs.Common.{◌≡◌, ℕ, suc, ◌+◌, ◌<◌, Bool, true, Some, refl, sym, ap, subst, ◌∙◌, arith}
-use Rattle.fr_store.specs.Keys.{Key}
-use Rattle.fr_store.specs.Store.{Location, at_key, Store, Place, walk, add, below_key}
-use Rattle.fr_store.specs.Typed.{Exact, refers, KeyTypes, Resolves, here, through, Typed, Unlent}
-use Rattle.fr_store.proofs.Chains.{add_plus, unique}
-use Rattle.fr_store.proofs.Sound.{Reach, stop, go, res_reach, ref_at, sound}
+use Rattle.event_law.specs.Below.fr_store.Keys.{Key}
+use Rattle.event_law.specs.Below.fr_store.Store.{Location, at_key, Store, Place, walk, add, below_key}
+use Rattle.event_law.specs.Below.fr_store.Typed.{Exact, refers, KeyTypes, Resolves, here, through, Typed, Unlent}
+use Rattle.event_law.proofs.Below.fr_store.Chains.{add_plus, unique}
+use Rattle.event_law.proofs.Below.fr_store.Sound.{Reach, stop, go, res_reach, ref_at, sound}
 use Rattle.path_law.proofs.Circles.{shorter}
 use Rattle.path_law.specs.Above.{IsMadeFrom}
 

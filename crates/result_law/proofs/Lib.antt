@@ -1,3 +1,4 @@
+pub mod Below
 pub mod Usable
 pub mod Operands
 pub mod Known

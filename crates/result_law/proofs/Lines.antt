@@ -3,35 +3,35 @@ use Rattle.std.proofs.Common.{◌≡◌, ℕ, ℤ, ◌<◌, ◌==◌, nat_lt, Bo
 use Rattle.std.specs.Prelude.{slice_get, slice_set}
 use Rattle.std.proofs.lemmas.Option.{slice_get_within}
 use Rattle.std.proofs.lemmas.Bool.Decides.{nat_tests}
-use Rattle.fr_base.specs.Lists.{last_of}
-use Rattle.fr_base.specs.declared.name.MutexNo.{MutexNo}
-use Rattle.fr_base.specs.declared.label.Label.TheVariants as label
-use Rattle.fr_base.specs.declared.place.Lval.{Lval}
-use Rattle.fr_base.specs.declared.place.Op.{Op}
-use Rattle.fr_base.specs.declared.step.Fresh.TheVariants as fresh
-use Rattle.fr_base.specs.declared.instruction.Instr.{Instr}
-use Rattle.fr_base.specs.declared.instruction.Instr.TheVariants as instr
-use Rattle.fr_base.specs.declared.instruction.Operand.{Operand}
-use Rattle.fr_plain.specs.Acts.{result_of}
-use Rattle.heap_partition.specs.declared.value.Owned.{Owned}
-use Rattle.heap_partition.specs.declared.value.Owned.TheVariants as owned
-use Rattle.read_cache.specs.Cache.{Copy}
-use Rattle.migration.specs.Packing.{unpin_all}
-use Rattle.mutex_home.specs.Mutexes.{can_make, next_mutex}
-use Rattle.thread_state.specs.View.{ThreadState}
-use Rattle.thread_state.specs.declared.value.Value.{Value}
-use Rattle.thread_state.specs.declared.value.Value.TheVariants as value
-use Rattle.thread_state.specs.declared.phase.Phase.TheVariants as phase
-use Rattle.server_msgs.specs.declared.message.Message.{Message}
-use Rattle.server_msgs.specs.declared.message.Message.TheVariants as message
-use Rattle.journal.specs.declared.act.Act.TheVariants as act
-use Rattle.server_model.specs.Servers.{Rest}
-use Rattle.server_model.specs.Work.{Work, Hand, Popped, sent_from, send, note, with_temps, with_slots, front_of, pop, pop_temp, pop_slot, pop_owned, pop_int, owned_of, mutex_of, taken_as, then_some, push_slot, push_temp, label_all, working, with_phase}
-use Rattle.server_model.specs.NewWords.{NewWord, can_grow}
-use Rattle.server_model.specs.Places.{in_slot, load_at, second_of}
-use Rattle.server_model.specs.Drop.{give_up}
-use Rattle.server_model.specs.Commit.{Committed, done, done_where, goes_on, go_on, let_slot, take_gift, push_box, make_box, push_content, send_content, held_of, mutex_made, end_with, ask_dup, ask_lock, label_dropped, commit}
-use Rattle.server_model.specs.Events.{begin_work, committed, step}
+use Rattle.event_law.specs.Below.fr_base.Lists.{last_of}
+use Rattle.event_law.specs.Below.fr_base.declared.name.MutexNo.{MutexNo}
+use Rattle.event_law.specs.Below.fr_base.declared.label.Label.TheVariants as label
+use Rattle.event_law.specs.Below.fr_base.declared.place.Lval.{Lval}
+use Rattle.event_law.specs.Below.fr_base.declared.place.Op.{Op}
+use Rattle.event_law.specs.Below.fr_base.declared.step.Fresh.TheVariants as fresh
+use Rattle.event_law.specs.Below.fr_base.declared.instruction.Instr.{Instr}
+use Rattle.event_law.specs.Below.fr_base.declared.instruction.Instr.TheVariants as instr
+use Rattle.event_law.specs.Below.fr_base.declared.instruction.Operand.{Operand}
+use Rattle.event_law.specs.Below.fr_plain.Acts.{result_of}
+use Rattle.event_law.specs.Below.heap_partition.declared.value.Owned.{Owned}
+use Rattle.event_law.specs.Below.heap_partition.declared.value.Owned.TheVariants as owned
+use Rattle.event_law.specs.Below.read_cache.Cache.{Copy}
+use Rattle.event_law.specs.Below.migration.Packing.{unpin_all}
+use Rattle.event_law.specs.Below.mutex_home.Mutexes.{can_make, next_mutex}
+use Rattle.event_law.specs.Below.thread_state.View.{ThreadState}
+use Rattle.event_law.specs.Below.thread_state.declared.value.Value.{Value}
+use Rattle.event_law.specs.Below.thread_state.declared.value.Value.TheVariants as value
+use Rattle.event_law.specs.Below.thread_state.declared.phase.Phase.TheVariants as phase
+use Rattle.event_law.specs.Below.server_msgs.declared.message.Message.{Message}
+use Rattle.event_law.specs.Below.server_msgs.declared.message.Message.TheVariants as message
+use Rattle.event_law.specs.Below.journal.declared.act.Act.TheVariants as act
+use Rattle.event_law.specs.Below.server_model.Servers.{Rest}
+use Rattle.event_law.specs.Below.server_model.Work.{Work, Hand, Popped, sent_from, send, note, with_temps, with_slots, front_of, pop, pop_temp, pop_slot, pop_owned, pop_int, owned_of, mutex_of, taken_as, then_some, push_slot, push_temp, label_all, working, with_phase}
+use Rattle.event_law.specs.Below.server_model.NewWords.{NewWord, can_grow}
+use Rattle.event_law.specs.Below.server_model.Places.{in_slot, load_at, second_of}
+use Rattle.event_law.specs.Below.server_model.Drop.{give_up}
+use Rattle.event_law.specs.Below.server_model.Commit.{Committed, done, done_where, goes_on, go_on, let_slot, take_gift, push_box, make_box, push_content, send_content, held_of, mutex_made, end_with, ask_dup, ask_lock, label_dropped, commit}
+use Rattle.event_law.specs.Below.server_model.Events.{begin_work, committed, step}
 use Rattle.result_law.proofs.Known.{settled}
 
 abbrev Goes : Option Hand → Type 0
@@ -42,7 +42,7 @@ Goes o = IsSome (committed (goes_on o))
 sent_cache : (r : Rest) (target : ℕ) (m : Message) → (sent_from r target m).cache ≡ r.cache
 sent_cache r target m = by (target == r.number)
   where
-    by : (b : Bool) → (if b then Rattle.server_model.specs.Work.add_waiting m r else record r { outbox = r.outbox ++ record { target = target; message = m } ∷ [] }).cache ≡ r.cache
+    by : (b : Bool) → (if b then Rattle.event_law.specs.Below.server_model.Work.add_waiting m r else record r { outbox = r.outbox ++ record { target = target; message = m } ∷ [] }).cache ≡ r.cache
     by true = refl
     by false = refl
 
@@ -129,15 +129,15 @@ module _ (servers : ℕ) (r : Rest) (y : ThreadState) (u : IsSome (unpin_all y.w
   pub dups : (i : ℕ) (m : MutexNo) → slice_get y.slots i ≡ Some (value.Own (owned.Mutex m)) → Done (instr.Dup (variable i))
   dups i m e = by y.gift
     where
-      by : (g : Option Owned) → IsSome (committed (Rattle.server_model.specs.Commit.dup (in_slot i) g h))
-      by None = subst (λ o. IsSome (committed (Rattle.server_model.specs.Commit.waiting (option_map (ask_dup h) (then_some o mutex_of))))) (sym e) refl
+      by : (g : Option Owned) → IsSome (committed (Rattle.event_law.specs.Below.server_model.Commit.dup (in_slot i) g h))
+      by None = subst (λ o. IsSome (committed (Rattle.event_law.specs.Below.server_model.Commit.waiting (option_map (ask_dup h) (then_some o mutex_of))))) (sym e) refl
       by (Some share) = subst (λ o. Goes (option_map (λ n. push_temp (value.Own share) (load_at (in_slot i) (take_gift h))) (then_some o mutex_of))) (sym e) (quiet (push_temp (value.Own share) (load_at (in_slot i) (take_gift h))) refl refl)
 
   pub locks : (i : ℕ) (m : MutexNo) → slice_get y.slots i ≡ Some (value.Own (owned.Mutex m)) → Done (instr.Lock (variable i))
   locks i m e = by y.gift
     where
-      by : (g : Option Owned) → IsSome (committed (Rattle.server_model.specs.Commit.lock (in_slot i) g h))
-      by None = subst (λ o. IsSome (committed (Rattle.server_model.specs.Commit.waiting (option_map (ask_lock h) (then_some o mutex_of))))) (sym e) refl
+      by : (g : Option Owned) → IsSome (committed (Rattle.event_law.specs.Below.server_model.Commit.lock (in_slot i) g h))
+      by None = subst (λ o. IsSome (committed (Rattle.event_law.specs.Below.server_model.Commit.waiting (option_map (ask_lock h) (then_some o mutex_of))))) (sym e) refl
       by (Some content) = subst (λ o. Goes (option_map (push_content content (load_at (in_slot i) (take_gift h))) (then_some o mutex_of))) (sym e) (quiet (push_content content (load_at (in_slot i) (take_gift h)) m) refl refl)
 
   -- the content, and the mark below it
@@ -152,9 +152,9 @@ module _ (servers : ℕ) (r : Rest) (y : ThreadState) (u : IsSome (unpin_all y.w
   -- a join that asks
   pub joins : (o : Operand) (v : Value) (t : ℕ) (rest : List Value) → y.gift ≡ None → pop o h ≡ Some (record { item = v; hand = with_temps rest h }) → v ≡ value.Own (owned.Task t) → Done (instr.Join o)
   joins o v t rest bare e task =
-      subst (λ g. IsSome (committed (Rattle.server_model.specs.Commit.join o g h))) (sym bare)
-      (subst (λ p. IsSome (committed (Rattle.server_model.specs.Commit.waiting (option_map (Rattle.server_model.specs.Commit.ask_join h) (then_some p (λ x. Rattle.server_model.specs.Work.task_of x.item)))))) (sym e)
-      (subst (λ x. IsSome (committed (Rattle.server_model.specs.Commit.waiting (option_map (Rattle.server_model.specs.Commit.ask_join h) (Rattle.server_model.specs.Work.task_of x))))) (sym task) refl))
+      subst (λ g. IsSome (committed (Rattle.event_law.specs.Below.server_model.Commit.join o g h))) (sym bare)
+      (subst (λ p. IsSome (committed (Rattle.event_law.specs.Below.server_model.Commit.waiting (option_map (Rattle.event_law.specs.Below.server_model.Commit.ask_join h) (then_some p (λ x. Rattle.event_law.specs.Below.server_model.Work.task_of x.item)))))) (sym e)
+      (subst (λ x. IsSome (committed (Rattle.event_law.specs.Below.server_model.Commit.waiting (option_map (Rattle.event_law.specs.Below.server_model.Commit.ask_join h) (Rattle.event_law.specs.Below.server_model.Work.task_of x))))) (sym task) refl))
 
   pub ends : (o : Operand) (v : Owned) (rest : List Value) → pop_owned o h ≡ Some (record { item = v; hand = with_temps rest h }) → Done (instr.End o)
   ends o v rest e =

@@ -1,21 +1,21 @@
 -- A mutable reference that stands in a thread leads into a slot's boxes of its own thread, and the pointer that it was made from is that of its place.
 use Rattle.std.proofs.Common.{◌≡◌, inl, inr, ⊎_elim, ℕ, zero, suc, Bool, true, List, [], ◌∷◌, Some, refl, sym, ap, subst, ◌∙◌}
 use Rattle.std.specs.Prelude.{slice_get}
-use Rattle.fr_base.specs.declared.name.ObjNo.{ObjNo}
-use Rattle.fr_base.specs.declared.place.Lval.{Lval}
-use Rattle.fr_store.specs.Keys.{Key, slot_k, temp_k}
-use Rattle.fr_store.specs.Store.{at_key, at_object, Store, Place as StorePlace, walk, below_key}
-use Rattle.fr_store.specs.Typed.{Exact, refers, KeyTypes, Resolves, Unlent}
-use Rattle.fr_store.specs.Below.{ExactOf}
-use Rattle.fr_store.proofs.Sound.{ref_at, sound}
-use Rattle.mut_borrow.specs.declared.mutable.MutRef.{MutRef}
-use Rattle.thread_state.specs.declared.value.Value.TheVariants as value
-use Rattle.server_model.specs.Servers.{Cluster}
-use Rattle.heap_law.specs.Names.{Among}
-use Rattle.heap_law.specs.Things.{Location, at_slot, at_temp, Thing, borrows, things_of}
-use Rattle.heap_law.specs.Follow.{Standing, Ground, locate}
-use Rattle.heap_law.specs.Stale.{Reference, references, holder_of, is_held_at as is_held_there}
-use Rattle.heap_law.specs.Sight.{sight}
+use Rattle.event_law.specs.Below.fr_base.declared.name.ObjNo.{ObjNo}
+use Rattle.event_law.specs.Below.fr_base.declared.place.Lval.{Lval}
+use Rattle.event_law.specs.Below.fr_store.Keys.{Key, slot_k, temp_k}
+use Rattle.event_law.specs.Below.fr_store.Store.{at_key, at_object, Store, Place as StorePlace, walk, below_key}
+use Rattle.event_law.specs.Below.fr_store.Typed.{Exact, refers, KeyTypes, Resolves, Unlent}
+use Rattle.event_law.specs.Below.fr_store.Below.{ExactOf}
+use Rattle.event_law.proofs.Below.fr_store.Sound.{ref_at, sound}
+use Rattle.event_law.specs.Below.mut_borrow.declared.mutable.MutRef.{MutRef}
+use Rattle.event_law.specs.Below.thread_state.declared.value.Value.TheVariants as value
+use Rattle.event_law.specs.Below.server_model.Servers.{Cluster}
+use Rattle.event_law.specs.Below.heap_law.Names.{Among}
+use Rattle.event_law.specs.Below.heap_law.Things.{Location, at_slot, at_temp, Thing, borrows, things_of}
+use Rattle.event_law.specs.Below.heap_law.Follow.{Standing, Ground, locate}
+use Rattle.event_law.specs.Below.heap_law.Stale.{Reference, references, holder_of, is_held_at as is_held_there}
+use Rattle.event_law.specs.Below.heap_law.Sight.{sight}
 use Rattle.path_law.specs.Below.type_law.ClusterTypes.{astray, is_held_at}
 use Rattle.path_law.specs.Above.{IsMadeFrom}
 use Rattle.path_law.specs.HeapStore.{in_store, heap_store, GoesOn, HasPaths}

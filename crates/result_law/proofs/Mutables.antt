@@ -1,23 +1,23 @@
 -- A place over mutable references alone: the pointers that it follows aren't shared, and with different counts of stars it leads apart.
 use Rattle.std.proofs.Common.{◌≡◌, ◌≤◌, ◌<◌, ℕ, suc, ◌-◌, is_some, Bool, true, false, Some, refl, sym, ap, subst, ◌∙◌, arith}
 use Rattle.std.specs.Prelude.{slice_get}
-use Rattle.fr_typing.specs.Kinds.{own, shared, mutable, view, Piece, whole, gone, boxed}
-use Rattle.fr_typing.specs.Places.{Slot}
-use Rattle.fr_store.specs.Keys.{Key, slot_k}
-use Rattle.fr_store.specs.Store.{Location as StoreLocation, at_key, at_object, ref_v, Store, Place as StorePlace, add, below_key}
-use Rattle.fr_store.specs.Typed.{hole, Exact, owns, refers, Whole, KeyTypes, exact_under, Resolves, here, through, Typed}
-use Rattle.fr_store.specs.Below.{RefOf, ExactOf}
-use Rattle.fr_store.proofs.Below.{part_zero}
-use Rattle.fr_store.proofs.Chains.{add_plus, unique}
-use Rattle.fr_store.proofs.Sound.{ref_at, sound, res_part}
-use Rattle.fr_store.proofs.ThreadKept.{res_low, ref_base}
-use Rattle.mut_borrow.specs.declared.shared.SharedRef.{SharedRef}
-use Rattle.thread_state.specs.declared.value.Value.{Value}
-use Rattle.thread_state.specs.declared.value.Value.TheVariants as value
-use Rattle.server_model.specs.Servers.{Cluster}
-use Rattle.heap_law.specs.Things.{Location, at_slot}
-use Rattle.heap_law.specs.Follow.{Standing, Ground, value_in, slot_of, locate}
-use Rattle.heap_law.specs.Sight.{sight}
+use Rattle.event_law.specs.Below.fr_typing.Kinds.{own, shared, mutable, view, Piece, whole, gone, boxed}
+use Rattle.event_law.specs.Below.fr_typing.Places.{Slot}
+use Rattle.event_law.specs.Below.fr_store.Keys.{Key, slot_k}
+use Rattle.event_law.specs.Below.fr_store.Store.{Location as StoreLocation, at_key, at_object, ref_v, Store, Place as StorePlace, add, below_key}
+use Rattle.event_law.specs.Below.fr_store.Typed.{hole, Exact, owns, refers, Whole, KeyTypes, exact_under, Resolves, here, through, Typed}
+use Rattle.event_law.specs.Below.fr_store.Below.{RefOf, ExactOf}
+use Rattle.event_law.proofs.Below.fr_store.Below.{part_zero}
+use Rattle.event_law.proofs.Below.fr_store.Chains.{add_plus, unique}
+use Rattle.event_law.proofs.Below.fr_store.Sound.{ref_at, sound, res_part}
+use Rattle.event_law.proofs.Below.fr_store.ThreadKept.{res_low, ref_base}
+use Rattle.event_law.specs.Below.mut_borrow.declared.shared.SharedRef.{SharedRef}
+use Rattle.event_law.specs.Below.thread_state.declared.value.Value.{Value}
+use Rattle.event_law.specs.Below.thread_state.declared.value.Value.TheVariants as value
+use Rattle.event_law.specs.Below.server_model.Servers.{Cluster}
+use Rattle.event_law.specs.Below.heap_law.Things.{Location, at_slot}
+use Rattle.event_law.specs.Below.heap_law.Follow.{Standing, Ground, value_in, slot_of, locate}
+use Rattle.event_law.specs.Below.heap_law.Sight.{sight}
 use Rattle.path_law.specs.Below.type_law.Names.{NameTypes}
 use Rattle.path_law.specs.Below.type_law.ClusterTypes.{has_form, slot_form}
 use Rattle.path_law.specs.HeapStore.{in_store, heap_store, GoesOn, HasPaths}

@@ -1,19 +1,19 @@
 -- Whose slot an object stands in that a thread's place leads to: its own, or that of a thread that waits for it at a par.
 use Rattle.std.proofs.Common.{◌≡◌, ◌⊎◌, inl, inr, ⊎_elim, ℕ, Bool, Some, refl, sym, ap, subst, ◌∙◌}
-use Rattle.fr_base.specs.declared.name.ObjNo.{ObjNo}
-use Rattle.fr_plain.specs.PlainState.{PlainState}
-use Rattle.fr_sound.specs.States.{WaitsAbove, directly, through, thread_of_key}
-use Rattle.fr_code.specs.Machine.{CodeState}
-use Rattle.fr_store.specs.Keys.{Key, slot_k}
-use Rattle.fr_store.specs.Store.{at_object, Place as StorePlace, below_key}
-use Rattle.fr_store.specs.Typed.{Exact, refers, KeyTypes, Resolves, here, through as through_reference}
-use Rattle.fr_store.proofs.Chains.{unique}
-use Rattle.thread_state.specs.declared.phase.Phase.{Phase}
-use Rattle.thread_state.specs.declared.phase.Phase.TheVariants as phase
-use Rattle.server_model.specs.Servers.{Cluster}
-use Rattle.heap_law.specs.Follow.{Standing, thread_at}
-use Rattle.heap_law.specs.Sight.{sight}
-use Rattle.heap_law.specs.OneHeap.{one_heap, two_in, pair_of}
+use Rattle.event_law.specs.Below.fr_base.declared.name.ObjNo.{ObjNo}
+use Rattle.event_law.specs.Below.fr_plain.PlainState.{PlainState}
+use Rattle.path_law.specs.Below.fr_sound.States.{WaitsAbove, directly, through, thread_of_key}
+use Rattle.event_law.specs.Below.fr_code.Machine.{CodeState}
+use Rattle.event_law.specs.Below.fr_store.Keys.{Key, slot_k}
+use Rattle.event_law.specs.Below.fr_store.Store.{at_object, Place as StorePlace, below_key}
+use Rattle.event_law.specs.Below.fr_store.Typed.{Exact, refers, KeyTypes, Resolves, here, through as through_reference}
+use Rattle.event_law.proofs.Below.fr_store.Chains.{unique}
+use Rattle.event_law.specs.Below.thread_state.declared.phase.Phase.{Phase}
+use Rattle.event_law.specs.Below.thread_state.declared.phase.Phase.TheVariants as phase
+use Rattle.event_law.specs.Below.server_model.Servers.{Cluster}
+use Rattle.event_law.specs.Below.heap_law.Follow.{Standing, thread_at}
+use Rattle.event_law.specs.Below.heap_law.Sight.{sight}
+use Rattle.event_law.specs.Below.heap_law.OneHeap.{one_heap, two_in, pair_of}
 use Rattle.path_law.specs.HeapStore.{heap_store, GoesOn, HasPaths}
 use Rattle.path_law.proofs.Shown.{stands_there}
 use Rattle.path_law.proofs.Sole.{some_is}

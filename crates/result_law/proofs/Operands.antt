@@ -2,20 +2,20 @@
 use Rattle.std.proofs.Common.{◌≡◌, ℕ, ℤ, zero, suc, ◌+◌, ◌-◌, ◌<◌, true, false, if◌then◌else◌, List, [], ◌∷◌, ◌++◌, length, reverse, Some, is_some, refl, sym, ap, subst, ◌∙◌, arith}
 use Rattle.std.specs.Prelude.{slice_get}
 use Rattle.std.proofs.lemmas.List.{reverse-append}
-use Rattle.fr_typing.proofs.PlaceLemmas.{eq_cases}
-use Rattle.fr_base.specs.Lists.{last_of}
-use Rattle.fr_base.specs.declared.instruction.Operand.{Operand}
-use Rattle.fr_typing.specs.Kinds.{Owned as OwnedType, unit, int, box, mutex, task, Kind, own, shared, mutable, view, Piece, whole, copies}
-use Rattle.fr_typing.specs.Places.{Slot, Env, found, type_at, stars, alike}
-use Rattle.fr_code.specs.CodeTypes.{Takes, takes_const, takes_unit, takes_pop, is_variable}
-use Rattle.heap_partition.specs.declared.value.Owned.{Owned}
-use Rattle.heap_partition.specs.declared.value.Owned.TheVariants as owned
-use Rattle.fr_base.specs.declared.name.MutexNo.{MutexNo}
-use Rattle.thread_state.specs.declared.value.Value.{Value}
-use Rattle.thread_state.specs.declared.value.Value.TheVariants as value
-use Rattle.server_model.specs.Work.{Hand, with_temps, front_of, pop, pop_owned, pop_int, owned_of, int_of, taken_as, then_some}
-use Rattle.server_model.specs.Places.{second_of}
-use Rattle.heap_law.specs.Names.{other}
+use Rattle.event_law.proofs.Below.fr_typing.PlaceLemmas.{eq_cases}
+use Rattle.event_law.specs.Below.fr_base.Lists.{last_of}
+use Rattle.event_law.specs.Below.fr_base.declared.instruction.Operand.{Operand}
+use Rattle.event_law.specs.Below.fr_typing.Kinds.{Owned as OwnedType, unit, int, box, mutex, task, Kind, own, shared, mutable, view, Piece, whole, copies}
+use Rattle.event_law.specs.Below.fr_typing.Places.{Slot, Env, found, type_at, stars, alike}
+use Rattle.event_law.specs.Below.fr_code.CodeTypes.{Takes, takes_const, takes_unit, takes_pop, is_variable}
+use Rattle.event_law.specs.Below.heap_partition.declared.value.Owned.{Owned}
+use Rattle.event_law.specs.Below.heap_partition.declared.value.Owned.TheVariants as owned
+use Rattle.event_law.specs.Below.fr_base.declared.name.MutexNo.{MutexNo}
+use Rattle.event_law.specs.Below.thread_state.declared.value.Value.{Value}
+use Rattle.event_law.specs.Below.thread_state.declared.value.Value.TheVariants as value
+use Rattle.event_law.specs.Below.server_model.Work.{Hand, with_temps, front_of, pop, pop_owned, pop_int, owned_of, int_of, taken_as, then_some}
+use Rattle.event_law.specs.Below.server_model.Places.{second_of}
+use Rattle.event_law.specs.Below.heap_law.Names.{other}
 use Rattle.path_law.specs.Below.type_law.Names.{NameTypes}
 use Rattle.path_law.specs.Below.type_law.ClusterTypes.{has_form, is_mark, slot_form, slots_wrong, temps_wrong}
 use Rattle.event_law.proofs.Values.{last_split}

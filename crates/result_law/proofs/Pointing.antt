@@ -3,37 +3,37 @@
 use Rattle.std.proofs.Common.{◌≡◌, inl, inr, ⊎_elim, ◌≤◌, ◌<◌, ℕ, zero, suc, ◌+◌, ◌==◌, ◌&&◌, nat_lt, is_some, Bool, true, false, if◌then◌else◌, List, [], ◌∷◌, ◌++◌, Option, Some, None, refl, sym, ap, subst, ◌∙◌, arith}
 use Rattle.std.specs.Prelude.{slice_get, slice_index_or}
 use Rattle.std.proofs.lemmas.Bool.Decides.{nat_tests, Decides-int_eq}
-use Rattle.fr_typing.proofs.PlaceLemmas.{eq_cases}
-use Rattle.fr_base.specs.declared.name.ObjNo.{ObjNo}
-use Rattle.global_addr.specs.Words.{colour_of, server_of, address_of}
-use Rattle.heap_partition.specs.Same.{same_owned, same_cell}
-use Rattle.heap_partition.specs.declared.value.Cell.{Cell}
-use Rattle.heap_partition.specs.declared.value.Owned.{Owned}
-use Rattle.heap_partition.specs.declared.value.Owned.TheVariants as owned
-use Rattle.owner_box.specs.View.{PartitionState}
-use Rattle.owner_box.specs.Partition.{cell_of as partition_cell}
-use Rattle.mutex_home.specs.Mutexes.{Mutex}
-use Rattle.join_home.specs.Tasks.{Task}
-use Rattle.thread_state.specs.View.{ThreadState}
-use Rattle.thread_state.specs.declared.value.Value.{Value}
-use Rattle.thread_state.specs.declared.value.Value.TheVariants as value
-use Rattle.server_msgs.specs.declared.message.Message.{Message}
-use Rattle.server_msgs.specs.declared.message.Message.TheVariants as message
-use Rattle.server_model.specs.Servers.{Server, Cluster, server_at}
-use Rattle.server_model.specs.Work.{leads_here, look}
-use Rattle.heap_law.specs.Names.{tot, one, other, Among, same_object}
-use Rattle.heap_law.specs.Things.{Location, at_slot, in_cell, Thing, holds, shares, borrows, lies, flies, vacant, retired, copied, things_at, is_free, cell_things, free_things, copy_things, queue_things, content_things, mutex_things, task_things, thread_things, slot_things, temp_things, gift_things, walk_things, stands, standing_things, message_things, waiting_things, leaving_things, partition_things, server_things, servers_things, things_of}
-use Rattle.heap_law.specs.Follow.{Standing, threads_in, cells_in, cell_of}
-use Rattle.heap_law.specs.Sight.{Sight, Pointer, pointer_in, pointers_of, pointers_in, taken_pointers, sight, word}
-use Rattle.heap_law.specs.Words.{HasWords, IsStale, LeadsTo}
-use Rattle.heap_law.specs.Placing.{words, owned_word, standing_of, standing_in, next_colours}
-use Rattle.heap_law.specs.Weights.{cells, lies_under}
-use Rattle.heap_law.specs.Naming.{servers_wrong, pinned_parcel}
-use Rattle.heap_law.specs.Walking.{sum_threads}
-use Rattle.heap_law.specs.Coherent.{IsSound}
-use Rattle.heap_law.proofs.Names.{and_left, and_right, same_number, same_mutexes}
-use Rattle.heap_law.proofs.Sums.{tot-append, server_parts}
-use Rattle.heap_law.proofs.Words.{named, itself, words_law}
+use Rattle.event_law.proofs.Below.fr_typing.PlaceLemmas.{eq_cases}
+use Rattle.event_law.specs.Below.fr_base.declared.name.ObjNo.{ObjNo}
+use Rattle.event_law.specs.Below.global_addr.Words.{colour_of, server_of, address_of}
+use Rattle.event_law.specs.Below.heap_partition.Same.{same_owned, same_cell}
+use Rattle.event_law.specs.Below.heap_partition.declared.value.Cell.{Cell}
+use Rattle.event_law.specs.Below.heap_partition.declared.value.Owned.{Owned}
+use Rattle.event_law.specs.Below.heap_partition.declared.value.Owned.TheVariants as owned
+use Rattle.event_law.specs.Below.owner_box.View.{PartitionState}
+use Rattle.event_law.specs.Below.owner_box.Partition.{cell_of as partition_cell}
+use Rattle.event_law.specs.Below.mutex_home.Mutexes.{Mutex}
+use Rattle.event_law.specs.Below.join_home.Tasks.{Task}
+use Rattle.event_law.specs.Below.thread_state.View.{ThreadState}
+use Rattle.event_law.specs.Below.thread_state.declared.value.Value.{Value}
+use Rattle.event_law.specs.Below.thread_state.declared.value.Value.TheVariants as value
+use Rattle.event_law.specs.Below.server_msgs.declared.message.Message.{Message}
+use Rattle.event_law.specs.Below.server_msgs.declared.message.Message.TheVariants as message
+use Rattle.event_law.specs.Below.server_model.Servers.{Server, Cluster, server_at}
+use Rattle.event_law.specs.Below.server_model.Work.{leads_here, look}
+use Rattle.event_law.specs.Below.heap_law.Names.{tot, one, other, Among, same_object}
+use Rattle.event_law.specs.Below.heap_law.Things.{Location, at_slot, in_cell, Thing, holds, shares, borrows, lies, flies, vacant, retired, copied, things_at, is_free, cell_things, free_things, copy_things, queue_things, content_things, mutex_things, task_things, thread_things, slot_things, temp_things, gift_things, walk_things, stands, standing_things, message_things, waiting_things, leaving_things, partition_things, server_things, servers_things, things_of}
+use Rattle.event_law.specs.Below.heap_law.Follow.{Standing, threads_in, cells_in, cell_of}
+use Rattle.event_law.specs.Below.heap_law.Sight.{Sight, Pointer, pointer_in, pointers_of, pointers_in, taken_pointers, sight, word}
+use Rattle.event_law.specs.Below.heap_law.Words.{HasWords, IsStale, LeadsTo}
+use Rattle.event_law.specs.Below.heap_law.Placing.{words, owned_word, standing_of, standing_in, next_colours}
+use Rattle.event_law.specs.Below.heap_law.Weights.{cells, lies_under}
+use Rattle.event_law.specs.Below.heap_law.Naming.{servers_wrong, pinned_parcel}
+use Rattle.event_law.specs.Below.heap_law.Walking.{sum_threads}
+use Rattle.event_law.specs.Below.heap_law.Coherent.{IsSound}
+use Rattle.event_law.proofs.Below.heap_law.Names.{and_left, and_right, same_number, same_mutexes}
+use Rattle.event_law.proofs.Below.heap_law.Sums.{tot-append, server_parts}
+use Rattle.event_law.proofs.Below.heap_law.Words.{named, itself, words_law}
 use Rattle.event_law.proofs.Unseen.{Unseen, none_at as none_seen_at, thread_alone, content_none, result_none, partition_none, copies_none}
 use Rattle.event_law.proofs.Askers.{other_none}
 use Rattle.event_law.proofs.Elsewhere.{here_alone}
@@ -86,7 +86,7 @@ slot_pointer k x i v p among e is = by v e is
         (among_first y (w ++ slots) temps (among_second y w slots (listed_in (slot_things x.server x.thread.number) y 0 i x.thread.slots v e (subst (λ j. Among y (slot_things x.server x.thread.number j v)) (sym number) h))))
 
     by : (v : Value) → slice_get x.thread.slots i ≡ Some v → pointer_at (at_slot x.thread.number i) v ≡ Some p → Stands k p
-    by (value.Own (owned.Box b)) e is = of_thing k (holds (Rattle.heap_law.specs.Things.in_slot x.thread.number i) (owned.Box b)) p (in_things _ (value.Own (owned.Box b)) e (inl refl)) (inl (some_same is)) (inl (some_same is))
+    by (value.Own (owned.Box b)) e is = of_thing k (holds (Rattle.event_law.specs.Below.heap_law.Things.in_slot x.thread.number i) (owned.Box b)) p (in_things _ (value.Own (owned.Box b)) e (inl refl)) (inl (some_same is)) (inl (some_same is))
     by (value.Own owned.Nothing) e is = absurd cc
     by (value.Own owned.Unit) e is = absurd cc
     by (value.Own (owned.Int n)) e is = absurd cc
@@ -144,7 +144,7 @@ cell_pointer k o c p e is =
 -- its word is one of the words that stand there
 pub pointer_word : (f : ℕ → ℕ) (b : List Thing) (p : Pointer) → Among p (standing_in b) → f p.word ≤ tot (words f) b
 pointer_word f [] p h = absurd h
-pointer_word f (x ∷ b) p h = ⊎_elim (λ (a : Among p (standing_of x)). let l = of_one x a in omega (arith, l)) (λ (a : Among p (standing_in b)). let l = pointer_word f b p a in omega (arith, l)) (Rattle.heap_law.proofs.Bags.among_split p (standing_of x) (standing_in b) h)
+pointer_word f (x ∷ b) p h = ⊎_elim (λ (a : Among p (standing_of x)). let l = of_one x a in omega (arith, l)) (λ (a : Among p (standing_in b)). let l = pointer_word f b p a in omega (arith, l)) (Rattle.event_law.proofs.Below.heap_law.Bags.among_split p (standing_of x) (standing_in b) h)
   where
     of_value : (v : Owned) (l : Option Location) → Among p (pointer_in l v) → f p.word ≤ owned_word f v
     of_value (owned.Box q) l (inl e) = let w : q.word ≡ p.word = ap (λ (z : Pointer). z.word) e in let g = ap f w in omega (arith, g)
@@ -163,9 +163,9 @@ pointer_word f (x ∷ b) p h = ⊎_elim (λ (a : Among p (standing_of x)). let l
     of_one (borrows l r) (inr m) = absurd m
     of_one (lies r a c) m = of_value c.value _ m
     of_one (flies w c) m = let l = of_value c.value _ m in omega (arith, l)
-    of_one (Rattle.heap_law.specs.Things.sent s (message.Drop w o)) (inl e) = let v : w ≡ p.word = ap (λ (z : Pointer). z.word) e in let g = ap f v in omega (arith, g)
-    of_one (Rattle.heap_law.specs.Things.sent s (message.Drop w o)) (inr m) = absurd m
-    of_one (Rattle.heap_law.specs.Things.sent s _) m = absurd m
+    of_one (Rattle.event_law.specs.Below.heap_law.Things.sent s (message.Drop w o)) (inl e) = let v : w ≡ p.word = ap (λ (z : Pointer). z.word) e in let g = ap f v in omega (arith, g)
+    of_one (Rattle.event_law.specs.Below.heap_law.Things.sent s (message.Drop w o)) (inr m) = absurd m
+    of_one (Rattle.event_law.specs.Below.heap_law.Things.sent s _) m = absurd m
     of_one _ m = absurd m
 
 -- SAME CELLS
@@ -233,7 +233,7 @@ module _ (w : ℕ) (o : ObjNo) where
   message_none r (message.Migrate t) = omega (arith, thread_none r true t)
   message_none r _ = refl
 
-  queue_none : (m : Rattle.fr_base.specs.declared.name.MutexNo.MutexNo) (i : ℕ) (q : List (ℕ × ℕ)) → tot f (things_at (queue_things m) i q) ≡ 0
+  queue_none : (m : Rattle.event_law.specs.Below.fr_base.declared.name.MutexNo.MutexNo) (i : ℕ) (q : List (ℕ × ℕ)) → tot f (things_at (queue_things m) i q) ≡ 0
   queue_none m i [] = refl
   queue_none m i (a ∷ q) = omega (arith, queue_none m (i + 1) q)
 

@@ -2,38 +2,38 @@
 use Rattle.std.proofs.Common.{◌≡◌, ◌≤◌, ◌<◌, ℕ, zero, suc, ◌+◌, Bool, true, false, if◌then◌else◌, List, [], ◌∷◌, length, Option, Some, None, option_map, IsSome, refl, sym, ap, subst, ◌∙◌, arith}
 use Rattle.std.specs.Prelude.{slice_get}
 use Rattle.std.specs.List.{list_all}
-use Rattle.fr_base.specs.declared.place.Lval.{Lval}
-use Rattle.fr_base.specs.declared.step.Fresh.TheVariants as fresh
-use Rattle.fr_base.specs.declared.instruction.Instr.{Instr}
-use Rattle.fr_base.specs.declared.instruction.Instr.TheVariants as instr
-use Rattle.fr_base.specs.declared.name.MutexNo.{MutexNo}
-use Rattle.fr_typing.proofs.PlaceLemmas.{eq_cases}
-use Rattle.fr_typing.specs.Kinds.{Kind, own, shared, mutable, view, mutex, Piece, whole, gone, boxed, copies}
-use Rattle.fr_typing.specs.Places.{Env, found, type_at, alike, stars, read_blocked}
-use Rattle.fr_typing.specs.Checks.{is_int, names_from}
-use Rattle.fr_store.specs.Keys.{slot_k}
-use Rattle.fr_store.specs.Below.{ExactOf}
-use Rattle.fr_store.proofs.Below.{mut_place, resolved}
-use Rattle.fr_store.proofs.ThreadKept.{unlent_key}
-use Rattle.fr_sound.specs.States.{hand_key, hand_kind}
-use Rattle.fr_code.specs.CodeTypes.{Entry, Table, wait, HasType, is_variable, InstrTypes, i_copy, i_dup, i_lock}
-use Rattle.fr_code.specs.CodeTable.{Leads, Successors, to_next, ends}
-use Rattle.heap_partition.specs.declared.value.Owned.{Owned}
-use Rattle.heap_partition.specs.declared.value.Owned.TheVariants as owned
-use Rattle.migration.specs.Packing.{unpin_all}
-use Rattle.thread_state.specs.View.{ThreadState}
-use Rattle.thread_state.specs.declared.value.Value.{Value}
-use Rattle.thread_state.specs.declared.value.Value.TheVariants as value
-use Rattle.server_model.specs.declared.event.What.TheVariants.{Step}
-use Rattle.server_model.specs.Servers.{Server, Cluster}
-use Rattle.server_model.specs.Work.{Hand, push_temp, mutex_of, then_some}
-use Rattle.server_model.specs.Places.{Spot, in_slot, value_at, load_at, second_of}
-use Rattle.server_model.specs.Prepare.{Prepared, ready, requested, nothing, and_then, ReadTo, read_or_taken, access_of, read_star, read_stars}
-use Rattle.server_model.specs.Commit.{goes_on, go_on, take_gift, push_content, ask_dup, ask_lock, waiting, dup, lock, commit}
-use Rattle.server_model.specs.Events.{committed, prepared}
-use Rattle.heap_law.specs.Things.{Location, at_slot}
-use Rattle.heap_law.specs.Follow.{Standing, Ground, value_in, locate}
-use Rattle.heap_law.specs.Sight.{sight}
+use Rattle.event_law.specs.Below.fr_base.declared.place.Lval.{Lval}
+use Rattle.event_law.specs.Below.fr_base.declared.step.Fresh.TheVariants as fresh
+use Rattle.event_law.specs.Below.fr_base.declared.instruction.Instr.{Instr}
+use Rattle.event_law.specs.Below.fr_base.declared.instruction.Instr.TheVariants as instr
+use Rattle.event_law.specs.Below.fr_base.declared.name.MutexNo.{MutexNo}
+use Rattle.event_law.proofs.Below.fr_typing.PlaceLemmas.{eq_cases}
+use Rattle.event_law.specs.Below.fr_typing.Kinds.{Kind, own, shared, mutable, view, mutex, Piece, whole, gone, boxed, copies}
+use Rattle.event_law.specs.Below.fr_typing.Places.{Env, found, type_at, alike, stars, read_blocked}
+use Rattle.event_law.specs.Below.fr_typing.Checks.{is_int, names_from}
+use Rattle.event_law.specs.Below.fr_store.Keys.{slot_k}
+use Rattle.event_law.specs.Below.fr_store.Below.{ExactOf}
+use Rattle.event_law.proofs.Below.fr_store.Below.{mut_place, resolved}
+use Rattle.event_law.proofs.Below.fr_store.ThreadKept.{unlent_key}
+use Rattle.path_law.specs.Below.fr_sound.States.{hand_key, hand_kind}
+use Rattle.event_law.specs.Below.fr_code.CodeTypes.{Entry, Table, wait, HasType, is_variable, InstrTypes, i_copy, i_dup, i_lock}
+use Rattle.event_law.specs.Below.fr_code.CodeTable.{Leads, Successors, to_next, ends}
+use Rattle.event_law.specs.Below.heap_partition.declared.value.Owned.{Owned}
+use Rattle.event_law.specs.Below.heap_partition.declared.value.Owned.TheVariants as owned
+use Rattle.event_law.specs.Below.migration.Packing.{unpin_all}
+use Rattle.event_law.specs.Below.thread_state.View.{ThreadState}
+use Rattle.event_law.specs.Below.thread_state.declared.value.Value.{Value}
+use Rattle.event_law.specs.Below.thread_state.declared.value.Value.TheVariants as value
+use Rattle.event_law.specs.Below.server_model.declared.event.What.TheVariants.{Step}
+use Rattle.event_law.specs.Below.server_model.Servers.{Server, Cluster}
+use Rattle.event_law.specs.Below.server_model.Work.{Hand, push_temp, mutex_of, then_some}
+use Rattle.event_law.specs.Below.server_model.Places.{Spot, in_slot, value_at, load_at, second_of}
+use Rattle.event_law.specs.Below.server_model.Prepare.{Prepared, ready, requested, nothing, and_then, ReadTo, read_or_taken, access_of, read_star, read_stars}
+use Rattle.event_law.specs.Below.server_model.Commit.{goes_on, go_on, take_gift, push_content, ask_dup, ask_lock, waiting, dup, lock, commit}
+use Rattle.event_law.specs.Below.server_model.Events.{committed, prepared}
+use Rattle.event_law.specs.Below.heap_law.Things.{Location, at_slot}
+use Rattle.event_law.specs.Below.heap_law.Follow.{Standing, Ground, value_in, locate}
+use Rattle.event_law.specs.Below.heap_law.Sight.{sight}
 use Rattle.event_law.specs.Kinds.{step_read, step_dup, step_lock, instr_kind}
 use Rattle.event_law.specs.Laws.{HasResult}
 use Rattle.result_law.specs.Results.{FollowsNone, reads_variable, ReadsPlace, Anyhow, StepsHaveResults}
@@ -148,7 +148,7 @@ module _ (k : Cluster) (n t : ℕ) (s : Server) (y : ThreadState) (i : Instr) (z
   -- the thread has taken nothing from the pointers that the first so many stars follow
   abbrev pub IsFree : (only : Bool) (w : Lval) → Place k (paths k n t s y i z) x only w → ℕ → Type 0
   IsFree only w place most =
-      (d : ℕ) (lt : d < w.depth) → d < most → (l : Location) (located : locate g tn w.slot d ≡ Some l) (m : Location) (v : Value) (stands : value_in g l ≡ Some v) (leads_on : Rattle.heap_law.specs.Follow.leads tn (Some v) ≡ Some m)
+      (d : ℕ) (lt : d < w.depth) → d < most → (l : Location) (located : locate g tn w.slot d ≡ Some l) (m : Location) (v : Value) (stands : value_in g l ≡ Some v) (leads_on : Rattle.event_law.specs.Below.heap_law.Follow.leads tn (Some v) ≡ Some m)
       → Untaken k z.coherent.sound (paths k n t s y i z) n s z.here x (goes k n t s y i z) (able k n t s y i z) only w place d lt l m v located stands leads_on
 
   then_fine : (slot d e : ℕ) (go : Hand → Spot → Prepared) (p : Prepared) → Fine k n t s y i z slot d p → ((h : Hand) (sp : Spot) (l : Location) → locate g tn slot d ≡ Some l → At k n t s y i z sp l → Reads d h → Fine k n t s y i z slot e (go h sp)) → Fine k n t s y i z slot e (and_then go p)
@@ -218,7 +218,7 @@ module _ (k : Cluster) (n t : ℕ) (s : Server) (y : ThreadState) (i : Instr) (z
         (subst (λ o. Done (then_some o (λ b. option_map (λ e. push_temp e (load_at sp h)) (second_of b)))) (sym u.1)
         (subst (λ o. Done (option_map (λ e. push_temp e (load_at sp h)) o)) (sym two.1) (settles w.depth h (push_temp two.0 (load_at sp h)) a refl refl))))
 
-    module _ (o : Rattle.fr_typing.specs.Kinds.Owned) (is_mutex : q ≡ own (mutex o)) where
+    module _ (o : Rattle.event_law.specs.Below.fr_typing.Kinds.Owned) (is_mutex : q ≡ own (mutex o)) where
       found_mutex : (h : Hand) (sp : Spot) (l : Location) → locate g tn w.slot w.depth ≡ Some l → At k n t s y i z sp l → Reads w.depth h → (m : MutexNo) × (value_at h sp ≡ Some (value.Own (owned.Mutex m)))
       found_mutex h sp l located spot a =
           let v = its_value l located in
@@ -250,14 +250,14 @@ module _ (k : Cluster) (n t : ℕ) (s : Server) (y : ThreadState) (i : Instr) (z
 readable_copy : (table : Table) (e e2 : Entry) (w : Lval) → InstrTypes table e (instr.Read w false) e2 → (q : Kind) × (copies q ≡ true) × IsReadable e w q
 readable_copy table _ _ w (i_copy {k = q} waits has twice free) = (q, twice, record { awake = refl; has = has; free = free; waits_there = waits })
 
-readable_dup : (table : Table) (e e2 : Entry) (w : Lval) → InstrTypes table e (instr.Dup w) e2 → (o : Rattle.fr_typing.specs.Kinds.Owned) × IsReadable e w (own (mutex o))
+readable_dup : (table : Table) (e e2 : Entry) (w : Lval) → InstrTypes table e (instr.Dup w) e2 → (o : Rattle.event_law.specs.Below.fr_typing.Kinds.Owned) × IsReadable e w (own (mutex o))
 readable_dup table _ _ w (i_dup {x = o} waits has free) = (o, record { awake = refl; has = has; free = free; waits_there = waits })
 
-readable_lock : (table : Table) (e e2 : Entry) (w : Lval) → InstrTypes table e (instr.Lock w) e2 → (o : Rattle.fr_typing.specs.Kinds.Owned) × IsReadable e w (own (mutex o))
+readable_lock : (table : Table) (e e2 : Entry) (w : Lval) → InstrTypes table e (instr.Lock w) e2 → (o : Rattle.event_law.specs.Below.fr_typing.Kinds.Owned) × IsReadable e w (own (mutex o))
 readable_lock table _ _ w (i_lock {x = o} name waits has free new) = (o, record { awake = refl; has = has; free = free; waits_there = waits })
 
 -- an instruction that isn't the end of its thread is typed
-pub to_entry : (table : Table) (pc : ℕ) (e : Entry) (i : Instr) (ss : Successors) → Leads table pc e i ss → ((o : Rattle.fr_base.specs.declared.instruction.Operand.Operand) → i ≡ instr.End o → ⊥) → (e2 : Entry) × InstrTypes table e i e2
+pub to_entry : (table : Table) (pc : ℕ) (e : Entry) (i : Instr) (ss : Successors) → Leads table pc e i ss → ((o : Rattle.event_law.specs.Below.fr_base.declared.instruction.Operand.Operand) → i ≡ instr.End o → ⊥) → (e2 : Entry) × InstrTypes table e i e2
 to_entry table pc e i _ (to_next {y = e2} t) other = (e2, t)
 to_entry table pc _ _ _ (ends {o = o} t) other = absurd (other o refl)
 
@@ -272,7 +272,7 @@ module _ (k : Cluster) (n t : ℕ) (s : Server) (y : ThreadState) (w : Lval) whe
       let to = to_entry (types k n t s y (instr.Read w false) z).table y.pc (entry k n t s y (instr.Read w false) z) (instr.Read w false) at.0 at.1 (λ o e. cc) in
       let q = readable_copy (types k n t s y (instr.Read w false) z).table (entry k n t s y (instr.Read w false) z) to.0 w to.1 in
       has_result k n t s y (instr.Read w false) z
-      (subst (λ a. IsSome (prepared k.options.servers (instr.Read w false) (Rattle.server_model.specs.Prepare.prepare (Some a) (hand k n t s y (instr.Read w false) z)))) (sym (same_access w.depth))
+      (subst (λ a. IsSome (prepared k.options.servers (instr.Read w false) (Rattle.event_law.specs.Below.server_model.Prepare.prepare (Some a) (hand k n t s y (instr.Read w false) z)))) (sym (same_access w.depth))
       (copied k n t s y (instr.Read w false) z w q.0 q.2 (λ p e. cc) refl q.1))
 
   pub dup_step : Steps k n t s y (instr.Dup w) → HasResult k n (Step t)

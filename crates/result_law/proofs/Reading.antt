@@ -3,19 +3,19 @@ use Rattle.std.proofs.Common.{◌≡◌, ◌≤◌, ◌<◌, ℕ, zero, suc, ◌
 use Rattle.std.specs.Prelude.{slice_get, slice_set}
 use Rattle.std.proofs.lemmas.Option.{slice_get-map, slice_get_within}
 use Rattle.std.proofs.lemmas.Bool.Decides.{nat_tests}
-use Rattle.fr_typing.proofs.PlaceLemmas.{eq_cases}
-use Rattle.fr_base.specs.Lists.{is_in}
-use Rattle.mut_borrow.specs.declared.shared.SharedRef.{SharedRef}
-use Rattle.migration.specs.Packing.{unpinned, pinned_word, pinned_words, used_words}
-use Rattle.read_cache.specs.Cache.{Copy, copy_of, cell_in, hit, is_cached, users, users_in, with_users, can_pin, pin}
-use Rattle.thread_state.specs.View.{ThreadState}
-use Rattle.thread_state.specs.declared.value.Value.{Value}
-use Rattle.thread_state.specs.declared.value.Value.TheVariants as value
-use Rattle.server_model.specs.Servers.{Rest}
-use Rattle.server_model.specs.Work.{Hand, with_cache, with_slots, working, used_once, use_word}
-use Rattle.server_model.specs.Places.{in_slot}
-use Rattle.server_model.specs.Prepare.{pinned_once}
-use Rattle.heap_law.specs.Names.{one}
+use Rattle.event_law.proofs.Below.fr_typing.PlaceLemmas.{eq_cases}
+use Rattle.event_law.specs.Below.fr_base.Lists.{is_in}
+use Rattle.event_law.specs.Below.mut_borrow.declared.shared.SharedRef.{SharedRef}
+use Rattle.event_law.specs.Below.migration.Packing.{unpinned, pinned_word, pinned_words, used_words}
+use Rattle.event_law.specs.Below.read_cache.Cache.{Copy, copy_of, cell_in, hit, is_cached, users, users_in, with_users, can_pin, pin}
+use Rattle.event_law.specs.Below.thread_state.View.{ThreadState}
+use Rattle.event_law.specs.Below.thread_state.declared.value.Value.{Value}
+use Rattle.event_law.specs.Below.thread_state.declared.value.Value.TheVariants as value
+use Rattle.event_law.specs.Below.server_model.Servers.{Rest}
+use Rattle.event_law.specs.Below.server_model.Work.{Hand, with_cache, with_slots, working, used_once, use_word}
+use Rattle.event_law.specs.Below.server_model.Places.{in_slot}
+use Rattle.event_law.specs.Below.server_model.Prepare.{pinned_once}
+use Rattle.event_law.specs.Below.heap_law.Names.{one}
 use Rattle.result_law.proofs.Usable.{times, times_append, Usable, other_users}
 
 -- VALUES UP TO THEIR PINS
@@ -137,7 +137,7 @@ module _ (y : ThreadState) (r : Rest) (n : ℕ) (few : n + 16 < 2 ^ 64) where
   one_more j h a = record { number = a.number; partition = a.partition; hits = a.hits; few = λ w. omega (arith, a.few w); usable = a.usable; slots = a.slots; temps = a.temps; gift = a.gift; phase = a.phase; id = a.id }
 
   -- what is noted and labelled makes no difference
-  pub noted : (j : ℕ) (h : Hand) (f : Rattle.server_model.specs.Work.Work → Rattle.server_model.specs.Work.Work) → (f h.work).rest ≡ h.work.rest → Reading y r n j h → Reading y r n j (working f h)
+  pub noted : (j : ℕ) (h : Hand) (f : Rattle.event_law.specs.Below.server_model.Work.Work → Rattle.event_law.specs.Below.server_model.Work.Work) → (f h.work).rest ≡ h.work.rest → Reading y r n j h → Reading y r n j (working f h)
   noted j h f same a = record {
     number = ap (λ (x : Rest). x.number) same ∙ a.number;
     partition = ap (λ (x : Rest). x.partition) same ∙ a.partition;

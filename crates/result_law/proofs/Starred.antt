@@ -4,34 +4,34 @@ use Rattle.std.specs.Prelude.{slice_get, slice_set}
 use Rattle.std.specs.Bool.{⊤}
 use Rattle.std.proofs.lemmas.Option.{slice_get_within}
 use Rattle.std.proofs.lemmas.Bool.Decides.{nat_tests}
-use Rattle.fr_base.specs.declared.name.ObjNo.{ObjNo}
-use Rattle.fr_base.specs.declared.place.Lval.{Lval}
-use Rattle.fr_base.specs.declared.instruction.Instr.{Instr}
-use Rattle.global_addr.specs.Words.{colour_of, server_of, next_word}
-use Rattle.heap_partition.specs.declared.value.BoxPtr.{BoxPtr}
-use Rattle.heap_partition.specs.declared.value.Cell.{Cell}
-use Rattle.heap_partition.specs.declared.value.Owned.TheVariants as owned
-use Rattle.mut_borrow.specs.declared.mutable.MutRef.{MutRef}
-use Rattle.mut_borrow.specs.declared.shared.SharedRef.{SharedRef}
-use Rattle.mut_borrow.specs.declared.mutable.Cleaned.TheVariants as cleaned
-use Rattle.mut_borrow.specs.Refs.{cleaned_answer}
-use Rattle.read_cache.specs.Cache.{Copy, hit, is_cached}
-use Rattle.place_walk.specs.declared.hop.Hop.{Hop}
-use Rattle.place_walk.specs.declared.hop.Hop.TheVariants as hop
-use Rattle.place_walk.specs.Hops.{by_copy, clean_hop, dirty_hop, read_hop}
-use Rattle.journal.specs.declared.act.Act.{Act}
-use Rattle.thread_state.specs.View.{ThreadState}
-use Rattle.thread_state.specs.declared.value.Value.{Value}
-use Rattle.thread_state.specs.declared.value.Value.TheVariants as value
-use Rattle.server_model.specs.Servers.{Rest, Server, Cluster}
-use Rattle.server_model.specs.Work.{Hand, note, label_all, with_slots, look, use_word, then_some}
-use Rattle.server_model.specs.NewWords.{issue_tint}
-use Rattle.server_model.specs.Places.{Spot, in_slot, in_cell, in_copy, value_at, value_in as cell_value, cell_at, load_of, load_at, pointer_of, with_word, took, put_slot, put_word}
-use Rattle.server_model.specs.Prepare.{Prepared, ready, requested, nothing, and_then, ready_at, ask_copy, request_by, box_of, clean_last, cleaned_by, clean, clean_value, use_copy, hopped, local, hit_by, read_by, read_value, read_clean, tinted_first, read_star, read_stars}
-use Rattle.heap_law.specs.Things.{Location, at_slot, in_cell as in_object}
-use Rattle.heap_law.specs.Follow.{Standing, Ground, cell_of, value_in, value_of, slot_of, leads, locate}
-use Rattle.heap_law.specs.Sight.{Pointer, sight}
-use Rattle.heap_law.specs.Naming.{events_of}
+use Rattle.event_law.specs.Below.fr_base.declared.name.ObjNo.{ObjNo}
+use Rattle.event_law.specs.Below.fr_base.declared.place.Lval.{Lval}
+use Rattle.event_law.specs.Below.fr_base.declared.instruction.Instr.{Instr}
+use Rattle.event_law.specs.Below.global_addr.Words.{colour_of, server_of, next_word}
+use Rattle.event_law.specs.Below.heap_partition.declared.value.BoxPtr.{BoxPtr}
+use Rattle.event_law.specs.Below.heap_partition.declared.value.Cell.{Cell}
+use Rattle.event_law.specs.Below.heap_partition.declared.value.Owned.TheVariants as owned
+use Rattle.event_law.specs.Below.mut_borrow.declared.mutable.MutRef.{MutRef}
+use Rattle.event_law.specs.Below.mut_borrow.declared.shared.SharedRef.{SharedRef}
+use Rattle.event_law.specs.Below.mut_borrow.declared.mutable.Cleaned.TheVariants as cleaned
+use Rattle.event_law.specs.Below.mut_borrow.Refs.{cleaned_answer}
+use Rattle.event_law.specs.Below.read_cache.Cache.{Copy, hit, is_cached}
+use Rattle.event_law.specs.Below.place_walk.declared.hop.Hop.{Hop}
+use Rattle.event_law.specs.Below.place_walk.declared.hop.Hop.TheVariants as hop
+use Rattle.event_law.specs.Below.place_walk.Hops.{by_copy, clean_hop, dirty_hop, read_hop}
+use Rattle.event_law.specs.Below.journal.declared.act.Act.{Act}
+use Rattle.event_law.specs.Below.thread_state.View.{ThreadState}
+use Rattle.event_law.specs.Below.thread_state.declared.value.Value.{Value}
+use Rattle.event_law.specs.Below.thread_state.declared.value.Value.TheVariants as value
+use Rattle.event_law.specs.Below.server_model.Servers.{Rest, Server, Cluster}
+use Rattle.event_law.specs.Below.server_model.Work.{Hand, note, label_all, with_slots, look, use_word, then_some}
+use Rattle.event_law.specs.Below.server_model.NewWords.{issue_tint}
+use Rattle.event_law.specs.Below.server_model.Places.{Spot, in_slot, in_cell, in_copy, value_at, value_in as cell_value, cell_at, load_of, load_at, pointer_of, with_word, took, put_slot, put_word}
+use Rattle.event_law.specs.Below.server_model.Prepare.{Prepared, ready, requested, nothing, and_then, ready_at, ask_copy, request_by, box_of, clean_last, cleaned_by, clean, clean_value, use_copy, hopped, local, hit_by, read_by, read_value, read_clean, tinted_first, read_star, read_stars}
+use Rattle.event_law.specs.Below.heap_law.Things.{Location, at_slot, in_cell as in_object}
+use Rattle.event_law.specs.Below.heap_law.Follow.{Standing, Ground, cell_of, value_in, value_of, slot_of, leads, locate}
+use Rattle.event_law.specs.Below.heap_law.Sight.{Pointer, sight}
+use Rattle.event_law.specs.Below.heap_law.Naming.{events_of}
 use Rattle.path_law.proofs.Shown.{stands_there}
 use Rattle.path_law.proofs.Sole.{some_is}
 use Rattle.result_law.proofs.Known.{Steps, able, goes, paths, standing}
@@ -187,7 +187,7 @@ module _ (k : Cluster) (n t : ℕ) (s : Server) (y : ThreadState) (i : Instr) (z
     puts : put_word (in_slot j) (issue_tint (box_of q) h.work) h ≡ Some h3
     puts =
         let test : nat_lt j (length h.thread.slots) ≡ true = grind (arith, nat_tests, within) in
-        ap (λ o. then_some o (λ v. then_some (with_word (next_word q.word) v) (λ w. Rattle.server_model.specs.Places.put_at (in_slot j) w (record h { work = (issue_tint (box_of q) h.work).work })))) there
+        ap (λ o. then_some o (λ v. then_some (with_word (next_word q.word) v) (λ w. Rattle.event_law.specs.Below.server_model.Places.put_at (in_slot j) w (record h { work = (issue_tint (box_of q) h.work).work })))) there
         ∙ ap (λ b. if b then Some h3 else None) test
 
     not_cached : is_cached h.work.rest.cache (next_word q.word) ≡ false
@@ -206,11 +206,11 @@ module _ (k : Cluster) (n t : ℕ) (s : Server) (y : ThreadState) (i : Instr) (z
 
     by_answer : (b : Bool) → Asked (cleaned_by (if b then cleaned.Tinted (next_word q.word) else cleaned.MustRenew) (in_slot j) q h)
     by_answer true = subst (λ o. Asked (ready_at (in_slot j) o)) (sym puts) asks
-    by_answer false = subst (λ b. Asked (if b then ready_at (in_slot j) (then_some (Rattle.server_model.specs.NewWords.issue_renewal (box_of q) h.work) (λ n. put_word (in_slot j) n h)) else requested (Rattle.server_model.specs.Prepare.ask_object (box_of q) h))) (sym elsewhere) tt
+    by_answer false = subst (λ b. Asked (if b then ready_at (in_slot j) (then_some (Rattle.event_law.specs.Below.server_model.NewWords.issue_renewal (box_of q) h.work) (λ n. put_word (in_slot j) n h)) else requested (Rattle.event_law.specs.Below.server_model.Prepare.ask_object (box_of q) h))) (sym elsewhere) tt
 
     pub cleans : Asked (clean_value (in_slot j) (Some (value.Mut q)) h)
     cleans =
-        let limit : colour_of q.word < h.work.rest.partition.limit = subst (λ (p : Rattle.owner_box.specs.View.PartitionState). colour_of q.word < p.limit) (sym a.partition) colour in
+        let limit : colour_of q.word < h.work.rest.partition.limit = subst (λ (p : Rattle.event_law.specs.Below.owner_box.View.PartitionState). colour_of q.word < p.limit) (sym a.partition) colour in
         let below : nat_lt (colour_of q.word) h.work.rest.partition.limit ≡ true = grind (arith, nat_tests, limit) in
         subst (λ b. Asked (if b then cleaned_by (cleaned_answer h.work.rest.partition.limit q) (in_slot j) q h else nothing)) (sym below)
         (subst (λ b. Asked (cleaned_by (if b then (if nat_lt (colour_of q.word + 1) h.work.rest.partition.limit then cleaned.Tinted (next_word q.word) else cleaned.MustRenew) else cleaned.Same) (in_slot j) q h)) (sym dirty)
@@ -243,8 +243,8 @@ module _ (k : Cluster) (n t : ℕ) (s : Server) (y : ThreadState) (i : Instr) (z
           by (in_slot j) f = f
           by (in_cell c q) f = f
           by (in_copy c) f = f
-          by Rattle.server_model.specs.Places.on_top f = f
-          by Rattle.server_model.specs.Places.nowhere f = f
+          by Rattle.event_law.specs.Below.server_model.Places.on_top f = f
+          by Rattle.event_law.specs.Below.server_model.Places.nowhere f = f
 
       -- the value at hand has the pointer
       clean_pointer : (u : Value) (p : Pointer) (b : BoxPtr) → pointer_at l v ≡ Some p → m ≡ in_object p.object → value_at h sp ≡ Some u → pointer_of u ≡ Some b → ((q : MutRef) → v ≡ value.Mut q → q.dirty ≡ true → ⊥)
@@ -262,11 +262,11 @@ module _ (k : Cluster) (n t : ℕ) (s : Server) (y : ThreadState) (i : Instr) (z
       -- what is used of a box or a mutable reference
       walked : (u : Value) (c : ℕ) → ((q : SharedRef) → u ≡ value.Shared q → ⊥) → is_cached h1.work.rest.cache c ≡ true → (h2 : Hand) × (use_copy sp u c (hit_by u h1) ≡ Some h2) × Reading y r bound (d + 1) h2
       walked u c no_shared e =
-          let b = hopped_reads d h1 (λ p. Rattle.journal.specs.declared.act.Act.TheVariants.Hit p.object p.word) (pointer_of u) a1 in
+          let b = hopped_reads d h1 (λ p. Rattle.event_law.specs.Below.journal.declared.act.Act.TheVariants.Hit p.object p.word) (pointer_of u) a1 in
           let q = uses y r bound few_bound d (hit_by u h1) c eight b (subst (λ cs. is_cached cs c ≡ true) (sym (same_cache (pointer_of u))) e) in
           (q.0, as_walk u no_shared ∙ q.1, q.2)
         where
-          same_cache : (o : Option BoxPtr) → (hopped (λ p. note (Rattle.journal.specs.declared.act.Act.TheVariants.Hit p.object p.word)) o h1).work.rest.cache ≡ h1.work.rest.cache
+          same_cache : (o : Option BoxPtr) → (hopped (λ p. note (Rattle.event_law.specs.Below.journal.declared.act.Act.TheVariants.Hit p.object p.word)) o h1).work.rest.cache ≡ h1.work.rest.cache
           same_cache None = refl
           same_cache (Some p) = refl
 
@@ -281,7 +281,7 @@ module _ (k : Cluster) (n t : ℕ) (s : Server) (y : ThreadState) (i : Instr) (z
 
       -- a shared reference stands in a slot, and is pinned there
       shared_pinned : (q : SharedRef) (j : ℕ) → slice_get h1.thread.slots j ≡ Some (value.Shared q) → is_cached h1.work.rest.cache q.word ≡ true → (h2 : Hand) × (use_copy (in_slot j) (value.Shared q) q.word (hit_by (value.Shared q) h1) ≡ Some h2) × Reading y r bound (d + 1) h2
-      shared_pinned q j e c = pins y r bound few_bound d (hit_by (value.Shared q) h1) j q eight (noted y r bound few_bound d h1 (note (Rattle.journal.specs.declared.act.Act.TheVariants.Hit q.object q.word)) refl a1) c e
+      shared_pinned q j e c = pins y r bound few_bound d (hit_by (value.Shared q) h1) j q eight (noted y r bound few_bound d h1 (note (Rattle.event_law.specs.Below.journal.declared.act.Act.TheVariants.Hit q.object q.word)) refl a1) c e
 
       by_box : (p : BoxPtr) → v ≡ value.Own (owned.Box p) → value_at h sp ≡ Some (value.Own (owned.Box p)) → m ≡ in_object p.object → Next (read_star h sp)
       by_box p same_value at_hand e =
@@ -333,7 +333,7 @@ module _ (k : Cluster) (n t : ℕ) (s : Server) (y : ThreadState) (i : Instr) (z
       none_leads : leads tn (Some v) ≡ None → Next (read_star h sp)
       none_leads e = absurd (no_owned tn m v leads_on e)
 
-      owned_star : (o : Rattle.heap_partition.specs.declared.value.Owned.Owned) → v ≡ value.Own o → value_at h sp ≡ Some (value.Own o) → Next (read_star h sp)
+      owned_star : (o : Rattle.event_law.specs.Below.heap_partition.declared.value.Owned.Owned) → v ≡ value.Own o → value_at h sp ≡ Some (value.Own o) → Next (read_star h sp)
       owned_star (owned.Box p) e f = by_box p e f (to_object p.object (ap (λ q. leads tn (Some q)) e))
       owned_star owned.Nothing e f = none_leads (ap (λ q. leads tn (Some q)) e)
       owned_star owned.Unit e f = none_leads (ap (λ q. leads tn (Some q)) e)

@@ -1,30 +1,30 @@
 -- In a sound cluster a thread's words have as many users in the cache as it uses them, so what it uses can go.
 use Rattle.std.proofs.Common.{◌≡◌, ℕ, ◌+◌, ◌-◌, ◌≤◌, ◌==◌, ◌&&◌, Bool, true, false, if◌then◌else◌, List, [], ◌∷◌, ◌++◌, Option, Some, None, IsSome, refl, sym, subst, ◌∙◌, arith}
 use Rattle.std.proofs.lemmas.Bool.Decides.{nat_tests}
-use Rattle.fr_typing.proofs.PlaceLemmas.{eq_cases}
-use Rattle.fr_base.specs.declared.name.MutexNo.{MutexNo}
-use Rattle.heap_partition.specs.declared.value.Cell.{Cell}
-use Rattle.heap_partition.specs.declared.value.Owned.{Owned}
-use Rattle.mut_borrow.specs.declared.shared.SharedRef.{SharedRef}
-use Rattle.read_cache.specs.Cache.{Copy, copy_of, users, users_in, with_users, can_unpin, unpin}
-use Rattle.mutex_home.specs.Mutexes.{Mutex}
-use Rattle.join_home.specs.Tasks.{TaskState, kept}
-use Rattle.migration.specs.Packing.{unpin_all, pinned_word, pinned_words, used_words}
-use Rattle.thread_state.specs.View.{ThreadState}
-use Rattle.thread_state.specs.declared.value.Value.{Value}
-use Rattle.thread_state.specs.declared.value.Value.TheVariants as value
-use Rattle.server_msgs.specs.declared.message.Message.{Message}
-use Rattle.server_msgs.specs.declared.message.Message.TheVariants as message
-use Rattle.server_model.specs.Servers.{Server, Cluster, server_at}
-use Rattle.server_model.specs.Work.{thread_in}
-use Rattle.heap_law.specs.Names.{tot, one, other, if_so}
-use Rattle.heap_law.specs.Things.{Thing, Spot, Location, copied, uses, retired, is_free, things_at, cell_things, free_things, copy_things, content_things, queue_things, mutex_things, result_things, task_things, gift_things, walk_things, pin_things, value_things, slot_things, temp_things, thread_things, standing_things, waiting_things, leaving_things, message_things, server_things}
-use Rattle.heap_law.specs.Sight.{Sight, sight}
-use Rattle.heap_law.specs.Weights.{uses_of, users_of}
-use Rattle.heap_law.specs.Naming.{same_word, cached_twice, servers_wrong, pinned_parcel}
-use Rattle.heap_law.specs.Walking.{sum_threads}
-use Rattle.heap_law.specs.Coherent.{IsSound}
-use Rattle.heap_law.proofs.Sums.{tot-append, server_parts}
+use Rattle.event_law.proofs.Below.fr_typing.PlaceLemmas.{eq_cases}
+use Rattle.event_law.specs.Below.fr_base.declared.name.MutexNo.{MutexNo}
+use Rattle.event_law.specs.Below.heap_partition.declared.value.Cell.{Cell}
+use Rattle.event_law.specs.Below.heap_partition.declared.value.Owned.{Owned}
+use Rattle.event_law.specs.Below.mut_borrow.declared.shared.SharedRef.{SharedRef}
+use Rattle.event_law.specs.Below.read_cache.Cache.{Copy, copy_of, users, users_in, with_users, can_unpin, unpin}
+use Rattle.event_law.specs.Below.mutex_home.Mutexes.{Mutex}
+use Rattle.event_law.specs.Below.join_home.Tasks.{TaskState, kept}
+use Rattle.event_law.specs.Below.migration.Packing.{unpin_all, pinned_word, pinned_words, used_words}
+use Rattle.event_law.specs.Below.thread_state.View.{ThreadState}
+use Rattle.event_law.specs.Below.thread_state.declared.value.Value.{Value}
+use Rattle.event_law.specs.Below.thread_state.declared.value.Value.TheVariants as value
+use Rattle.event_law.specs.Below.server_msgs.declared.message.Message.{Message}
+use Rattle.event_law.specs.Below.server_msgs.declared.message.Message.TheVariants as message
+use Rattle.event_law.specs.Below.server_model.Servers.{Server, Cluster, server_at}
+use Rattle.event_law.specs.Below.server_model.Work.{thread_in}
+use Rattle.event_law.specs.Below.heap_law.Names.{tot, one, other, if_so}
+use Rattle.event_law.specs.Below.heap_law.Things.{Thing, Spot, Location, copied, uses, retired, is_free, things_at, cell_things, free_things, copy_things, content_things, queue_things, mutex_things, result_things, task_things, gift_things, walk_things, pin_things, value_things, slot_things, temp_things, thread_things, standing_things, waiting_things, leaving_things, message_things, server_things}
+use Rattle.event_law.specs.Below.heap_law.Sight.{Sight, sight}
+use Rattle.event_law.specs.Below.heap_law.Weights.{uses_of, users_of}
+use Rattle.event_law.specs.Below.heap_law.Naming.{same_word, cached_twice, servers_wrong, pinned_parcel}
+use Rattle.event_law.specs.Below.heap_law.Walking.{sum_threads}
+use Rattle.event_law.specs.Below.heap_law.Coherent.{IsSound}
+use Rattle.event_law.proofs.Below.heap_law.Sums.{tot-append, server_parts}
 use Rattle.event_law.proofs.Trades.{tot-front}
 use Rattle.event_law.proofs.Bags.{tot-without}
 use Rattle.event_law.proofs.Events.{tot-server}
@@ -118,8 +118,8 @@ module _ (n v : ℕ) where
         times_append v (y.walk ++ pinned_words y.slots) (pinned_words y.temps),
         times_append v y.walk (pinned_words y.slots),
         walk_uses 0 y.walk,
-        values_use (λ i. Rattle.heap_law.specs.Things.in_slot t i) (λ i. Rattle.heap_law.specs.Things.at_slot t i) 0 y.slots,
-        values_use (λ i. Rattle.heap_law.specs.Things.in_temp t i) (λ i. Rattle.heap_law.specs.Things.at_temp t i) 0 y.temps,
+        values_use (λ i. Rattle.event_law.specs.Below.heap_law.Things.in_slot t i) (λ i. Rattle.event_law.specs.Below.heap_law.Things.at_slot t i) 0 y.slots,
+        values_use (λ i. Rattle.event_law.specs.Below.heap_law.Things.in_temp t i) (λ i. Rattle.event_law.specs.Below.heap_law.Things.at_temp t i) 0 y.temps,
         tot-append (uses_of (n, v)) (g ++ w ++ a) b,
         tot-append (uses_of (n, v)) (g ++ w) a,
         tot-append (uses_of (n, v)) g w,

@@ -4,35 +4,35 @@ use Rattle.std.proofs.Common.{◌≡◌, ℕ, zero, suc, ◌+◌, ◌-◌, ◌�
 use Rattle.std.specs.Prelude.{slice_get, slice_set}
 use Rattle.std.proofs.lemmas.Option.{slice_get_within}
 use Rattle.std.proofs.lemmas.Bool.Decides.{nat_tests}
-use Rattle.fr_base.specs.Lists.{last_of}
-use Rattle.fr_base.specs.declared.place.Lval.{Lval}
-use Rattle.fr_base.specs.declared.step.Fresh.TheVariants as fresh
-use Rattle.fr_base.specs.declared.instruction.Instr.{Instr}
-use Rattle.fr_base.specs.declared.instruction.Instr.TheVariants as instr
-use Rattle.fr_base.specs.declared.instruction.Operand.{Operand}
-use Rattle.fr_terms.specs.Terms.{Text}
-use Rattle.fr_typing.specs.Kinds.{Owned as OwnedType, int, mutex, task, own, shared, Piece, whole}
-use Rattle.fr_typing.specs.Checks.{with_lock}
-use Rattle.fr_typing.specs.Places.{Env, found, type_at}
-use Rattle.fr_code.specs.CodeTypes.{Entry, Table, takes_pop, HasType, InstrTypes, i_let, i_assign, i_copy, i_move, i_borrow, i_borrow_mut, i_box, i_arith, i_print, i_discard, i_drop, i_spawn, i_join, i_mutex, i_dup, i_lock, i_unlock, i_par, i_par_end}
-use Rattle.fr_code.specs.CodeTable.{Leads, Successors, to_next, ends}
-use Rattle.read_cache.specs.Cache.{Copy, users, can_unpin, unpin}
-use Rattle.migration.specs.Packing.{unpin_all, pinned_words, pinned_word, used_words}
-use Rattle.mutex_home.specs.Mutexes.{can_make}
-use Rattle.mut_borrow.specs.declared.shared.SharedRef.{SharedRef}
-use Rattle.thread_state.specs.View.{ThreadState}
-use Rattle.thread_state.specs.declared.value.Value.{Value}
-use Rattle.thread_state.specs.declared.value.Value.TheVariants as value
-use Rattle.heap_partition.specs.declared.value.Owned.{Owned}
-use Rattle.server_model.specs.declared.event.What.TheVariants.{Step}
-use Rattle.server_model.specs.Servers.{Rest, Server, Cluster}
-use Rattle.server_model.specs.Work.{Hand, Popped, with_cache, with_temps, with_slots, working, front_of, pop, then_some}
-use Rattle.server_model.specs.Places.{Spot, in_slot, on_top, nowhere, put_slot}
-use Rattle.server_model.specs.Prepare.{ReadTo, ReadPointer, WriteTo, LendTo, EndRef, read_or_taken, access_of, ending, assigned, prepare}
-use Rattle.server_model.specs.NewWords.{can_grow}
-use Rattle.server_model.specs.Drop.{give_up, unpin_ref, drop_value}
-use Rattle.server_model.specs.Commit.{goes_on, go_on, label_dropped, replace_slot}
-use Rattle.server_model.specs.Events.{begin_work, committed, prepared, step}
+use Rattle.event_law.specs.Below.fr_base.Lists.{last_of}
+use Rattle.event_law.specs.Below.fr_base.declared.place.Lval.{Lval}
+use Rattle.event_law.specs.Below.fr_base.declared.step.Fresh.TheVariants as fresh
+use Rattle.event_law.specs.Below.fr_base.declared.instruction.Instr.{Instr}
+use Rattle.event_law.specs.Below.fr_base.declared.instruction.Instr.TheVariants as instr
+use Rattle.event_law.specs.Below.fr_base.declared.instruction.Operand.{Operand}
+use Rattle.path_law.specs.Below.fr_terms.Terms.{Text}
+use Rattle.event_law.specs.Below.fr_typing.Kinds.{Owned as OwnedType, int, mutex, task, own, shared, Piece, whole}
+use Rattle.event_law.specs.Below.fr_typing.Checks.{with_lock}
+use Rattle.event_law.specs.Below.fr_typing.Places.{Env, found, type_at}
+use Rattle.event_law.specs.Below.fr_code.CodeTypes.{Entry, Table, takes_pop, HasType, InstrTypes, i_let, i_assign, i_copy, i_move, i_borrow, i_borrow_mut, i_box, i_arith, i_print, i_discard, i_drop, i_spawn, i_join, i_mutex, i_dup, i_lock, i_unlock, i_par, i_par_end}
+use Rattle.event_law.specs.Below.fr_code.CodeTable.{Leads, Successors, to_next, ends}
+use Rattle.event_law.specs.Below.read_cache.Cache.{Copy, users, can_unpin, unpin}
+use Rattle.event_law.specs.Below.migration.Packing.{unpin_all, pinned_words, pinned_word, used_words}
+use Rattle.event_law.specs.Below.mutex_home.Mutexes.{can_make}
+use Rattle.event_law.specs.Below.mut_borrow.declared.shared.SharedRef.{SharedRef}
+use Rattle.event_law.specs.Below.thread_state.View.{ThreadState}
+use Rattle.event_law.specs.Below.thread_state.declared.value.Value.{Value}
+use Rattle.event_law.specs.Below.thread_state.declared.value.Value.TheVariants as value
+use Rattle.event_law.specs.Below.heap_partition.declared.value.Owned.{Owned}
+use Rattle.event_law.specs.Below.server_model.declared.event.What.TheVariants.{Step}
+use Rattle.event_law.specs.Below.server_model.Servers.{Rest, Server, Cluster}
+use Rattle.event_law.specs.Below.server_model.Work.{Hand, Popped, with_cache, with_temps, with_slots, working, front_of, pop, then_some}
+use Rattle.event_law.specs.Below.server_model.Places.{Spot, in_slot, on_top, nowhere, put_slot}
+use Rattle.event_law.specs.Below.server_model.Prepare.{ReadTo, ReadPointer, WriteTo, LendTo, EndRef, read_or_taken, access_of, ending, assigned, prepare}
+use Rattle.event_law.specs.Below.server_model.NewWords.{can_grow}
+use Rattle.event_law.specs.Below.server_model.Drop.{give_up, unpin_ref, drop_value}
+use Rattle.event_law.specs.Below.server_model.Commit.{goes_on, go_on, label_dropped, replace_slot}
+use Rattle.event_law.specs.Below.server_model.Events.{begin_work, committed, prepared, step}
 use Rattle.event_law.specs.Kinds.{Kind, step_spawn, step_join, step_par, step_par_end, instr_kind}
 use Rattle.event_law.specs.Laws.{HasResult}
 use Rattle.event_law.proofs.StepResults.{steps_have_results}

@@ -1,13 +1,13 @@
 -- THAT AN ENABLED EVENT HAS A RESULT: from a coherent cluster nothing that a server needs on the way of an event is missing (this project's rule).
 use Rattle.std.specs.Prelude.{◌≡◌, ℕ, ⊤, true, Option, Some, None, slice_get}
-use Rattle.fr_base.specs.declared.place.Lval.{Lval}
-use Rattle.fr_base.specs.declared.instruction.Instr.{Instr}
-use Rattle.thread_state.specs.View.{ThreadState}
-use Rattle.server_model.specs.declared.event.What.TheVariants.{Step}
-use Rattle.server_model.specs.Servers.{Server, Cluster, server_at}
-use Rattle.server_model.specs.Work.{thread_in}
-use Rattle.server_model.specs.Prepare.{Access, ReadTo, ReadPointer, LendTo, access_of}
-use Rattle.server_model.specs.Events.{enabled}
+use Rattle.event_law.specs.Below.fr_base.declared.place.Lval.{Lval}
+use Rattle.event_law.specs.Below.fr_base.declared.instruction.Instr.{Instr}
+use Rattle.event_law.specs.Below.thread_state.View.{ThreadState}
+use Rattle.event_law.specs.Below.server_model.declared.event.What.TheVariants.{Step}
+use Rattle.event_law.specs.Below.server_model.Servers.{Server, Cluster, server_at}
+use Rattle.event_law.specs.Below.server_model.Work.{thread_in}
+use Rattle.event_law.specs.Below.server_model.Prepare.{Access, ReadTo, ReadPointer, LendTo, access_of}
+use Rattle.event_law.specs.Below.server_model.Events.{enabled}
 use Rattle.event_law.specs.Kinds.{Kind, instr_kind}
 use Rattle.event_law.specs.Laws.{FewEvents, HasResult}
 use Rattle.path_law.specs.Below.type_law.ClusterTypes.{IsCoherent}

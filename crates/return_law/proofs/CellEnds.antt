@@ -1,43 +1,43 @@
 -- A mutable reference goes from a slot or the hand of one thread, and the box that it was made from gets its word in a cell.
 use Rattle.std.proofs.Common.{◌≡◌, ◌≢◌, ◌⊎◌, inl, inr, ⊎_elim, ℕ, zero, suc, ◌≤◌, true, false, map, List, [], ◌∷◌, Option, Some, None, refl, sym, ap, subst, ◌∙◌, arith}
 use Rattle.std.specs.Prelude.{slice_get}
-use Rattle.fr_base.specs.declared.instruction.Instr.{Instr}
-use Rattle.fr_base.specs.declared.instruction.Instr.TheVariants as instr
-use Rattle.heap_partition.specs.declared.value.Cell.{Cell}
-use Rattle.mut_borrow.specs.declared.mutable.MutRef.{MutRef}
-use Rattle.thread_state.specs.View.{ThreadState}
-use Rattle.thread_state.specs.declared.phase.Phase.{Phase}
-use Rattle.thread_state.specs.declared.phase.Phase.TheVariants as phase
-use Rattle.thread_state.specs.declared.value.Value.TheVariants as value
-use Rattle.server_model.specs.Servers.{Cluster}
-use Rattle.server_model.specs.Places.{with_word}
-use Rattle.heap_law.specs.Names.{Among}
-use Rattle.heap_law.specs.Things.{Location, at_slot, at_temp, in_cell, Thing, lies, thread_things, things_of}
-use Rattle.heap_law.specs.Follow.{Ground, Standing, cell_of, value_in, value_of, value_behind, leads, locate, thread_at, place_at}
-use Rattle.heap_law.specs.Stale.{Reference, references, holder_of, is_held_at, is_among, lent_places, one_star_less}
-use Rattle.heap_law.specs.Sight.{Pointer, pointers_of, pointers_in, sight}
-use Rattle.heap_law.specs.Placing.{standing_of, standing_in}
-use Rattle.heap_law.specs.Words.{IsStale, HasWords}
-use Rattle.heap_law.specs.Dirty.{PastWords}
-use Rattle.heap_law.specs.Coherent.{Holds, first_at_holder}
-use Rattle.type_law.proofs.Branches.{found}
-use Rattle.path_law.proofs.Sole.{some_is}
-use Rattle.word_law.specs.Reworded.{HasPlaces, LiesThere, Renewed, a_box, a_reference, taken_word, Turn, turn_of, Reworded}
-use Rattle.word_law.specs.Soles.{SameOutlines}
-use Rattle.word_law.specs.Unmoved.{pointing, Taking, taking_by, taking_of, with_taking, takings, LeavesWords}
-use Rattle.word_law.proofs.Alone.{of_standing}
-use Rattle.word_law.proofs.Grounds.{same_place}
-use Rattle.word_law.proofs.Loose.{box_nowhere}
-use Rattle.word_law.proofs.Outlines.{leads_outline, soles_stay}
-use Rattle.word_law.proofs.Put.{Split}
-use Rattle.word_law.proofs.Standing.{of_thing, pointers_among, standing_among, stands_in}
-use Rattle.stay_law.proofs.Alike.{standing_turn}
-use Rattle.move_law.specs.Ended.{its_word, Ended}
-use Rattle.move_law.proofs.Ended.{ends_leave_words}
-use Rattle.carry_law.proofs.Replaced.{tail_of, at_a, at_b, in_slots, in_temps, in_cells, takings_same, lies_back, pointer_back, standing_back, of_thread}
-use Rattle.carry_law.proofs.Passing.{Here, slot, temp, nowhere, located, here, no_temp}
-use Rattle.carry_law.proofs.Taken.{taker_of, taking_thread}
-use Rattle.carry_law.proofs.Hands.{RootedIn}
+use Rattle.finish_law.specs.Below.fr_base.declared.instruction.Instr.{Instr}
+use Rattle.finish_law.specs.Below.fr_base.declared.instruction.Instr.TheVariants as instr
+use Rattle.finish_law.specs.Below.heap_partition.declared.value.Cell.{Cell}
+use Rattle.finish_law.specs.Below.mut_borrow.declared.mutable.MutRef.{MutRef}
+use Rattle.finish_law.specs.Below.thread_state.View.{ThreadState}
+use Rattle.finish_law.specs.Below.thread_state.declared.phase.Phase.{Phase}
+use Rattle.finish_law.specs.Below.thread_state.declared.phase.Phase.TheVariants as phase
+use Rattle.finish_law.specs.Below.thread_state.declared.value.Value.TheVariants as value
+use Rattle.finish_law.specs.Below.server_model.Servers.{Cluster}
+use Rattle.finish_law.specs.Below.server_model.Places.{with_word}
+use Rattle.finish_law.specs.Below.heap_law.Names.{Among}
+use Rattle.finish_law.specs.Below.heap_law.Things.{Location, at_slot, at_temp, in_cell, Thing, lies, thread_things, things_of}
+use Rattle.finish_law.specs.Below.heap_law.Follow.{Ground, Standing, cell_of, value_in, value_of, value_behind, leads, locate, thread_at, place_at}
+use Rattle.finish_law.specs.Below.heap_law.Stale.{Reference, references, holder_of, is_held_at, is_among, lent_places, one_star_less}
+use Rattle.finish_law.specs.Below.heap_law.Sight.{Pointer, pointers_of, pointers_in, sight}
+use Rattle.finish_law.specs.Below.heap_law.Placing.{standing_of, standing_in}
+use Rattle.finish_law.specs.Below.heap_law.Words.{IsStale, HasWords}
+use Rattle.finish_law.specs.Below.heap_law.Dirty.{PastWords}
+use Rattle.finish_law.specs.Below.heap_law.Coherent.{Holds, first_at_holder}
+use Rattle.finish_law.proofs.Below.type_law.Branches.{found}
+use Rattle.finish_law.proofs.Below.path_law.Sole.{some_is}
+use Rattle.finish_law.specs.Below.word_law.Reworded.{HasPlaces, LiesThere, Renewed, a_box, a_reference, taken_word, Turn, turn_of, Reworded}
+use Rattle.finish_law.specs.Below.word_law.Soles.{SameOutlines}
+use Rattle.finish_law.specs.Below.word_law.Unmoved.{pointing, Taking, taking_by, taking_of, with_taking, takings, LeavesWords}
+use Rattle.finish_law.proofs.Below.word_law.Alone.{of_standing}
+use Rattle.finish_law.proofs.Below.word_law.Grounds.{same_place}
+use Rattle.finish_law.proofs.Below.word_law.Loose.{box_nowhere}
+use Rattle.finish_law.proofs.Below.word_law.Outlines.{leads_outline, soles_stay}
+use Rattle.finish_law.proofs.Below.word_law.Put.{Split}
+use Rattle.finish_law.proofs.Below.word_law.Standing.{of_thing, pointers_among, standing_among, stands_in}
+use Rattle.through_law.proofs.Below.stay_law.Alike.{standing_turn}
+use Rattle.finish_law.specs.Below.move_law.Ended.{its_word, Ended}
+use Rattle.finish_law.proofs.Below.move_law.Ended.{ends_leave_words}
+use Rattle.through_law.proofs.Below.carry_law.Replaced.{tail_of, at_a, at_b, in_slots, in_temps, in_cells, takings_same, lies_back, pointer_back, standing_back, of_thread}
+use Rattle.through_law.proofs.Below.carry_law.Passing.{Here, slot, temp, nowhere, located, here, no_temp}
+use Rattle.through_law.proofs.Below.carry_law.Taken.{taker_of, taking_thread}
+use Rattle.through_law.proofs.Below.carry_law.Hands.{RootedIn}
 use Rattle.finish_law.specs.Below.refs_law.Unpassed.{IsUnpassed}
 use Rattle.finish_law.proofs.Below.refs_law.QuietSlots.{own_slot}
 use Rattle.finish_law.proofs.Below.refs_law.Chains.{held_there}
@@ -181,8 +181,8 @@ module _ (a m b : Cluster) (n g : ℕ) (c d : Cell) (x y : ThreadState) (from : 
   value_same (in_cell o) ne = in_cells m b n x y w.number s pm pb o
 
   here_b : (f : Here) (l : Location) → located x.number f ≡ Some l → pointing (here y f) ≡ None → pointing (value_in gb l) ≡ None
-  here_b (slot i) l e z = ap (λ v. pointing (value_in gb v)) (some_is (sym e)) ∙ ap (λ o. pointing (Rattle.heap_law.specs.Follow.slot_of o i)) (at_b m b n x y w.number s pm pb) ∙ z
-  here_b (temp i) l e z = ap (λ v. pointing (value_in gb v)) (some_is (sym e)) ∙ ap (λ o. pointing (Rattle.heap_law.specs.Follow.temp_of o i)) (at_b m b n x y w.number s pm pb) ∙ z
+  here_b (slot i) l e z = ap (λ v. pointing (value_in gb v)) (some_is (sym e)) ∙ ap (λ o. pointing (Rattle.finish_law.specs.Below.heap_law.Follow.slot_of o i)) (at_b m b n x y w.number s pm pb) ∙ z
+  here_b (temp i) l e z = ap (λ v. pointing (value_in gb v)) (some_is (sym e)) ∙ ap (λ o. pointing (Rattle.finish_law.specs.Below.heap_law.Follow.temp_of o i)) (at_b m b n x y w.number s pm pb) ∙ z
   here_b nowhere l e z = absurd (cc e)
 
   -- the box has the word

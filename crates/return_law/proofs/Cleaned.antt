@@ -2,54 +2,54 @@
 use Rattle.std.proofs.Common.{◌≡◌, ◌⊎◌, ℕ, ◌+◌, ◌<◌, ◌≤◌, ◌^◌, ◌==◌, nat_lt, Bool, true, false, if◌then◌else◌, length, Option, Some, None, inl, refl, sym, ap, subst, ◌∙◌, arith}
 use Rattle.std.specs.Prelude.{⊤, slice_get}
 use Rattle.std.proofs.lemmas.Bool.Decides.{nat_tests}
-use Rattle.fr_base.specs.declared.instruction.Instr.{Instr}
-use Rattle.global_addr.specs.Words.{colour_of, server_of, next_word}
-use Rattle.heap_partition.specs.declared.value.Cell.{Cell}
-use Rattle.journal.specs.declared.act.Act.TheVariants as act
-use Rattle.mut_borrow.specs.declared.mutable.MutRef.{MutRef}
-use Rattle.mut_borrow.specs.declared.mutable.Cleaned.TheVariants.{Same, Tinted, MustRenew}
-use Rattle.mut_borrow.specs.Refs.{cleaned_answer}
-use Rattle.owner_box.specs.View.{PartitionState}
-use Rattle.owner_box.specs.Partition.{renewed}
-use Rattle.thread_state.specs.View.{ThreadState}
-use Rattle.thread_state.specs.declared.phase.Phase.TheVariants as phase
-use Rattle.thread_state.specs.declared.value.Value.TheVariants as value
-use Rattle.server_msgs.specs.declared.message.Message.TheVariants as message
-use Rattle.server_model.specs.declared.event.What.TheVariants.{Step}
-use Rattle.server_model.specs.Servers.{Rest, Server, Cluster, server_at}
-use Rattle.server_model.specs.Work.{Hand, thread_in, then_some}
-use Rattle.server_model.specs.NewWords.{NewWord, issue_tint, issue_renewal}
-use Rattle.server_model.specs.Places.{Spot, in_slot, on_top, took, put_word, value_at}
-use Rattle.server_model.specs.Prepare.{Prepared, ready, requested, nothing, ready_at, ask_object, box_of, cleaned_by, clean_value}
-use Rattle.server_model.specs.Events.{enabled, begin_work}
-use Rattle.heap_law.specs.Things.{Location, at_slot}
-use Rattle.heap_law.specs.Paths.{ends}
-use Rattle.heap_law.specs.Sight.{Pointer, sight}
-use Rattle.heap_law.specs.Walking.{path}
-use Rattle.heap_law.specs.Words.{IsStale}
-use Rattle.type_law.specs.ClusterTypes.{IsCoherent}
-use Rattle.event_law.specs.Laws.{FewEvents}
-use Rattle.end_law.proofs.Ends.{EndsAt}
-use Rattle.end_law.proofs.Lying.{ended_lies_there}
-use Rattle.read_law.specs.Reading.{LiesUnder}
-use Rattle.word_law.specs.Reworded.{HasPlaces}
-use Rattle.word_law.specs.WordsAfter.{Rewrites}
-use Rattle.word_law.proofs.Only.{are_only}
-use Rattle.word_law.proofs.Words.{changed_rewords}
-use Rattle.word_law.proofs.Outlines.{soles_stay}
-use Rattle.word_law.proofs.Standing.{told, told_standing}
-use Rattle.stay_law.proofs.Steps.{TakesNoneHere}
-use Rattle.prepare_law.proofs.Along.{dirty_changed}
-use Rattle.prepare_law.proofs.Hands.{put, places, first_hand}
-use Rattle.result_law.proofs.Known.{Steps, standing, paths, goes}
-use Rattle.result_law.proofs.Pointing.{Stands, leads_home}
-use Rattle.write_law.proofs.Memory.{Leads, looked, Sane, renewal_issued}
-use Rattle.write_law.proofs.StepRoutes.{sane_there, roomy, awake}
+use Rattle.finish_law.specs.Below.fr_base.declared.instruction.Instr.{Instr}
+use Rattle.finish_law.specs.Below.global_addr.Words.{colour_of, server_of, next_word}
+use Rattle.finish_law.specs.Below.heap_partition.declared.value.Cell.{Cell}
+use Rattle.finish_law.specs.Below.journal.declared.act.Act.TheVariants as act
+use Rattle.finish_law.specs.Below.mut_borrow.declared.mutable.MutRef.{MutRef}
+use Rattle.finish_law.specs.Below.mut_borrow.declared.mutable.Cleaned.TheVariants.{Same, Tinted, MustRenew}
+use Rattle.finish_law.specs.Below.mut_borrow.Refs.{cleaned_answer}
+use Rattle.finish_law.specs.Below.owner_box.View.{PartitionState}
+use Rattle.finish_law.specs.Below.owner_box.Partition.{renewed}
+use Rattle.finish_law.specs.Below.thread_state.View.{ThreadState}
+use Rattle.finish_law.specs.Below.thread_state.declared.phase.Phase.TheVariants as phase
+use Rattle.finish_law.specs.Below.thread_state.declared.value.Value.TheVariants as value
+use Rattle.finish_law.specs.Below.server_msgs.declared.message.Message.TheVariants as message
+use Rattle.finish_law.specs.Below.server_model.declared.event.What.TheVariants.{Step}
+use Rattle.finish_law.specs.Below.server_model.Servers.{Rest, Server, Cluster, server_at}
+use Rattle.finish_law.specs.Below.server_model.Work.{Hand, thread_in, then_some}
+use Rattle.finish_law.specs.Below.server_model.NewWords.{NewWord, issue_tint, issue_renewal}
+use Rattle.finish_law.specs.Below.server_model.Places.{Spot, in_slot, on_top, took, put_word, value_at}
+use Rattle.finish_law.specs.Below.server_model.Prepare.{Prepared, ready, requested, nothing, ready_at, ask_object, box_of, cleaned_by, clean_value}
+use Rattle.finish_law.specs.Below.server_model.Events.{enabled, begin_work}
+use Rattle.finish_law.specs.Below.heap_law.Things.{Location, at_slot}
+use Rattle.finish_law.specs.Below.heap_law.Paths.{ends}
+use Rattle.finish_law.specs.Below.heap_law.Sight.{Pointer, sight}
+use Rattle.finish_law.specs.Below.heap_law.Walking.{path}
+use Rattle.finish_law.specs.Below.heap_law.Words.{IsStale}
+use Rattle.finish_law.specs.Below.type_law.ClusterTypes.{IsCoherent}
+use Rattle.finish_law.specs.Below.event_law.Laws.{FewEvents}
+use Rattle.through_law.proofs.Below.end_law.Ends.{EndsAt}
+use Rattle.through_law.proofs.Below.end_law.Lying.{ended_lies_there}
+use Rattle.finish_law.specs.Below.read_law.Reading.{LiesUnder}
+use Rattle.finish_law.specs.Below.word_law.Reworded.{HasPlaces}
+use Rattle.finish_law.specs.Below.word_law.WordsAfter.{Rewrites}
+use Rattle.finish_law.proofs.Below.word_law.Only.{are_only}
+use Rattle.finish_law.proofs.Below.word_law.Words.{changed_rewords}
+use Rattle.finish_law.proofs.Below.word_law.Outlines.{soles_stay}
+use Rattle.finish_law.proofs.Below.word_law.Standing.{told, told_standing}
+use Rattle.through_law.proofs.Below.stay_law.Steps.{TakesNoneHere}
+use Rattle.through_law.proofs.Below.prepare_law.Along.{dirty_changed}
+use Rattle.through_law.proofs.Below.prepare_law.Hands.{put, places, first_hand}
+use Rattle.finish_law.proofs.Below.result_law.Known.{Steps, standing, paths, goes}
+use Rattle.finish_law.proofs.Below.result_law.Pointing.{Stands, leads_home}
+use Rattle.through_law.proofs.Below.write_law.Memory.{Leads, looked, Sane, renewal_issued}
+use Rattle.through_law.proofs.Below.write_law.StepRoutes.{sane_there, roomy, awake}
 use Rattle.through_law.proofs.Below.rewrite_law.Onward.{Onward, lies_reworded}
 use Rattle.through_law.proofs.Below.rewrite_law.Later.{Later, later_itself, later_renewed}
 use Rattle.through_law.proofs.Below.rewrite_law.Passing.{State, Asked, first_state, requests}
 use Rattle.through_law.proofs.Below.rewrite_law.Hops.{renewed_work}
-use Rattle.path_law.proofs.Sole.{some_is}
+use Rattle.finish_law.proofs.Below.path_law.Sole.{some_is}
 use Rattle.finish_law.specs.Below.refs_law.Unpassed.{IsUnpassed}
 use Rattle.finish_law.specs.Ends.{EndsReference}
 use Rattle.finish_law.proofs.DirtyEnds.{Place, Worded, tint, renew}
@@ -238,11 +238,11 @@ module _ (k : Cluster) (coherent : IsCoherent k) (few : FewEvents k) (s : Server
         room : length p.cells < 2 ^ 40
         room = let b = roomy k n t s y i steps in omega (arith, b)
 
-        given : Rattle.write_law.proofs.Memory.Given p nw.work.rest.partition nw.word lies.there.cell
+        given : Rattle.through_law.proofs.Below.write_law.Memory.Given p nw.work.rest.partition nw.word lies.there.cell
         given =
             let q = renewal_issued (box_of r) start.work lies.there.cell (sane_there k n t s y i steps) (home (grind (arith, nat_tests, mine))) left.1 room in
             let same : q.0 ≡ nw = some_is (sym q.1 ∙ issues) in
-            subst (λ (b : NewWord). Rattle.write_law.proofs.Memory.Given p b.work.rest.partition b.word lies.there.cell) same q.2.given
+            subst (λ (b : NewWord). Rattle.through_law.proofs.Below.write_law.Memory.Given p b.work.rest.partition b.word lies.there.cell) same q.2.given
 
         moved : (o : Option Hand) → put_word sp nw start ≡ o → CleanFine (ready_at sp o)
         moved None f = tt

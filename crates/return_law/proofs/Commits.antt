@@ -1,33 +1,33 @@
 -- The plain step of an end: the reference goes, the pointer at its holder is back, and where it is assigned over the value comes then. The words stay.
 use Rattle.std.proofs.Common.{◌≡◌, ℕ, nat_lt, Bool, true, false, if◌then◌else◌, List, Option, Some, None, option_map, refl, sym, ap, subst, ◌∙◌}
 use Rattle.std.specs.Prelude.{slice_get, slice_set, length}
-use Rattle.fr_base.specs.declared.place.Lval.{Lval}
-use Rattle.fr_base.specs.declared.instruction.Operand.{Operand}
-use Rattle.fr_base.specs.declared.instruction.Operand.TheVariants as operand
-use Rattle.fr_base.specs.declared.instruction.Instr.TheVariants as instr
-use Rattle.fr_base.specs.declared.step.Fresh.TheVariants as fresh
-use Rattle.heap_partition.specs.declared.value.Owned.TheVariants as owned
-use Rattle.mut_borrow.specs.declared.mutable.MutRef.{MutRef}
-use Rattle.thread_state.specs.View.{ThreadState}
-use Rattle.thread_state.specs.declared.value.Value.{Value}
-use Rattle.thread_state.specs.declared.value.Value.TheVariants as value
-use Rattle.server_model.specs.Servers.{Server, Cluster, server_at}
-use Rattle.server_model.specs.Work.{Hand, Popped, last_of, front_of, with_slots, with_temps, thread_in, then_some, pop, unit}
-use Rattle.server_model.specs.Places.{Spot, put_slot}
-use Rattle.server_model.specs.Drop.{drop_value, finish}
-use Rattle.server_model.specs.Commit.{goes_on, commit, label_dropped, assign, replace_slot, discard, drop_slot}
-use Rattle.server_model.specs.Events.{Stepped, committed}
-use Rattle.heap_law.specs.Coherent.{IsSound}
-use Rattle.word_law.specs.Unmoved.{LeavesWords}
-use Rattle.word_law.proofs.Slots.{set_other}
-use Rattle.event_law.specs.Laws.{Gives}
-use Rattle.event_law.proofs.Results.{weaker}
-use Rattle.event_law.proofs.Values.{last_split}
-use Rattle.stay_law.proofs.Steps.{TakesNoneHere, owned_unseen}
-use Rattle.carry_law.proofs.Hands.{Ok, Moved, seen, moved_on, moved_from, leaves_chain, places as then_places}
-use Rattle.carry_law.proofs.Passing.{Here, slot, temp}
-use Rattle.carry_law.proofs.Places.{end_other}
-use Rattle.carry_law.proofs.Steps.{Does, goes_over}
+use Rattle.finish_law.specs.Below.fr_base.declared.place.Lval.{Lval}
+use Rattle.finish_law.specs.Below.fr_base.declared.instruction.Operand.{Operand}
+use Rattle.finish_law.specs.Below.fr_base.declared.instruction.Operand.TheVariants as operand
+use Rattle.finish_law.specs.Below.fr_base.declared.instruction.Instr.TheVariants as instr
+use Rattle.finish_law.specs.Below.fr_base.declared.step.Fresh.TheVariants as fresh
+use Rattle.finish_law.specs.Below.heap_partition.declared.value.Owned.TheVariants as owned
+use Rattle.finish_law.specs.Below.mut_borrow.declared.mutable.MutRef.{MutRef}
+use Rattle.finish_law.specs.Below.thread_state.View.{ThreadState}
+use Rattle.finish_law.specs.Below.thread_state.declared.value.Value.{Value}
+use Rattle.finish_law.specs.Below.thread_state.declared.value.Value.TheVariants as value
+use Rattle.finish_law.specs.Below.server_model.Servers.{Server, Cluster, server_at}
+use Rattle.finish_law.specs.Below.server_model.Work.{Hand, Popped, last_of, front_of, with_slots, with_temps, thread_in, then_some, pop, unit}
+use Rattle.finish_law.specs.Below.server_model.Places.{Spot, put_slot}
+use Rattle.finish_law.specs.Below.server_model.Drop.{drop_value, finish}
+use Rattle.finish_law.specs.Below.server_model.Commit.{goes_on, commit, label_dropped, assign, replace_slot, discard, drop_slot}
+use Rattle.finish_law.specs.Below.server_model.Events.{Stepped, committed}
+use Rattle.finish_law.specs.Below.heap_law.Coherent.{IsSound}
+use Rattle.finish_law.specs.Below.word_law.Unmoved.{LeavesWords}
+use Rattle.finish_law.proofs.Below.word_law.Slots.{set_other}
+use Rattle.finish_law.specs.Below.event_law.Laws.{Gives}
+use Rattle.finish_law.proofs.Below.event_law.Results.{weaker}
+use Rattle.finish_law.proofs.Below.event_law.Values.{last_split}
+use Rattle.through_law.proofs.Below.stay_law.Steps.{TakesNoneHere, owned_unseen}
+use Rattle.through_law.proofs.Below.carry_law.Hands.{Ok, Moved, seen, moved_on, moved_from, leaves_chain, places as then_places}
+use Rattle.through_law.proofs.Below.carry_law.Passing.{Here, slot, temp}
+use Rattle.through_law.proofs.Below.carry_law.Places.{end_other}
+use Rattle.through_law.proofs.Below.carry_law.Steps.{Does, goes_over}
 use Rattle.finish_law.proofs.Below.refs_law.Chains.{cluster}
 use Rattle.finish_law.proofs.Below.refs_law.RefSteps.{emptied as emptied_hand, plain_comes, top_comes}
 use Rattle.through_law.proofs.Marking.{together_by}

@@ -1,42 +1,42 @@
 -- Each discard, drop of a slot, assignment and move keeps the words: by what stands there.
 use Rattle.std.proofs.Common.{◌≡◌, ℕ, zero, suc, ◌-◌, true, List, length, Option, Some, None, option_map, refl, sym, subst}
 use Rattle.std.specs.Prelude.{slice_get}
-use Rattle.fr_base.specs.declared.place.Lval.{Lval}
-use Rattle.fr_base.specs.declared.instruction.Operand.{Operand}
-use Rattle.fr_base.specs.declared.instruction.Operand.TheVariants as operand
-use Rattle.fr_base.specs.declared.instruction.Instr.{Instr}
-use Rattle.fr_base.specs.declared.instruction.Instr.TheVariants as instr
-use Rattle.journal.specs.View.{EntryView}
-use Rattle.thread_state.specs.View.{ThreadState}
-use Rattle.thread_state.specs.declared.value.Value.{Value}
-use Rattle.thread_state.specs.declared.value.Value.TheVariants as value
-use Rattle.server_model.specs.declared.event.What.TheVariants.{Step}
-use Rattle.server_model.specs.Servers.{Server, Cluster, server_at}
-use Rattle.server_model.specs.Work.{Hand, Popped, last_of, front_of, with_slots, with_temps, thread_in, then_some, pop}
-use Rattle.server_model.specs.Clusters.{apply}
-use Rattle.server_model.specs.Places.{in_slot, on_top, nowhere as no_spot, put_slot, load_at}
-use Rattle.server_model.specs.Prepare.{ending, assigned, read_or_taken, prepare, read_stars}
-use Rattle.server_model.specs.Drop.{drop_value}
-use Rattle.server_model.specs.Commit.{goes_on, label_dropped, assign, replace_slot, read_as}
-use Rattle.server_model.specs.Events.{enabled, begin_work, Stepped, committed, prepared, step}
-use Rattle.type_law.specs.ClusterTypes.{IsCoherent}
-use Rattle.path_law.specs.Pointing.{assigns as assigns_to}
-use Rattle.end_law.specs.Dropped.{written, dropped}
-use Rattle.end_law.proofs.Given.{given_up_may_be}
-use Rattle.event_law.specs.Kinds.{instr_kind}
-use Rattle.event_law.specs.Laws.{Gives, FewEvents}
-use Rattle.event_law.proofs.Proved.{IsProvedKind}
-use Rattle.event_law.proofs.Results.{weaker}
-use Rattle.word_law.specs.Unmoved.{LeavesWords}
-use Rattle.prepare_law.specs.Requests.{WordsRise}
-use Rattle.prepare_law.proofs.Rising.{rise_itself}
-use Rattle.prepare_law.proofs.Asking.{found_number}
-use Rattle.carry_law.specs.Steps.{drops as drops_owned, drops_none, owns, gone}
-use Rattle.carry_law.proofs.Assigns.{assigns_over}
-use Rattle.carry_law.proofs.Events.{discards_carry}
-use Rattle.carry_law.proofs.Gives.{owned_goes}
-use Rattle.carry_law.proofs.Hands.{step_by}
-use Rattle.carry_law.proofs.Locks.{kept_where, holds_on}
+use Rattle.finish_law.specs.Below.fr_base.declared.place.Lval.{Lval}
+use Rattle.finish_law.specs.Below.fr_base.declared.instruction.Operand.{Operand}
+use Rattle.finish_law.specs.Below.fr_base.declared.instruction.Operand.TheVariants as operand
+use Rattle.finish_law.specs.Below.fr_base.declared.instruction.Instr.{Instr}
+use Rattle.finish_law.specs.Below.fr_base.declared.instruction.Instr.TheVariants as instr
+use Rattle.finish_law.specs.Below.journal.View.{EntryView}
+use Rattle.finish_law.specs.Below.thread_state.View.{ThreadState}
+use Rattle.finish_law.specs.Below.thread_state.declared.value.Value.{Value}
+use Rattle.finish_law.specs.Below.thread_state.declared.value.Value.TheVariants as value
+use Rattle.finish_law.specs.Below.server_model.declared.event.What.TheVariants.{Step}
+use Rattle.finish_law.specs.Below.server_model.Servers.{Server, Cluster, server_at}
+use Rattle.finish_law.specs.Below.server_model.Work.{Hand, Popped, last_of, front_of, with_slots, with_temps, thread_in, then_some, pop}
+use Rattle.finish_law.specs.Below.server_model.Clusters.{apply}
+use Rattle.finish_law.specs.Below.server_model.Places.{in_slot, on_top, nowhere as no_spot, put_slot, load_at}
+use Rattle.finish_law.specs.Below.server_model.Prepare.{ending, assigned, read_or_taken, prepare, read_stars}
+use Rattle.finish_law.specs.Below.server_model.Drop.{drop_value}
+use Rattle.finish_law.specs.Below.server_model.Commit.{goes_on, label_dropped, assign, replace_slot, read_as}
+use Rattle.finish_law.specs.Below.server_model.Events.{enabled, begin_work, Stepped, committed, prepared, step}
+use Rattle.finish_law.specs.Below.type_law.ClusterTypes.{IsCoherent}
+use Rattle.finish_law.specs.Below.path_law.Pointing.{assigns as assigns_to}
+use Rattle.through_law.specs.Below.end_law.Dropped.{written, dropped}
+use Rattle.through_law.proofs.Below.end_law.Given.{given_up_may_be}
+use Rattle.finish_law.specs.Below.event_law.Kinds.{instr_kind}
+use Rattle.finish_law.specs.Below.event_law.Laws.{Gives, FewEvents}
+use Rattle.finish_law.proofs.Below.event_law.Proved.{IsProvedKind}
+use Rattle.finish_law.proofs.Below.event_law.Results.{weaker}
+use Rattle.finish_law.specs.Below.word_law.Unmoved.{LeavesWords}
+use Rattle.through_law.specs.Below.prepare_law.Requests.{WordsRise}
+use Rattle.through_law.proofs.Below.prepare_law.Rising.{rise_itself}
+use Rattle.through_law.proofs.Below.prepare_law.Asking.{found_number}
+use Rattle.through_law.specs.Below.carry_law.Steps.{drops as drops_owned, drops_none, owns, gone}
+use Rattle.through_law.proofs.Below.carry_law.Assigns.{assigns_over}
+use Rattle.through_law.proofs.Below.carry_law.Events.{discards_carry}
+use Rattle.through_law.proofs.Below.carry_law.Gives.{owned_goes}
+use Rattle.through_law.proofs.Below.carry_law.Hands.{step_by}
+use Rattle.through_law.proofs.Below.carry_law.Locks.{kept_where, holds_on}
 use Rattle.finish_law.specs.Below.refs_law.Gone.{to_slot, to_slot_mutably, shared_to, moves as moves_any, drops as drops_light, discards as discards_light, assigns as assigns_light}
 use Rattle.finish_law.proofs.Below.refs_law.RefEvents.{references_go}
 use Rattle.through_law.proofs.Assignments.{assignments_keep}

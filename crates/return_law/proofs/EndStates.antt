@@ -1,37 +1,37 @@
 -- What types tell of a reference that ends holds where its event has given pointers words: the reference ends from there.
 use Rattle.std.proofs.Common.{◌≡◌, ℕ, zero, suc, ◌≤◌, true, false, [], Some, refl, sym, ap, subst, ◌∙◌, arith}
 use Rattle.std.specs.Prelude.{slice_get}
-use Rattle.fr_base.specs.declared.instruction.Instr.{Instr}
-use Rattle.fr_base.specs.declared.place.Lval.{Lval}
-use Rattle.mut_borrow.specs.declared.mutable.MutRef.{MutRef}
-use Rattle.thread_state.specs.View.{ThreadState}
-use Rattle.thread_state.specs.declared.value.Value.TheVariants as value
-use Rattle.server_model.specs.declared.event.What.TheVariants.{Step}
-use Rattle.server_model.specs.Servers.{Server, Cluster, server_at}
-use Rattle.server_model.specs.Work.{Hand, thread_in}
-use Rattle.server_model.specs.Places.{Spot}
-use Rattle.server_model.specs.Events.{enabled}
-use Rattle.heap_law.specs.Names.{Among}
-use Rattle.heap_law.specs.Things.{Location, things_of}
-use Rattle.heap_law.specs.Follow.{Standing, Ground, value_in, leads, locate}
-use Rattle.heap_law.specs.Stale.{Reference, references, holder_of, is_held_at, is_among, with_place, one_star_less, lent_places, changed_above, stale_above, taken_above}
-use Rattle.heap_law.specs.Sight.{sight}
-use Rattle.heap_law.specs.Words.{IsStale}
-use Rattle.type_law.specs.ClusterTypes.{IsCoherent}
-use Rattle.event_law.specs.Laws.{FewEvents}
-use Rattle.path_law.specs.HeapStore.{HasPaths, GoesOn}
-use Rattle.path_law.proofs.Contained.{reference_there}
-use Rattle.word_law.specs.Reworded.{HasPlaces}
-use Rattle.word_law.specs.Soles.{outline, SameOutlines}
-use Rattle.word_law.specs.Unmoved.{takings}
-use Rattle.word_law.proofs.Follows.{holders_lead}
-use Rattle.word_law.proofs.Grounds.{of_borrows}
-use Rattle.word_law.proofs.Outlines.{leads_outline, outlined_reference}
-use Rattle.word_law.proofs.Standing.{borrow_stands}
-use Rattle.word_law.proofs.Takings.{lents_are, lent_by, lent_listed, lent_told}
-use Rattle.prepare_law.proofs.Hands.{put, places}
-use Rattle.result_law.proofs.Known.{Steps, standing, paths, goes}
-use Rattle.carry_law.proofs.Hands.{rooted}
+use Rattle.finish_law.specs.Below.fr_base.declared.instruction.Instr.{Instr}
+use Rattle.finish_law.specs.Below.fr_base.declared.place.Lval.{Lval}
+use Rattle.finish_law.specs.Below.mut_borrow.declared.mutable.MutRef.{MutRef}
+use Rattle.finish_law.specs.Below.thread_state.View.{ThreadState}
+use Rattle.finish_law.specs.Below.thread_state.declared.value.Value.TheVariants as value
+use Rattle.finish_law.specs.Below.server_model.declared.event.What.TheVariants.{Step}
+use Rattle.finish_law.specs.Below.server_model.Servers.{Server, Cluster, server_at}
+use Rattle.finish_law.specs.Below.server_model.Work.{Hand, thread_in}
+use Rattle.finish_law.specs.Below.server_model.Places.{Spot}
+use Rattle.finish_law.specs.Below.server_model.Events.{enabled}
+use Rattle.finish_law.specs.Below.heap_law.Names.{Among}
+use Rattle.finish_law.specs.Below.heap_law.Things.{Location, things_of}
+use Rattle.finish_law.specs.Below.heap_law.Follow.{Standing, Ground, value_in, leads, locate}
+use Rattle.finish_law.specs.Below.heap_law.Stale.{Reference, references, holder_of, is_held_at, is_among, with_place, one_star_less, lent_places, changed_above, stale_above, taken_above}
+use Rattle.finish_law.specs.Below.heap_law.Sight.{sight}
+use Rattle.finish_law.specs.Below.heap_law.Words.{IsStale}
+use Rattle.finish_law.specs.Below.type_law.ClusterTypes.{IsCoherent}
+use Rattle.finish_law.specs.Below.event_law.Laws.{FewEvents}
+use Rattle.finish_law.specs.Below.path_law.HeapStore.{HasPaths, GoesOn}
+use Rattle.finish_law.proofs.Below.path_law.Contained.{reference_there}
+use Rattle.finish_law.specs.Below.word_law.Reworded.{HasPlaces}
+use Rattle.finish_law.specs.Below.word_law.Soles.{outline, SameOutlines}
+use Rattle.finish_law.specs.Below.word_law.Unmoved.{takings}
+use Rattle.finish_law.proofs.Below.word_law.Follows.{holders_lead}
+use Rattle.finish_law.proofs.Below.word_law.Grounds.{of_borrows}
+use Rattle.finish_law.proofs.Below.word_law.Outlines.{leads_outline, outlined_reference}
+use Rattle.finish_law.proofs.Below.word_law.Standing.{borrow_stands}
+use Rattle.finish_law.proofs.Below.word_law.Takings.{lents_are, lent_by, lent_listed, lent_told}
+use Rattle.through_law.proofs.Below.prepare_law.Hands.{put, places}
+use Rattle.finish_law.proofs.Below.result_law.Known.{Steps, standing, paths, goes}
+use Rattle.through_law.proofs.Below.carry_law.Hands.{rooted}
 use Rattle.through_law.proofs.Below.rewrite_law.Passing.{State}
 use Rattle.through_law.proofs.EndTypes.{places_on, rooted_on}
 use Rattle.finish_law.proofs.EndTypes.{alone, only as only_there, untaken as untaken_there}

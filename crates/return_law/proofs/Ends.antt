@@ -1,58 +1,58 @@
 -- A step that ends a mutable reference keeps the words, wherever its holder's pointer stands.
 use Rattle.std.proofs.Common.{◌≡◌, inl, inr, ⊎_elim, ℕ, ◌+◌, ◌-◌, ◌==◌, true, false, List, [], ◌∷◌, ◌++◌, length, Option, Some, refl, sym, ap, subst, ◌∙◌, arith}
 use Rattle.std.specs.Prelude.{slice_get, slice_set}
-use Rattle.fr_base.specs.declared.place.Lval.{Lval}
-use Rattle.fr_base.specs.declared.instruction.Operand.{Operand}
-use Rattle.fr_base.specs.declared.instruction.Instr.{Instr}
-use Rattle.fr_base.specs.declared.instruction.Instr.TheVariants as instr
-use Rattle.fr_store.specs.Keys.{slot_k, temp_k}
-use Rattle.fr_store.specs.Typed.{KeyTypes, Unnamed}
-use Rattle.journal.specs.View.{EntryView}
-use Rattle.mut_borrow.specs.declared.mutable.MutRef.{MutRef}
-use Rattle.thread_state.specs.View.{ThreadState}
-use Rattle.thread_state.specs.declared.value.Value.{Value}
-use Rattle.thread_state.specs.declared.value.Value.TheVariants as value
-use Rattle.server_model.specs.declared.event.What.TheVariants.{Step}
-use Rattle.server_model.specs.Servers.{Server, Cluster, server_at}
-use Rattle.server_model.specs.Work.{Hand, last_of, front_of, with_slots, thread_in}
-use Rattle.server_model.specs.Clusters.{apply}
-use Rattle.server_model.specs.Places.{Spot, in_slot, on_top, in_cell, nowhere as no_spot}
-use Rattle.server_model.specs.Prepare.{EndRef, Prepared, ready, requested, nothing, and_then, clean_value, follow_ended, unlabelled, ending, assigned, prepare}
-use Rattle.server_model.specs.Commit.{commit}
-use Rattle.server_model.specs.Places.{value_at}
-use Rattle.server_model.specs.Events.{enabled, begin_work, does, Stepped, committed, prepared, step}
-use Rattle.heap_law.specs.Things.{Location, at_slot, at_temp, in_cell as in_object}
-use Rattle.heap_law.specs.Follow.{Standing, slot_of, temp_of, value_in}
-use Rattle.heap_law.specs.Paths.{ends, path_of, assigning, ending as path_ending}
-use Rattle.heap_law.specs.Sight.{sight}
-use Rattle.heap_law.specs.Walking.{path}
-use Rattle.type_law.specs.ClusterTypes.{IsCoherent}
-use Rattle.path_law.specs.HeapStore.{HasPaths, GoesOn}
-use Rattle.path_law.specs.Pointing.{assigns as assigns_to}
-use Rattle.path_law.proofs.FreshPaths.{slot_there, temp_there}
-use Rattle.path_law.proofs.Pointers.{temp_unnamed}
-use Rattle.path_law.proofs.Shown.{stands_there}
-use Rattle.path_law.proofs.Sole.{some_is}
-use Rattle.end_law.specs.Dropped.{written, dropped}
-use Rattle.end_law.proofs.Ends.{EndsAt, key_of}
-use Rattle.end_law.proofs.Given.{given_up_may_be}
-use Rattle.word_law.proofs.Slots.{set_other}
-use Rattle.word_law.proofs.Tints.{slot_stands}
-use Rattle.event_law.specs.Kinds.{instr_kind}
-use Rattle.event_law.specs.Laws.{Gives, FewEvents}
-use Rattle.event_law.proofs.Objects.{length_set}
-use Rattle.event_law.proofs.Proved.{IsProvedKind}
-use Rattle.event_law.proofs.Results.{weaker}
-use Rattle.event_law.proofs.Values.{last_split}
-use Rattle.stay_law.proofs.Steps.{TakesNoneHere}
-use Rattle.prepare_law.specs.Requests.{WordsRise}
-use Rattle.prepare_law.proofs.Hands.{put, places, stands}
-use Rattle.prepare_law.proofs.Asking.{found_number}
-use Rattle.carry_law.proofs.Hands.{Ok, step_by}
-use Rattle.carry_law.proofs.Locks.{Kept, kept_where, holds_on}
-use Rattle.carry_law.proofs.Passing.{Here, slot, temp, nowhere, located, here}
-use Rattle.result_law.proofs.Known.{Steps, standing, paths, goes}
-use Rattle.write_law.proofs.Holders.{route}
+use Rattle.finish_law.specs.Below.fr_base.declared.place.Lval.{Lval}
+use Rattle.finish_law.specs.Below.fr_base.declared.instruction.Operand.{Operand}
+use Rattle.finish_law.specs.Below.fr_base.declared.instruction.Instr.{Instr}
+use Rattle.finish_law.specs.Below.fr_base.declared.instruction.Instr.TheVariants as instr
+use Rattle.finish_law.specs.Below.fr_store.Keys.{slot_k, temp_k}
+use Rattle.finish_law.specs.Below.fr_store.Typed.{KeyTypes, Unnamed}
+use Rattle.finish_law.specs.Below.journal.View.{EntryView}
+use Rattle.finish_law.specs.Below.mut_borrow.declared.mutable.MutRef.{MutRef}
+use Rattle.finish_law.specs.Below.thread_state.View.{ThreadState}
+use Rattle.finish_law.specs.Below.thread_state.declared.value.Value.{Value}
+use Rattle.finish_law.specs.Below.thread_state.declared.value.Value.TheVariants as value
+use Rattle.finish_law.specs.Below.server_model.declared.event.What.TheVariants.{Step}
+use Rattle.finish_law.specs.Below.server_model.Servers.{Server, Cluster, server_at}
+use Rattle.finish_law.specs.Below.server_model.Work.{Hand, last_of, front_of, with_slots, thread_in}
+use Rattle.finish_law.specs.Below.server_model.Clusters.{apply}
+use Rattle.finish_law.specs.Below.server_model.Places.{Spot, in_slot, on_top, in_cell, nowhere as no_spot}
+use Rattle.finish_law.specs.Below.server_model.Prepare.{EndRef, Prepared, ready, requested, nothing, and_then, clean_value, follow_ended, unlabelled, ending, assigned, prepare}
+use Rattle.finish_law.specs.Below.server_model.Commit.{commit}
+use Rattle.finish_law.specs.Below.server_model.Places.{value_at}
+use Rattle.finish_law.specs.Below.server_model.Events.{enabled, begin_work, does, Stepped, committed, prepared, step}
+use Rattle.finish_law.specs.Below.heap_law.Things.{Location, at_slot, at_temp, in_cell as in_object}
+use Rattle.finish_law.specs.Below.heap_law.Follow.{Standing, slot_of, temp_of, value_in}
+use Rattle.finish_law.specs.Below.heap_law.Paths.{ends, path_of, assigning, ending as path_ending}
+use Rattle.finish_law.specs.Below.heap_law.Sight.{sight}
+use Rattle.finish_law.specs.Below.heap_law.Walking.{path}
+use Rattle.finish_law.specs.Below.type_law.ClusterTypes.{IsCoherent}
+use Rattle.finish_law.specs.Below.path_law.HeapStore.{HasPaths, GoesOn}
+use Rattle.finish_law.specs.Below.path_law.Pointing.{assigns as assigns_to}
+use Rattle.finish_law.proofs.Below.path_law.FreshPaths.{slot_there, temp_there}
+use Rattle.finish_law.proofs.Below.path_law.Pointers.{temp_unnamed}
+use Rattle.finish_law.proofs.Below.path_law.Shown.{stands_there}
+use Rattle.finish_law.proofs.Below.path_law.Sole.{some_is}
+use Rattle.through_law.specs.Below.end_law.Dropped.{written, dropped}
+use Rattle.through_law.proofs.Below.end_law.Ends.{EndsAt, key_of}
+use Rattle.through_law.proofs.Below.end_law.Given.{given_up_may_be}
+use Rattle.finish_law.proofs.Below.word_law.Slots.{set_other}
+use Rattle.finish_law.proofs.Below.word_law.Tints.{slot_stands}
+use Rattle.finish_law.specs.Below.event_law.Kinds.{instr_kind}
+use Rattle.finish_law.specs.Below.event_law.Laws.{Gives, FewEvents}
+use Rattle.finish_law.proofs.Below.event_law.Objects.{length_set}
+use Rattle.finish_law.proofs.Below.event_law.Proved.{IsProvedKind}
+use Rattle.finish_law.proofs.Below.event_law.Results.{weaker}
+use Rattle.finish_law.proofs.Below.event_law.Values.{last_split}
+use Rattle.through_law.proofs.Below.stay_law.Steps.{TakesNoneHere}
+use Rattle.through_law.specs.Below.prepare_law.Requests.{WordsRise}
+use Rattle.through_law.proofs.Below.prepare_law.Hands.{put, places, stands}
+use Rattle.through_law.proofs.Below.prepare_law.Asking.{found_number}
+use Rattle.through_law.proofs.Below.carry_law.Hands.{Ok, step_by}
+use Rattle.through_law.proofs.Below.carry_law.Locks.{Kept, kept_where, holds_on}
+use Rattle.through_law.proofs.Below.carry_law.Passing.{Here, slot, temp, nowhere, located, here}
+use Rattle.finish_law.proofs.Below.result_law.Known.{Steps, standing, paths, goes}
+use Rattle.through_law.proofs.Below.write_law.Holders.{route}
 use Rattle.through_law.proofs.Below.rewrite_law.Onward.{Lies}
 use Rattle.through_law.proofs.Below.rewrite_law.Passing.{State}
 use Rattle.through_law.proofs.Marking.{mark_state}
@@ -216,7 +216,7 @@ module _ (k : Cluster) (coherent : IsCoherent k) (few : FewEvents k) (s : Server
         not_from : (m : ℕ) → (e.it.at ≡ at_slot y.number m → ⊥) → slot m ≡ from → ⊥
         not_from m ne f = ne (some_is (sym place ∙ ap (located h.thread.number) (sym f)) ∙ ap (λ b. at_slot b m) rd.number)
 
-        in_slots : (m : ℕ) (v : Value) → (q.word == q.first) ≡ false → end ≡ in_slot m → place_of r.holder.depth ≡ Some (at_slot y.number m) → (e.it.at ≡ at_slot y.number m → ⊥) → slice_get h.thread.slots m ≡ Some v → Rattle.write_law.proofs.Holders.TakesWord v → Ending h end q from
+        in_slots : (m : ℕ) (v : Value) → (q.word == q.first) ≡ false → end ≡ in_slot m → place_of r.holder.depth ≡ Some (at_slot y.number m) → (e.it.at ≡ at_slot y.number m → ⊥) → slice_get h.thread.slots m ≡ Some v → Rattle.through_law.proofs.Below.write_law.Holders.TakesWord v → Ending h end q from
         in_slots m v word at_m final away there takes =
             let u = takes q.word in
             record {
@@ -226,8 +226,8 @@ module _ (k : Cluster) (coherent : IsCoherent k) (few : FewEvents k) (s : Server
                   (returns_slot k coherent.sound s here_it t y at H q (base_H (at_slot y.number m) final) st.untaken from e.it.at (at_slot y.number m) place is (ended (at_slot y.number m) final) m v u.0 word (ap (λ b. at_slot b m) (sym rd.number)) (not_from m away) there u.1);
             }
 
-        in_cells : (b : ℕ) (w : Option ℕ) (d : Rattle.heap_partition.specs.declared.value.Cell.Cell) (p : Rattle.heap_partition.specs.declared.value.BoxPtr.BoxPtr) → (q.word == q.first) ≡ false → end ≡ in_cell b w → place_of r.holder.depth ≡ Some (in_object d.object)
-            → Rattle.write_law.proofs.Memory.Leads h.work.rest.partition b d → d.value ≡ Rattle.heap_partition.specs.declared.value.Owned.TheVariants.Box p → Rattle.through_law.proofs.Below.rewrite_law.Hops.Walk k coherent s here_it t y at h (in_cell b w) → ((m : ℕ) → w ≡ Some m → e.it.at ≡ at_slot y.number m → ⊥) → Ending h end q from
+        in_cells : (b : ℕ) (w : Option ℕ) (d : Rattle.finish_law.specs.Below.heap_partition.declared.value.Cell.Cell) (p : Rattle.finish_law.specs.Below.heap_partition.declared.value.BoxPtr.BoxPtr) → (q.word == q.first) ≡ false → end ≡ in_cell b w → place_of r.holder.depth ≡ Some (in_object d.object)
+            → Rattle.through_law.proofs.Below.write_law.Memory.Leads h.work.rest.partition b d → d.value ≡ Rattle.finish_law.specs.Below.heap_partition.declared.value.Owned.TheVariants.Box p → Rattle.through_law.proofs.Below.rewrite_law.Hops.Walk k coherent s here_it t y at h (in_cell b w) → ((m : ℕ) → w ≡ Some m → e.it.at ≡ at_slot y.number m → ⊥) → Ending h end q from
         in_cells b w d p word at_b final lead boxed walk away =
             record {
               hb = hb;

@@ -1,32 +1,32 @@
 -- The place of the holder of a reference that ends is followed, where its pointer gets a word: the words hold all the way.
 use Rattle.std.proofs.Common.{◌≡◌, ◌⊎◌, inl, inr, ℕ, ◌<◌, ◌≤◌, ◌==◌, Bool, true, false, if◌then◌else◌, length, Option, Some, None, refl, sym, ap, subst, ◌∙◌, arith}
 use Rattle.std.specs.Prelude.{⊤, slice_get}
-use Rattle.fr_base.specs.Lists.{last_of}
-use Rattle.fr_base.specs.declared.instruction.Instr.{Instr}
-use Rattle.fr_base.specs.declared.name.ObjNo.{ObjNo}
-use Rattle.fr_base.specs.declared.place.Lval.{Lval}
-use Rattle.heap_partition.specs.declared.value.BoxPtr.{BoxPtr}
-use Rattle.heap_partition.specs.declared.value.Cell.{Cell}
-use Rattle.heap_partition.specs.declared.value.Owned.TheVariants as owned
-use Rattle.mut_borrow.specs.declared.mutable.MutRef.{MutRef}
-use Rattle.owner_box.specs.View.{PartitionState}
-use Rattle.thread_state.specs.View.{ThreadState}
-use Rattle.thread_state.specs.declared.value.Value.{Value}
-use Rattle.thread_state.specs.declared.value.Value.TheVariants as value
-use Rattle.server_model.specs.declared.event.What.TheVariants.{Step}
-use Rattle.server_model.specs.Servers.{Rest, Server, Cluster, server_at}
-use Rattle.server_model.specs.Work.{Hand, thread_in}
-use Rattle.server_model.specs.Places.{Spot, in_slot, on_top, in_cell, nowhere, value_at}
-use Rattle.server_model.specs.Prepare.{Prepared, ready, requested, nothing, and_then, clean_value, follow_holder, follow_ended, write_stars}
-use Rattle.server_model.specs.Events.{enabled, begin_work}
-use Rattle.heap_law.specs.Things.{Location, at_slot, in_cell as in_object}
-use Rattle.type_law.specs.ClusterTypes.{IsCoherent}
-use Rattle.event_law.specs.Laws.{FewEvents}
-use Rattle.path_law.proofs.Sole.{some_is}
-use Rattle.write_law.proofs.Memory.{Leads}
-use Rattle.write_law.proofs.Route.{Route, Writing, begins, At, a_slot, a_cell, Fine, all_hops, rerouted}
-use Rattle.write_law.proofs.StepRoutes.{roomy}
-use Rattle.write_law.proofs.Holders.{TakesWord, C, at as place_at, short_holder, route, object_away, slot_away, Last, last_slot, last_cell, last_there}
+use Rattle.finish_law.specs.Below.fr_base.Lists.{last_of}
+use Rattle.finish_law.specs.Below.fr_base.declared.instruction.Instr.{Instr}
+use Rattle.finish_law.specs.Below.fr_base.declared.name.ObjNo.{ObjNo}
+use Rattle.finish_law.specs.Below.fr_base.declared.place.Lval.{Lval}
+use Rattle.finish_law.specs.Below.heap_partition.declared.value.BoxPtr.{BoxPtr}
+use Rattle.finish_law.specs.Below.heap_partition.declared.value.Cell.{Cell}
+use Rattle.finish_law.specs.Below.heap_partition.declared.value.Owned.TheVariants as owned
+use Rattle.finish_law.specs.Below.mut_borrow.declared.mutable.MutRef.{MutRef}
+use Rattle.finish_law.specs.Below.owner_box.View.{PartitionState}
+use Rattle.finish_law.specs.Below.thread_state.View.{ThreadState}
+use Rattle.finish_law.specs.Below.thread_state.declared.value.Value.{Value}
+use Rattle.finish_law.specs.Below.thread_state.declared.value.Value.TheVariants as value
+use Rattle.finish_law.specs.Below.server_model.declared.event.What.TheVariants.{Step}
+use Rattle.finish_law.specs.Below.server_model.Servers.{Rest, Server, Cluster, server_at}
+use Rattle.finish_law.specs.Below.server_model.Work.{Hand, thread_in}
+use Rattle.finish_law.specs.Below.server_model.Places.{Spot, in_slot, on_top, in_cell, nowhere, value_at}
+use Rattle.finish_law.specs.Below.server_model.Prepare.{Prepared, ready, requested, nothing, and_then, clean_value, follow_holder, follow_ended, write_stars}
+use Rattle.finish_law.specs.Below.server_model.Events.{enabled, begin_work}
+use Rattle.finish_law.specs.Below.heap_law.Things.{Location, at_slot, in_cell as in_object}
+use Rattle.finish_law.specs.Below.type_law.ClusterTypes.{IsCoherent}
+use Rattle.finish_law.specs.Below.event_law.Laws.{FewEvents}
+use Rattle.finish_law.proofs.Below.path_law.Sole.{some_is}
+use Rattle.through_law.proofs.Below.write_law.Memory.{Leads}
+use Rattle.through_law.proofs.Below.write_law.Route.{Route, Writing, begins, At, a_slot, a_cell, Fine, all_hops, rerouted}
+use Rattle.through_law.proofs.Below.write_law.StepRoutes.{roomy}
+use Rattle.through_law.proofs.Below.write_law.Holders.{TakesWord, C, at as place_at, short_holder, route, object_away, slot_away, Last, last_slot, last_cell, last_there}
 use Rattle.through_law.proofs.Below.rewrite_law.Passing.{State, Asked}
 use Rattle.through_law.proofs.Below.rewrite_law.Hops.{Through, Walk, Mine}
 use Rattle.through_law.proofs.Below.rewrite_law.Walks.{BoxAt, in_a_slot, in_a_cell, all_mine}
@@ -38,7 +38,7 @@ module _ (k : Cluster) (coherent : IsCoherent k) (few : FewEvents k) (s : Server
   abbrev n : ℕ
   n = s.rest.number
 
-  abbrev z : Rattle.result_law.proofs.Known.Steps k n t s y i
+  abbrev z : Rattle.finish_law.proofs.Below.result_law.Known.Steps k n t s y i
   z = steps k coherent few s here_it t y at on i code
 
   abbrev tn : ℕ

@@ -1,59 +1,59 @@
 -- The place of the holder of a mutable reference that a step ends: each pointer that it follows before the holder's is the one through which its object is written.
 use Rattle.std.proofs.Common.{◌≡◌, ◌⊎◌, inl, inr, ⊎_elim, ℕ, suc, ◌≤◌, ◌<◌, true, false, Option, Some, None, is_some, refl, sym, ap, subst, ◌∙◌, arith}
 use Rattle.std.specs.Prelude.{slice_get}
-use Rattle.fr_base.specs.declared.instruction.Instr.{Instr}
-use Rattle.fr_base.specs.declared.instruction.Instr.TheVariants as instr
-use Rattle.fr_base.specs.declared.instruction.Operand.{Operand}
-use Rattle.fr_base.specs.declared.name.ObjNo.{ObjNo}
-use Rattle.fr_code.specs.CodeTypes.{Entry, Table, InstrTypes, i_assign, i_discard, i_drop}
-use Rattle.fr_store.specs.Keys.{Key, slot_k, temp_k}
-use Rattle.fr_store.specs.Store.{at_key, at_object, Val, ref_v, Store, Place as StorePlace, star_hop, walk}
-use Rattle.fr_store.specs.Typed.{KeyTypes, Loaned, self, loan, Unnamed}
-use Rattle.fr_store.proofs.Sound.{walk_last}
-use Rattle.heap_partition.specs.declared.value.BoxPtr.{BoxPtr}
-use Rattle.heap_partition.specs.declared.value.Owned.TheVariants as owned
-use Rattle.mut_borrow.specs.declared.mutable.MutRef.{MutRef}
-use Rattle.mut_borrow.specs.declared.shared.SharedRef.{SharedRef}
-use Rattle.thread_state.specs.View.{ThreadState}
-use Rattle.thread_state.specs.declared.value.Value.{Value}
-use Rattle.thread_state.specs.declared.value.Value.TheVariants as value
-use Rattle.server_model.specs.Servers.{Server, Cluster}
-use Rattle.heap_law.specs.Names.{Among}
-use Rattle.heap_law.specs.Things.{Location, at_slot, at_temp, in_cell, shares, things_of}
-use Rattle.heap_law.specs.Follow.{Standing, Ground, value_in, value_of, slot_of, leads}
-use Rattle.heap_law.specs.OneHeap.{two_in, pair_of}
-use Rattle.heap_law.specs.Paths.{ends, written_place}
-use Rattle.heap_law.specs.Stale.{Reference, references, is_held_at}
-use Rattle.heap_law.specs.Sight.{Pointer, pointers_in, sight}
-use Rattle.heap_law.specs.Walking.{path}
-use Rattle.heap_law.specs.Words.{IsStale}
-use Rattle.path_law.specs.Above.{StandsAbove}
-use Rattle.path_law.specs.HeapStore.{in_store, heap_store, GoesOn, HasPaths, IsUnmarked}
-use Rattle.path_law.specs.Pointing.{Above}
-use Rattle.path_law.proofs.Alike.{mark_unnamed, leads_in_heap, leads_in_cluster, heap_of_shown, slot_shared, temp_shared}
-use Rattle.path_law.proofs.Climbs.{one_location, climbs}
-use Rattle.path_law.proofs.Forms.{not_mutable, running_typed}
-use Rattle.path_law.proofs.FreshPaths.{MutThere, flat, holds_there}
-use Rattle.path_law.proofs.Pointers.{Stood, pointed_at, shared_at, temp_unnamed}
-use Rattle.path_law.proofs.Shown.{stands_there}
-use Rattle.path_law.proofs.Sole.{some_is}
-use Rattle.end_law.proofs.Alone.{holder_stars}
-use Rattle.end_law.proofs.Ends.{EndsAt}
-use Rattle.end_law.proofs.Fresh.{writing, writes_are_fresh}
-use Rattle.end_law.proofs.Lent.{none_before}
-use Rattle.end_law.proofs.Lying.{written_lie_there, written_own}
-use Rattle.read_law.specs.Reading.{LiesUnder}
-use Rattle.read_law.proofs.Flights.{answers_told}
-use Rattle.read_law.proofs.Homes.{fresh_word}
-use Rattle.read_law.proofs.OwnChains.{OwnObject}
-use Rattle.word_law.specs.Soles.{IsSole}
-use Rattle.word_law.specs.Unmoved.{taking_by}
-use Rattle.word_law.proofs.Alone.{leads_any}
-use Rattle.result_law.proofs.Followed.{hop_from}
-use Rattle.result_law.proofs.Known.{Steps, standing, paths, goes, types, entry, typed}
-use Rattle.result_law.proofs.Readers.{to_entry}
-use Rattle.write_law.proofs.StepRoutes.{awake}
-use Rattle.write_law.proofs.Holders.{C, at as place, object_away}
+use Rattle.finish_law.specs.Below.fr_base.declared.instruction.Instr.{Instr}
+use Rattle.finish_law.specs.Below.fr_base.declared.instruction.Instr.TheVariants as instr
+use Rattle.finish_law.specs.Below.fr_base.declared.instruction.Operand.{Operand}
+use Rattle.finish_law.specs.Below.fr_base.declared.name.ObjNo.{ObjNo}
+use Rattle.finish_law.specs.Below.fr_code.CodeTypes.{Entry, Table, InstrTypes, i_assign, i_discard, i_drop}
+use Rattle.finish_law.specs.Below.fr_store.Keys.{Key, slot_k, temp_k}
+use Rattle.finish_law.specs.Below.fr_store.Store.{at_key, at_object, Val, ref_v, Store, Place as StorePlace, star_hop, walk}
+use Rattle.finish_law.specs.Below.fr_store.Typed.{KeyTypes, Loaned, self, loan, Unnamed}
+use Rattle.finish_law.proofs.Below.fr_store.Sound.{walk_last}
+use Rattle.finish_law.specs.Below.heap_partition.declared.value.BoxPtr.{BoxPtr}
+use Rattle.finish_law.specs.Below.heap_partition.declared.value.Owned.TheVariants as owned
+use Rattle.finish_law.specs.Below.mut_borrow.declared.mutable.MutRef.{MutRef}
+use Rattle.finish_law.specs.Below.mut_borrow.declared.shared.SharedRef.{SharedRef}
+use Rattle.finish_law.specs.Below.thread_state.View.{ThreadState}
+use Rattle.finish_law.specs.Below.thread_state.declared.value.Value.{Value}
+use Rattle.finish_law.specs.Below.thread_state.declared.value.Value.TheVariants as value
+use Rattle.finish_law.specs.Below.server_model.Servers.{Server, Cluster}
+use Rattle.finish_law.specs.Below.heap_law.Names.{Among}
+use Rattle.finish_law.specs.Below.heap_law.Things.{Location, at_slot, at_temp, in_cell, shares, things_of}
+use Rattle.finish_law.specs.Below.heap_law.Follow.{Standing, Ground, value_in, value_of, slot_of, leads}
+use Rattle.finish_law.specs.Below.heap_law.OneHeap.{two_in, pair_of}
+use Rattle.finish_law.specs.Below.heap_law.Paths.{ends, written_place}
+use Rattle.finish_law.specs.Below.heap_law.Stale.{Reference, references, is_held_at}
+use Rattle.finish_law.specs.Below.heap_law.Sight.{Pointer, pointers_in, sight}
+use Rattle.finish_law.specs.Below.heap_law.Walking.{path}
+use Rattle.finish_law.specs.Below.heap_law.Words.{IsStale}
+use Rattle.finish_law.specs.Below.path_law.Above.{StandsAbove}
+use Rattle.finish_law.specs.Below.path_law.HeapStore.{in_store, heap_store, GoesOn, HasPaths, IsUnmarked}
+use Rattle.finish_law.specs.Below.path_law.Pointing.{Above}
+use Rattle.finish_law.proofs.Below.path_law.Alike.{mark_unnamed, leads_in_heap, leads_in_cluster, heap_of_shown, slot_shared, temp_shared}
+use Rattle.finish_law.proofs.Below.path_law.Climbs.{one_location, climbs}
+use Rattle.finish_law.proofs.Below.path_law.Forms.{not_mutable, running_typed}
+use Rattle.finish_law.proofs.Below.path_law.FreshPaths.{MutThere, flat, holds_there}
+use Rattle.finish_law.proofs.Below.path_law.Pointers.{Stood, pointed_at, shared_at, temp_unnamed}
+use Rattle.finish_law.proofs.Below.path_law.Shown.{stands_there}
+use Rattle.finish_law.proofs.Below.path_law.Sole.{some_is}
+use Rattle.through_law.proofs.Below.end_law.Alone.{holder_stars}
+use Rattle.through_law.proofs.Below.end_law.Ends.{EndsAt}
+use Rattle.through_law.proofs.Below.end_law.Fresh.{writing, writes_are_fresh}
+use Rattle.through_law.proofs.Below.end_law.Lent.{none_before}
+use Rattle.through_law.proofs.Below.end_law.Lying.{written_lie_there, written_own}
+use Rattle.finish_law.specs.Below.read_law.Reading.{LiesUnder}
+use Rattle.finish_law.proofs.Below.read_law.Flights.{answers_told}
+use Rattle.finish_law.proofs.Below.read_law.Homes.{fresh_word}
+use Rattle.finish_law.proofs.Below.read_law.OwnChains.{OwnObject}
+use Rattle.finish_law.specs.Below.word_law.Soles.{IsSole}
+use Rattle.finish_law.specs.Below.word_law.Unmoved.{taking_by}
+use Rattle.finish_law.proofs.Below.word_law.Alone.{leads_any}
+use Rattle.finish_law.proofs.Below.result_law.Followed.{hop_from}
+use Rattle.finish_law.proofs.Below.result_law.Known.{Steps, standing, paths, goes, types, entry, typed}
+use Rattle.finish_law.proofs.Below.result_law.Readers.{to_entry}
+use Rattle.through_law.proofs.Below.write_law.StepRoutes.{awake}
+use Rattle.through_law.proofs.Below.write_law.Holders.{C, at as place, object_away}
 use Rattle.through_law.proofs.Below.rewrite_law.Onward.{IsWritten}
 use Rattle.through_law.proofs.Below.rewrite_law.Walks.{BoxAt, in_a_slot, in_a_cell}
 use Rattle.through_law.proofs.Below.rewrite_law.Ways.{leads_pointer}
@@ -231,7 +231,7 @@ module _ (k : Cluster) (n t : ℕ) (s : Server) (y : ThreadState) (i : Instr) (z
           lies = record { server = v.server; address = v.address; there = record { cell = v.there.cell; among = v.there.among; object = v.there.object ∙ p.2 } };
         }
 
-  abbrev Cells : ObjNo → Option Rattle.heap_partition.specs.declared.value.Cell.Cell
+  abbrev Cells : ObjNo → Option Rattle.finish_law.specs.Below.heap_partition.declared.value.Cell.Cell
   Cells = C k n t s y i z r is it
 
   -- and boxes on the way have their objects' words

@@ -1,16 +1,16 @@
 -- Who refers to an object to which the place of a key leads that one unnamed key lent: mutable references alone, each lent on from there, and all of them above the
 -- pointer that the place follows last.
 use Rattle.std.proofs.Common.{◌≡◌, ◌⊎◌, inl, inr, ℕ, suc, ◌-◌, ◌≤◌, Bool, true, Some, refl, sym, ap, subst, ◌∙◌, arith}
-use Rattle.fr_base.specs.declared.name.ObjNo.{ObjNo}
-use Rattle.fr_store.specs.Keys.{Key}
-use Rattle.fr_store.specs.Store.{Location, at_key, at_object, ref_v, Store, walk, Place, add}
-use Rattle.fr_store.specs.Typed.{Exact, refers, KeyTypes, Resolves, here, through, Loaned, self, loan, RefFits, Typed, Unnamed}
-use Rattle.fr_store.proofs.Chains.{unique}
-use Rattle.fr_store.proofs.Sound.{ref_at, sound, Reach, stop, go, res_reach}
-use Rattle.path_law.specs.Above.{StandsAbove, PointsTo, its_box, a_reference}
-use Rattle.path_law.proofs.Alike.{ref_type}
-use Rattle.path_law.proofs.Sole.{Points, by_reference, by_box, loaned_first, above}
-use Rattle.path_law.proofs.Circles.{Shorter, shorter}
+use Rattle.finish_law.specs.Below.fr_base.declared.name.ObjNo.{ObjNo}
+use Rattle.finish_law.specs.Below.fr_store.Keys.{Key}
+use Rattle.finish_law.specs.Below.fr_store.Store.{Location, at_key, at_object, ref_v, Store, walk, Place, add}
+use Rattle.finish_law.specs.Below.fr_store.Typed.{Exact, refers, KeyTypes, Resolves, here, through, Loaned, self, loan, RefFits, Typed, Unnamed}
+use Rattle.finish_law.proofs.Below.fr_store.Chains.{unique}
+use Rattle.finish_law.proofs.Below.fr_store.Sound.{ref_at, sound, Reach, stop, go, res_reach}
+use Rattle.finish_law.specs.Below.path_law.Above.{StandsAbove, PointsTo, its_box, a_reference}
+use Rattle.finish_law.proofs.Below.path_law.Alike.{ref_type}
+use Rattle.finish_law.proofs.Below.path_law.Sole.{Points, by_reference, by_box, loaned_first, above}
+use Rattle.finish_law.proofs.Below.path_law.Circles.{Shorter, shorter}
 
 same_place : {u v : Place} → refers true u ≡ refers true v → u ≡ v
 same_place e = cc

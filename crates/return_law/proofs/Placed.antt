@@ -1,53 +1,53 @@
 -- An object in a chain of a thread's own slots to which no shared reference leads: no pointer to it stands outside of slots, temporary values and cells.
 use Rattle.std.proofs.Common.{◌≡◌, ◌⊎◌, inl, inr, ⊎_elim, ℕ, zero, suc, ◌≤◌, Bool, true, false, Option, Some, None, refl, sym, ap, subst, ◌∙◌, arith}
 use Rattle.std.specs.Prelude.{slice_get}
-use Rattle.fr_base.specs.declared.instruction.Instr.{Instr}
-use Rattle.fr_base.specs.declared.instruction.Instr.TheVariants as instr
-use Rattle.fr_base.specs.declared.name.MutexNo.{MutexNo}
-use Rattle.fr_base.specs.declared.name.ObjNo.{ObjNo}
-use Rattle.fr_base.specs.declared.place.Lval.{Lval}
-use Rattle.fr_store.specs.Keys.{Key, slot_k}
-use Rattle.fr_store.specs.Store.{Location as StoreLocation, at_key, at_object, gone_v, box_v, ref_v, Store, value_at, below_key}
-use Rattle.fr_store.proofs.Chains.{from_suc}
-use Rattle.fr_sound.specs.Seen.{Gives, owned_val}
-use Rattle.heap_partition.specs.Plain.{plain_of}
-use Rattle.heap_partition.specs.declared.value.BoxPtr.{BoxPtr}
-use Rattle.heap_partition.specs.declared.value.Cell.{Cell}
-use Rattle.heap_partition.specs.declared.value.Owned.{Owned}
-use Rattle.heap_partition.specs.declared.value.Owned.TheVariants as owned
-use Rattle.mut_borrow.specs.declared.shared.SharedRef.{SharedRef}
-use Rattle.server_msgs.specs.declared.message.Message.{Message}
-use Rattle.server_msgs.specs.declared.message.Message.TheVariants.{Drop}
-use Rattle.thread_state.specs.View.{is_over}
-use Rattle.thread_state.specs.declared.phase.Phase.{Phase}
-use Rattle.thread_state.specs.declared.phase.Phase.TheVariants as phase
-use Rattle.thread_state.specs.declared.value.Value.{Value}
-use Rattle.thread_state.specs.declared.value.Value.TheVariants as value
-use Rattle.server_model.specs.Servers.{Cluster}
-use Rattle.heap_law.specs.Names.{Among, one, same_object, boxes}
-use Rattle.heap_law.specs.Things.{Location, at_slot, at_temp, in_cell, Spot, in_slot, in_temp, as_gift, as_content, as_result, in_hand, Thing, holds, shares, borrows, lies, flies, sent, things_of}
-use Rattle.heap_law.specs.Follow.{Standing, Ground, thread_at, slot_of, value_in, locate, place_at}
-use Rattle.heap_law.specs.OneHeap.{two_in}
-use Rattle.heap_law.specs.Placing.{standing_of, standing_in, standing_pointers}
-use Rattle.heap_law.specs.Sight.{Pointer, pointer_in, location_of, dropped_pointer, taken_object, taken_pointers, sight}
-use Rattle.heap_law.specs.Weights.{owners}
-use Rattle.heap_law.proofs.Bags.{among_split}
-use Rattle.heap_law.proofs.Words.{itself}
-use Rattle.path_law.specs.HeapStore.{heap_store, GoesOn, HasPaths}
-use Rattle.path_law.proofs.Alike.{slot_none, slot_gone, slot_own, slot_shared_slot, slot_mut_slot, slot_shared, slot_mut, cell_there}
-use Rattle.path_law.proofs.InState.{only_one}
-use Rattle.path_law.proofs.Shown.{is_running, shown_value, stands_there}
-use Rattle.path_law.proofs.Sole.{some_is}
-use Rattle.word_law.specs.Reworded.{HasPlaces}
-use Rattle.word_law.specs.Unmoved.{Taking, taking_by, takings}
-use Rattle.word_law.proofs.Alone.{of_standing}
-use Rattle.word_law.proofs.Loose.{box_nowhere}
-use Rattle.word_law.proofs.Standing.{CellOf, lying, flying, cell_among, slot_among}
-use Rattle.word_law.proofs.Takings.{takens_are, taken_told}
-use Rattle.read_law.specs.Reading.{lends}
-use Rattle.read_law.proofs.FreshReads.{reading_of, chain_apart}
-use Rattle.read_law.proofs.OwnChains.{OwnObject}
-use Rattle.carry_law.proofs.Taken.{taker_of}
+use Rattle.finish_law.specs.Below.fr_base.declared.instruction.Instr.{Instr}
+use Rattle.finish_law.specs.Below.fr_base.declared.instruction.Instr.TheVariants as instr
+use Rattle.finish_law.specs.Below.fr_base.declared.name.MutexNo.{MutexNo}
+use Rattle.finish_law.specs.Below.fr_base.declared.name.ObjNo.{ObjNo}
+use Rattle.finish_law.specs.Below.fr_base.declared.place.Lval.{Lval}
+use Rattle.finish_law.specs.Below.fr_store.Keys.{Key, slot_k}
+use Rattle.finish_law.specs.Below.fr_store.Store.{Location as StoreLocation, at_key, at_object, gone_v, box_v, ref_v, Store, value_at, below_key}
+use Rattle.finish_law.proofs.Below.fr_store.Chains.{from_suc}
+use Rattle.finish_law.specs.Below.fr_sound.Seen.{Gives, owned_val}
+use Rattle.finish_law.specs.Below.heap_partition.Plain.{plain_of}
+use Rattle.finish_law.specs.Below.heap_partition.declared.value.BoxPtr.{BoxPtr}
+use Rattle.finish_law.specs.Below.heap_partition.declared.value.Cell.{Cell}
+use Rattle.finish_law.specs.Below.heap_partition.declared.value.Owned.{Owned}
+use Rattle.finish_law.specs.Below.heap_partition.declared.value.Owned.TheVariants as owned
+use Rattle.finish_law.specs.Below.mut_borrow.declared.shared.SharedRef.{SharedRef}
+use Rattle.finish_law.specs.Below.server_msgs.declared.message.Message.{Message}
+use Rattle.finish_law.specs.Below.server_msgs.declared.message.Message.TheVariants.{Drop}
+use Rattle.finish_law.specs.Below.thread_state.View.{is_over}
+use Rattle.finish_law.specs.Below.thread_state.declared.phase.Phase.{Phase}
+use Rattle.finish_law.specs.Below.thread_state.declared.phase.Phase.TheVariants as phase
+use Rattle.finish_law.specs.Below.thread_state.declared.value.Value.{Value}
+use Rattle.finish_law.specs.Below.thread_state.declared.value.Value.TheVariants as value
+use Rattle.finish_law.specs.Below.server_model.Servers.{Cluster}
+use Rattle.finish_law.specs.Below.heap_law.Names.{Among, one, same_object, boxes}
+use Rattle.finish_law.specs.Below.heap_law.Things.{Location, at_slot, at_temp, in_cell, Spot, in_slot, in_temp, as_gift, as_content, as_result, in_hand, Thing, holds, shares, borrows, lies, flies, sent, things_of}
+use Rattle.finish_law.specs.Below.heap_law.Follow.{Standing, Ground, thread_at, slot_of, value_in, locate, place_at}
+use Rattle.finish_law.specs.Below.heap_law.OneHeap.{two_in}
+use Rattle.finish_law.specs.Below.heap_law.Placing.{standing_of, standing_in, standing_pointers}
+use Rattle.finish_law.specs.Below.heap_law.Sight.{Pointer, pointer_in, location_of, dropped_pointer, taken_object, taken_pointers, sight}
+use Rattle.finish_law.specs.Below.heap_law.Weights.{owners}
+use Rattle.finish_law.proofs.Below.heap_law.Bags.{among_split}
+use Rattle.finish_law.proofs.Below.heap_law.Words.{itself}
+use Rattle.finish_law.specs.Below.path_law.HeapStore.{heap_store, GoesOn, HasPaths}
+use Rattle.finish_law.proofs.Below.path_law.Alike.{slot_none, slot_gone, slot_own, slot_shared_slot, slot_mut_slot, slot_shared, slot_mut, cell_there}
+use Rattle.finish_law.proofs.Below.path_law.InState.{only_one}
+use Rattle.finish_law.proofs.Below.path_law.Shown.{is_running, shown_value, stands_there}
+use Rattle.finish_law.proofs.Below.path_law.Sole.{some_is}
+use Rattle.finish_law.specs.Below.word_law.Reworded.{HasPlaces}
+use Rattle.finish_law.specs.Below.word_law.Unmoved.{Taking, taking_by, takings}
+use Rattle.finish_law.proofs.Below.word_law.Alone.{of_standing}
+use Rattle.finish_law.proofs.Below.word_law.Loose.{box_nowhere}
+use Rattle.finish_law.proofs.Below.word_law.Standing.{CellOf, lying, flying, cell_among, slot_among}
+use Rattle.finish_law.proofs.Below.word_law.Takings.{takens_are, taken_told}
+use Rattle.finish_law.specs.Below.read_law.Reading.{lends}
+use Rattle.finish_law.proofs.Below.read_law.FreshReads.{reading_of, chain_apart}
+use Rattle.finish_law.proofs.Below.read_law.OwnChains.{OwnObject}
+use Rattle.through_law.proofs.Below.carry_law.Taken.{taker_of}
 
 some_nothing : (l : Location) (p : Pointer) → p.at ≡ Some l → p.at ≡ None → ⊥
 some_nothing l p e f = let y : None ≡ Some l = sym f ∙ e in absurd (cc y)

@@ -2,54 +2,54 @@
 use Rattle.std.proofs.Common.{◌≡◌, ◌≢◌, inl, ℕ, zero, suc, ◌+◌, ◌==◌, nat_lt, Bool, true, false, if◌then◌else◌, List, [], ◌∷◌, ◌++◌, Option, Some, None, refl, sym, ap, subst, ◌∙◌, arith}
 use Rattle.std.proofs.lemmas.Bool.Decides.{nat_tests}
 use Rattle.std.specs.Prelude.{slice_get, slice_set, length}
-use Rattle.global_addr.specs.Words.{address_of}
-use Rattle.heap_partition.specs.declared.value.BoxPtr.{BoxPtr}
-use Rattle.heap_partition.specs.declared.value.Cell.{Cell}
-use Rattle.heap_partition.specs.declared.value.Owned.{Owned}
-use Rattle.heap_partition.specs.declared.value.Owned.TheVariants as owned
-use Rattle.mut_borrow.specs.declared.mutable.MutRef.{MutRef}
-use Rattle.mut_borrow.specs.Refs.{finish_word}
-use Rattle.owner_box.specs.View.{PartitionState}
-use Rattle.owner_box.specs.Partition.{stored}
-use Rattle.thread_state.specs.View.{ThreadState}
-use Rattle.thread_state.specs.declared.value.Value.{Value}
-use Rattle.thread_state.specs.declared.value.Value.TheVariants as value
-use Rattle.server_model.specs.Servers.{Rest, Server, Cluster, server_at}
-use Rattle.server_model.specs.Work.{Hand, with_slots, with_partition, working, thread_in, set_thread, without_thread, then_some}
-use Rattle.server_model.specs.Places.{Spot, in_slot as spot_slot, in_cell as cell_spot, nowhere as no_spot, value_in as cell_value, value_at, with_word, written, note_slot, note_write, put_at, set_pointer}
-use Rattle.server_model.specs.Drop.{finish, finished_at}
-use Rattle.heap_law.specs.Names.{Among, other, same_object}
-use Rattle.heap_law.specs.Things.{Location, at_slot, in_cell as in_object, lies, thread_things, servers_things, things_of}
-use Rattle.heap_law.specs.Follow.{Ground, value_in, value_of, value_behind}
-use Rattle.heap_law.specs.Stale.{Reference, references, holder_of}
-use Rattle.heap_law.specs.Sight.{sight}
-use Rattle.heap_law.specs.Placing.{is_first, other_first}
-use Rattle.heap_law.specs.Words.{HasWords, LeadsTo}
-use Rattle.heap_law.specs.Coherent.{IsSound}
-use Rattle.heap_law.proofs.Words.{named, none_at}
-use Rattle.path_law.proofs.Climbs.{and_second}
-use Rattle.path_law.proofs.Contained.{reference_there}
-use Rattle.word_law.specs.Reworded.{HasPlaces, Reworded}
-use Rattle.word_law.specs.PutBack.{StandsHere, LeadsHome}
-use Rattle.word_law.proofs.Cells.{cells_reword}
-use Rattle.word_law.proofs.Put.{Split, put_split, servers_split}
-use Rattle.word_law.proofs.Slots.{set_other}
-use Rattle.word_law.proofs.Standing.{lying, cell_found}
-use Rattle.event_law.specs.Laws.{Gives}
-use Rattle.event_law.proofs.Results.{given_by}
-use Rattle.event_law.proofs.RulesKeep.{sums_kept}
-use Rattle.event_law.proofs.Bags.{all_standing}
-use Rattle.event_law.proofs.Events.{others_of}
-use Rattle.event_law.proofs.Objects.{length_set}
-use Rattle.event_law.proofs.Pointers.{sets_pointer}
-use Rattle.stay_law.proofs.Steps.{TakesNoneHere}
-use Rattle.carry_law.proofs.Hands.{Ok, places as then_places, stands_here}
-use Rattle.carry_law.proofs.Passing.{Here, slot, temp, located, here}
-use Rattle.carry_law.proofs.Places.{end_other}
-use Rattle.carry_law.proofs.Replaced.{places_on}
-use Rattle.read_law.proofs.Homes.{fresh_word}
+use Rattle.finish_law.specs.Below.global_addr.Words.{address_of}
+use Rattle.finish_law.specs.Below.heap_partition.declared.value.BoxPtr.{BoxPtr}
+use Rattle.finish_law.specs.Below.heap_partition.declared.value.Cell.{Cell}
+use Rattle.finish_law.specs.Below.heap_partition.declared.value.Owned.{Owned}
+use Rattle.finish_law.specs.Below.heap_partition.declared.value.Owned.TheVariants as owned
+use Rattle.finish_law.specs.Below.mut_borrow.declared.mutable.MutRef.{MutRef}
+use Rattle.finish_law.specs.Below.mut_borrow.Refs.{finish_word}
+use Rattle.finish_law.specs.Below.owner_box.View.{PartitionState}
+use Rattle.finish_law.specs.Below.owner_box.Partition.{stored}
+use Rattle.finish_law.specs.Below.thread_state.View.{ThreadState}
+use Rattle.finish_law.specs.Below.thread_state.declared.value.Value.{Value}
+use Rattle.finish_law.specs.Below.thread_state.declared.value.Value.TheVariants as value
+use Rattle.finish_law.specs.Below.server_model.Servers.{Rest, Server, Cluster, server_at}
+use Rattle.finish_law.specs.Below.server_model.Work.{Hand, with_slots, with_partition, working, thread_in, set_thread, without_thread, then_some}
+use Rattle.finish_law.specs.Below.server_model.Places.{Spot, in_slot as spot_slot, in_cell as cell_spot, nowhere as no_spot, value_in as cell_value, value_at, with_word, written, note_slot, note_write, put_at, set_pointer}
+use Rattle.finish_law.specs.Below.server_model.Drop.{finish, finished_at}
+use Rattle.finish_law.specs.Below.heap_law.Names.{Among, other, same_object}
+use Rattle.finish_law.specs.Below.heap_law.Things.{Location, at_slot, in_cell as in_object, lies, thread_things, servers_things, things_of}
+use Rattle.finish_law.specs.Below.heap_law.Follow.{Ground, value_in, value_of, value_behind}
+use Rattle.finish_law.specs.Below.heap_law.Stale.{Reference, references, holder_of}
+use Rattle.finish_law.specs.Below.heap_law.Sight.{sight}
+use Rattle.finish_law.specs.Below.heap_law.Placing.{is_first, other_first}
+use Rattle.finish_law.specs.Below.heap_law.Words.{HasWords, LeadsTo}
+use Rattle.finish_law.specs.Below.heap_law.Coherent.{IsSound}
+use Rattle.finish_law.proofs.Below.heap_law.Words.{named, none_at}
+use Rattle.finish_law.proofs.Below.path_law.Climbs.{and_second}
+use Rattle.finish_law.proofs.Below.path_law.Contained.{reference_there}
+use Rattle.finish_law.specs.Below.word_law.Reworded.{HasPlaces, Reworded}
+use Rattle.finish_law.specs.Below.word_law.PutBack.{StandsHere, LeadsHome}
+use Rattle.finish_law.proofs.Below.word_law.Cells.{cells_reword}
+use Rattle.finish_law.proofs.Below.word_law.Put.{Split, put_split, servers_split}
+use Rattle.finish_law.proofs.Below.word_law.Slots.{set_other}
+use Rattle.finish_law.proofs.Below.word_law.Standing.{lying, cell_found}
+use Rattle.finish_law.specs.Below.event_law.Laws.{Gives}
+use Rattle.finish_law.proofs.Below.event_law.Results.{given_by}
+use Rattle.finish_law.proofs.Below.event_law.RulesKeep.{sums_kept}
+use Rattle.finish_law.proofs.Below.event_law.Bags.{all_standing}
+use Rattle.finish_law.proofs.Below.event_law.Events.{others_of}
+use Rattle.finish_law.proofs.Below.event_law.Objects.{length_set}
+use Rattle.finish_law.proofs.Below.event_law.Pointers.{sets_pointer}
+use Rattle.through_law.proofs.Below.stay_law.Steps.{TakesNoneHere}
+use Rattle.through_law.proofs.Below.carry_law.Hands.{Ok, places as then_places, stands_here}
+use Rattle.through_law.proofs.Below.carry_law.Passing.{Here, slot, temp, located, here}
+use Rattle.through_law.proofs.Below.carry_law.Places.{end_other}
+use Rattle.through_law.proofs.Below.carry_law.Replaced.{places_on}
+use Rattle.finish_law.proofs.Below.read_law.Homes.{fresh_word}
 use Rattle.finish_law.proofs.Below.refs_law.Chains.{cluster}
-use Rattle.write_law.proofs.Memory.{Leads, looks, leads_on}
+use Rattle.through_law.proofs.Below.write_law.Memory.{Leads, looks, leads_on}
 use Rattle.through_law.proofs.Below.rewrite_law.Onward.{Lies}
 use Rattle.through_law.proofs.Emptying.{stored_split, part_among}
 use Rattle.finish_law.proofs.EndHands.{set_apart, is_so, Base, AtEnd, Goes, finishes}

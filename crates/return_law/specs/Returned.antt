@@ -1,16 +1,16 @@
 -- A STEP WITH WHICH A MUTABLE REFERENCE ENDS keeps the words (this project's rules), wherever the pointer stands that it was made from.
 use Rattle.std.specs.Prelude.{◌≡◌, ℕ, Some, slice_get}
-use Rattle.fr_base.specs.declared.instruction.Instr.{Instr}
-use Rattle.journal.specs.View.{EntryView}
-use Rattle.mut_borrow.specs.declared.mutable.MutRef.{MutRef}
-use Rattle.thread_state.specs.View.{ThreadState}
-use Rattle.server_model.specs.declared.event.What.TheVariants.{Step}
-use Rattle.server_model.specs.Servers.{Server, Cluster, server_at}
-use Rattle.server_model.specs.Work.{thread_in}
-use Rattle.server_model.specs.Clusters.{apply}
-use Rattle.type_law.specs.ClusterTypes.{IsCoherent}
-use Rattle.event_law.specs.Laws.{Gives, FewEvents}
-use Rattle.prepare_law.specs.Requests.{WordsRise}
+use Rattle.finish_law.specs.Below.fr_base.declared.instruction.Instr.{Instr}
+use Rattle.finish_law.specs.Below.journal.View.{EntryView}
+use Rattle.finish_law.specs.Below.mut_borrow.declared.mutable.MutRef.{MutRef}
+use Rattle.finish_law.specs.Below.thread_state.View.{ThreadState}
+use Rattle.finish_law.specs.Below.server_model.declared.event.What.TheVariants.{Step}
+use Rattle.finish_law.specs.Below.server_model.Servers.{Server, Cluster, server_at}
+use Rattle.finish_law.specs.Below.server_model.Work.{thread_in}
+use Rattle.finish_law.specs.Below.server_model.Clusters.{apply}
+use Rattle.finish_law.specs.Below.type_law.ClusterTypes.{IsCoherent}
+use Rattle.finish_law.specs.Below.event_law.Laws.{Gives, FewEvents}
+use Rattle.through_law.specs.Below.prepare_law.Requests.{WordsRise}
 use Rattle.finish_law.specs.Ends.{EndsReference}
 
 -- the step of a thread that ends the reference, whether it does its plain step or asks: the words hold once its messages are handed over

@@ -1,33 +1,33 @@
 -- A step that writes through stars and ends in a request.
 use Rattle.std.proofs.Common.{◌≡◌, ℕ, true, Option, Some, None, option_map, refl, sym, subst, arith}
 use Rattle.std.specs.Prelude.{slice_get, take, drop as drop_first, length}
-use Rattle.fr_base.specs.declared.place.Lval.{Lval}
-use Rattle.fr_base.specs.declared.step.Fresh.TheVariants as fresh
-use Rattle.fr_base.specs.declared.instruction.Instr.{Instr}
-use Rattle.fr_base.specs.declared.instruction.Instr.TheVariants as instr
-use Rattle.journal.specs.View.{EntryView}
-use Rattle.thread_state.specs.View.{ThreadState}
-use Rattle.server_model.specs.declared.event.What.{What}
-use Rattle.server_model.specs.declared.event.What.TheVariants.{Step}
-use Rattle.server_model.specs.Servers.{Server, Cluster, server_at}
-use Rattle.server_model.specs.Work.{Hand, thread_in, then_some}
-use Rattle.server_model.specs.Clusters.{with_server, hand_over_newer, done_at, apply}
-use Rattle.server_model.specs.Places.{Spot, in_slot}
-use Rattle.server_model.specs.Prepare.{Prepared, ready, requested, nothing, assigned, read_or_taken, prepare, write_stars}
-use Rattle.server_model.specs.Commit.{goes_on, go_on, read, assign, commit, settle}
-use Rattle.server_model.specs.Events.{enabled, begin_work, Stepped, done_step, wait_step, committed, prepared, step, step_in, stepped, does}
-use Rattle.heap_law.specs.Things.{at_slot, things_of}
-use Rattle.type_law.specs.ClusterTypes.{IsCoherent}
-use Rattle.word_law.specs.Reworded.{HasPlaces}
-use Rattle.word_law.specs.Unmoved.{taking_by}
-use Rattle.event_law.specs.Laws.{Gives, GoTo, FewEvents}
-use Rattle.event_law.proofs.Results.{map_gives, over_gives, test_gives, both_give}
-use Rattle.event_law.proofs.Applied.{go_with}
-use Rattle.event_law.proofs.Sending.{applied_part, each_event_sends}
+use Rattle.write_law.specs.Below.fr_base.declared.place.Lval.{Lval}
+use Rattle.write_law.specs.Below.fr_base.declared.step.Fresh.TheVariants as fresh
+use Rattle.write_law.specs.Below.fr_base.declared.instruction.Instr.{Instr}
+use Rattle.write_law.specs.Below.fr_base.declared.instruction.Instr.TheVariants as instr
+use Rattle.write_law.specs.Below.journal.View.{EntryView}
+use Rattle.write_law.specs.Below.thread_state.View.{ThreadState}
+use Rattle.write_law.specs.Below.server_model.declared.event.What.{What}
+use Rattle.write_law.specs.Below.server_model.declared.event.What.TheVariants.{Step}
+use Rattle.write_law.specs.Below.server_model.Servers.{Server, Cluster, server_at}
+use Rattle.write_law.specs.Below.server_model.Work.{Hand, thread_in, then_some}
+use Rattle.write_law.specs.Below.server_model.Clusters.{with_server, hand_over_newer, done_at, apply}
+use Rattle.write_law.specs.Below.server_model.Places.{Spot, in_slot}
+use Rattle.write_law.specs.Below.server_model.Prepare.{Prepared, ready, requested, nothing, assigned, read_or_taken, prepare, write_stars}
+use Rattle.write_law.specs.Below.server_model.Commit.{goes_on, go_on, read, assign, commit, settle}
+use Rattle.write_law.specs.Below.server_model.Events.{enabled, begin_work, Stepped, done_step, wait_step, committed, prepared, step, step_in, stepped, does}
+use Rattle.write_law.specs.Below.heap_law.Things.{at_slot, things_of}
+use Rattle.write_law.specs.Below.type_law.ClusterTypes.{IsCoherent}
+use Rattle.move_law.specs.Below.word_law.Reworded.{HasPlaces}
+use Rattle.move_law.specs.Below.word_law.Unmoved.{taking_by}
+use Rattle.write_law.specs.Below.event_law.Laws.{Gives, GoTo, FewEvents}
+use Rattle.write_law.proofs.Below.event_law.Results.{map_gives, over_gives, test_gives, both_give}
+use Rattle.write_law.proofs.Below.event_law.Applied.{go_with}
+use Rattle.write_law.proofs.Below.event_law.Sending.{applied_part, each_event_sends}
 use Rattle.write_law.proofs.Below.result_law.Known.{Steps}
-use Rattle.stay_law.proofs.Alike.{Alike}
-use Rattle.stay_law.proofs.Sites.{handed_over}
-use Rattle.stay_law.proofs.Steps.{TakesNoneHere}
+use Rattle.prepare_law.proofs.Below.stay_law.Alike.{Alike}
+use Rattle.prepare_law.proofs.Below.stay_law.Sites.{handed_over}
+use Rattle.prepare_law.proofs.Below.stay_law.Steps.{TakesNoneHere}
 use Rattle.write_law.proofs.Route.{a_slot, begins}
 use Rattle.prepare_law.specs.Requests.{WordsRise}
 use Rattle.prepare_law.proofs.Hands.{places}

@@ -1,3 +1,16 @@
 -- What this law stands on, passed on to the laws above it, which need not list that then.
-pub use Rattle.write_law.proofs as write_law
 pub use Rattle.write_law.proofs.Below.end_law as end_law
+pub use Rattle.write_law.proofs.Below.event_law as event_law
+pub use Rattle.write_law.proofs.Below.fr_store as fr_store
+pub use Rattle.write_law.proofs.Below.fr_typing as fr_typing
+pub use Rattle.write_law.proofs.Below.heap_law as heap_law
+pub use Rattle.move_law.proofs as move_law
+pub use Rattle.write_law.proofs.Below.path_law as path_law
+pub use Rattle.prepare_law.proofs as prepare_law
+pub use Rattle.prepare_law.proofs.Below.read_law as read_law
+pub use Rattle.write_law.proofs.Below.result_law as result_law
+pub use Rattle.prepare_law.proofs.Below.stay_law as stay_law
+pub use Rattle.write_law.proofs.Below.still_law as still_law
+pub use Rattle.write_law.proofs.Below.type_law as type_law
+pub use Rattle.move_law.proofs.Below.word_law as word_law
+pub use Rattle.write_law.proofs as write_law

@@ -2,48 +2,48 @@
 use Rattle.std.proofs.Common.{◌≡◌, inl, inr, ⊎_elim, ℕ, ◌+◌, ◌<◌, ◌≤◌, ◌^◌, ◌&&◌, nat_lt, Bool, true, false, if◌then◌else◌, List, ◌++◌, Option, Some, None, option_map, refl, sym, ap, subst, ◌∙◌, arith, length}
 use Rattle.std.specs.Prelude.{⊤, slice_get}
 use Rattle.std.proofs.lemmas.Bool.Decides.{nat_tests}
-use Rattle.fr_base.specs.declared.name.ObjNo.{ObjNo}
-use Rattle.global_addr.specs.Words.{colour_of, server_of, address_of, next_word}
-use Rattle.heap_partition.specs.declared.value.BoxPtr.{BoxPtr}
-use Rattle.heap_partition.specs.declared.value.Cell.{Cell}
-use Rattle.heap_partition.specs.declared.value.Owned.TheVariants as owned
-use Rattle.mut_borrow.specs.declared.mutable.MutRef.{MutRef}
-use Rattle.owner_box.specs.View.{PartitionState}
-use Rattle.owner_box.specs.Partition.{cell_of as cell_under, freed, renewed, next_place, new_word}
-use Rattle.journal.specs.declared.act.Act.TheVariants as act
-use Rattle.thread_state.specs.View.{ThreadState}
-use Rattle.thread_state.specs.declared.value.Value.{Value}
-use Rattle.thread_state.specs.declared.value.Value.TheVariants as value
-use Rattle.server_model.specs.Servers.{Server, Cluster, server_at}
-use Rattle.server_model.specs.Work.{Hand, Work, note, with_partition, look, leads_here, thread_in, set_thread, without_thread}
-use Rattle.server_model.specs.NewWords.{NewWord, is_last, can_grow, issue_tint, issue_renewal, issue_colour}
-use Rattle.server_model.specs.Places.{Spot, in_slot, in_cell, note_write, put_word}
-use Rattle.server_model.specs.Prepare.{Prepared, ready, requested, nothing, ready_at, box_of, box_ready}
-use Rattle.heap_law.specs.Names.{Among, one, same_object}
-use Rattle.heap_law.specs.Things.{Location, at_slot, in_cell as in_object, lies, servers_things, things_of}
-use Rattle.heap_law.specs.Follow.{value_in, value_of}
-use Rattle.heap_law.specs.Sight.{Pointer, pointers_in, taken_pointers, sight, issued}
-use Rattle.heap_law.specs.Weights.{cells}
-use Rattle.heap_law.specs.Words.{all_pointers, IsStale, HasWords, LeadsTo}
-use Rattle.heap_law.proofs.Words.{itself}
-use Rattle.type_law.specs.ClusterTypes.{IsCoherent}
-use Rattle.path_law.proofs.InState.{only_one}
-use Rattle.path_law.proofs.Origins.{among_first}
-use Rattle.path_law.proofs.Sole.{some_is}
-use Rattle.word_law.specs.Reworded.{HasPlaces, Reworded}
-use Rattle.word_law.specs.PutBack.{StandsHere, LeadsHome}
-use Rattle.word_law.specs.WordsAfter.{IsNoFirst}
-use Rattle.word_law.proofs.Standing.{lying, cell_found, told}
-use Rattle.word_law.proofs.Tints.{SlotPut, word_put, slot_stands, tint_rewords}
-use Rattle.word_law.proofs.Cells.{CellPut, cell_put, cells_reword}
-use Rattle.word_law.proofs.Marks.{mark_rewords}
-use Rattle.word_law.proofs.NewWord.{is_new}
-use Rattle.word_law.proofs.Past.{are_no_firsts}
-use Rattle.event_law.proofs.Results.{given_by}
-use Rattle.event_law.proofs.RulesKeep.{sums_kept}
-use Rattle.event_law.proofs.Bags.{all_standing}
-use Rattle.event_law.proofs.Events.{others_of}
-use Rattle.event_law.proofs.NewWords.{hand_renews, puts_word}
+use Rattle.write_law.specs.Below.fr_base.declared.name.ObjNo.{ObjNo}
+use Rattle.write_law.specs.Below.global_addr.Words.{colour_of, server_of, address_of, next_word}
+use Rattle.write_law.specs.Below.heap_partition.declared.value.BoxPtr.{BoxPtr}
+use Rattle.write_law.specs.Below.heap_partition.declared.value.Cell.{Cell}
+use Rattle.write_law.specs.Below.heap_partition.declared.value.Owned.TheVariants as owned
+use Rattle.write_law.specs.Below.mut_borrow.declared.mutable.MutRef.{MutRef}
+use Rattle.write_law.specs.Below.owner_box.View.{PartitionState}
+use Rattle.write_law.specs.Below.owner_box.Partition.{cell_of as cell_under, freed, renewed, next_place, new_word}
+use Rattle.write_law.specs.Below.journal.declared.act.Act.TheVariants as act
+use Rattle.write_law.specs.Below.thread_state.View.{ThreadState}
+use Rattle.write_law.specs.Below.thread_state.declared.value.Value.{Value}
+use Rattle.write_law.specs.Below.thread_state.declared.value.Value.TheVariants as value
+use Rattle.write_law.specs.Below.server_model.Servers.{Server, Cluster, server_at}
+use Rattle.write_law.specs.Below.server_model.Work.{Hand, Work, note, with_partition, look, leads_here, thread_in, set_thread, without_thread}
+use Rattle.write_law.specs.Below.server_model.NewWords.{NewWord, is_last, can_grow, issue_tint, issue_renewal, issue_colour}
+use Rattle.write_law.specs.Below.server_model.Places.{Spot, in_slot, in_cell, note_write, put_word}
+use Rattle.write_law.specs.Below.server_model.Prepare.{Prepared, ready, requested, nothing, ready_at, box_of, box_ready}
+use Rattle.write_law.specs.Below.heap_law.Names.{Among, one, same_object}
+use Rattle.write_law.specs.Below.heap_law.Things.{Location, at_slot, in_cell as in_object, lies, servers_things, things_of}
+use Rattle.write_law.specs.Below.heap_law.Follow.{value_in, value_of}
+use Rattle.write_law.specs.Below.heap_law.Sight.{Pointer, pointers_in, taken_pointers, sight, issued}
+use Rattle.write_law.specs.Below.heap_law.Weights.{cells}
+use Rattle.write_law.specs.Below.heap_law.Words.{all_pointers, IsStale, HasWords, LeadsTo}
+use Rattle.write_law.proofs.Below.heap_law.Words.{itself}
+use Rattle.write_law.specs.Below.type_law.ClusterTypes.{IsCoherent}
+use Rattle.write_law.proofs.Below.path_law.InState.{only_one}
+use Rattle.write_law.proofs.Below.path_law.Origins.{among_first}
+use Rattle.write_law.proofs.Below.path_law.Sole.{some_is}
+use Rattle.move_law.specs.Below.word_law.Reworded.{HasPlaces, Reworded}
+use Rattle.move_law.specs.Below.word_law.PutBack.{StandsHere, LeadsHome}
+use Rattle.move_law.specs.Below.word_law.WordsAfter.{IsNoFirst}
+use Rattle.move_law.proofs.Below.word_law.Standing.{lying, cell_found, told}
+use Rattle.move_law.proofs.Below.word_law.Tints.{SlotPut, word_put, slot_stands, tint_rewords}
+use Rattle.move_law.proofs.Below.word_law.Cells.{CellPut, cell_put, cells_reword}
+use Rattle.move_law.proofs.Below.word_law.Marks.{mark_rewords}
+use Rattle.move_law.proofs.Below.word_law.NewWord.{is_new}
+use Rattle.move_law.proofs.Below.word_law.Past.{are_no_firsts}
+use Rattle.write_law.proofs.Below.event_law.Results.{given_by}
+use Rattle.write_law.proofs.Below.event_law.RulesKeep.{sums_kept}
+use Rattle.write_law.proofs.Below.event_law.Bags.{all_standing}
+use Rattle.write_law.proofs.Below.event_law.Events.{others_of}
+use Rattle.write_law.proofs.Below.event_law.NewWords.{hand_renews, puts_word}
 use Rattle.prepare_law.proofs.Below.read_law.Homes.{fresh_word}
 use Rattle.prepare_law.proofs.Below.read_law.Lookups.{one_state}
 use Rattle.write_law.proofs.Below.result_law.Pointing.{its_partition}
@@ -55,7 +55,7 @@ use Rattle.rewrite_law.proofs.Onward.{Lies, IsWritten, Onward, no_first, onward_
 use Rattle.rewrite_law.proofs.Later.{Later, later_stored, later_renewed, renewal_unissued, next_vacant, partition_among}
 use Rattle.rewrite_law.proofs.Passing.{there_among, Fits, State, Asked}
 
-no_reference : (u : Rattle.heap_partition.specs.declared.value.Owned.Owned) (r : MutRef) → value.Own u ≡ value.Mut r → ⊥
+no_reference : (u : Rattle.write_law.specs.Below.heap_partition.declared.value.Owned.Owned) (r : MutRef) → value.Own u ≡ value.Mut r → ⊥
 no_reference u r e = absurd (cc e)
 
 -- what a renewal leaves
@@ -121,7 +121,7 @@ module _ (k : Cluster) (coherent : IsCoherent k) (s : Server) (here : server_at 
   -- HOMES
 
   -- a pointer in a slot of the hand, or in a cell, has its object's word, which leads to it
-  module _ (h : Hand) (st : St h) (l : Location) (v : Value) (p : BoxPtr) (written : IsWritten k l p.object) (stood : value_in (sight (P h)).ground l ≡ Some v) (pointer : Rattle.server_model.specs.Places.pointer_of v ≡ Some p) where
+  module _ (h : Hand) (st : St h) (l : Location) (v : Value) (p : BoxPtr) (written : IsWritten k l p.object) (stood : value_in (sight (P h)).ground l ≡ Some v) (pointer : Rattle.write_law.specs.Below.server_model.Places.pointer_of v ≡ Some p) where
     words_now : HasWords (sight (P h))
     words_now = st.onward.words.has_words
 
@@ -228,7 +228,7 @@ module _ (k : Cluster) (coherent : IsCoherent k) (s : Server) (here : server_at 
 
   -- A BOX
 
-  abbrev others : List Rattle.heap_law.specs.Things.Thing
+  abbrev others : List Rattle.write_law.specs.Below.heap_law.Things.Thing
   others = all_standing n (without_thread s.threads t) ++ servers_things (others_of k.servers n)
 
   -- a word that is put leaves the sums
@@ -294,7 +294,7 @@ module _ (k : Cluster) (coherent : IsCoherent k) (s : Server) (here : server_at 
         ap (issued (sight k)) left.0 ∙ renewal_unissued k coherent.sound n s here Q p.word b.later left.2 b.sane.small within
 
     later_now : Later s.rest.partition nw.work.rest.partition
-    later_now = subst (Later s.rest.partition) (sym (ap (λ (x : Rattle.server_model.specs.Servers.Rest). x.partition) left.1)) (later_renewed s.rest.partition Q p.word left.2 b.later)
+    later_now = subst (Later s.rest.partition) (sym (ap (λ (x : Rattle.write_law.specs.Below.server_model.Servers.Rest). x.partition) left.1)) (later_renewed s.rest.partition Q p.word left.2 b.later)
 
   module _ (h : Hand) (i : ℕ) (p : BoxPtr) (c : Cell) (b : Boxed h p c) (slot : slice_get h.thread.slots i ≡ Some (value.Own (owned.Box p))) (written : IsWritten k (at_slot h.thread.number i) p.object) where
     abbrev m : Location
@@ -316,16 +316,16 @@ module _ (k : Cluster) (coherent : IsCoherent k) (s : Server) (here : server_at 
     tinted None q = tt
     tinted (Some h2) q =
         let g2 : O h2 = puts (in_slot i) (issue_tint p h.work) h h2 (tint_ok p h b.state.ok) q in
-        let w : SlotPut h h2 i (next_word p.word) v = Rattle.word_law.proofs.Tints.slot_put h h2 i v p slot q in
+        let w : SlotPut h h2 i (next_word p.word) v = Rattle.move_law.proofs.Below.word_law.Tints.slot_put h h2 i v p slot q in
         let r : Reworded (P h) (P h2) m p.object (next_word p.word) =
         tint_rewords k n s.threads e h h2 i v p (stand h b.state.ok) slot refl q (spread h b.state.ok) (spread h2 g2) home (no_mutable (next_word p.word)) in
         record {
           state = record {
             ok = g2;
             onward = worded h h2 b.state g2 m p.object (next_word p.word) written (tint_unissued p b.word written.lies) (ap (λ (x : ThreadState). x.number) w.thread) r;
-            untaken = subst (λ x. Rattle.stay_law.proofs.Steps.TakesNoneHere k.code x) (sym w.thread) b.state.untaken;
+            untaken = subst (λ x. Rattle.prepare_law.proofs.Below.stay_law.Steps.TakesNoneHere k.code x) (sym w.thread) b.state.untaken;
           };
-          later = subst (Later s.rest.partition) (sym (ap (λ (x : Rattle.server_model.specs.Servers.Rest). x.partition) w.rest)) b.later;
+          later = subst (Later s.rest.partition) (sym (ap (λ (x : Rattle.write_law.specs.Below.server_model.Servers.Rest). x.partition) w.rest)) b.later;
           through = tt;
         }
 
@@ -339,9 +339,9 @@ module _ (k : Cluster) (coherent : IsCoherent k) (s : Server) (here : server_at 
           state = record {
             ok = g2;
             onward = worded h h2 b.state g2 m p.object nw.word written (new h p c b nw f) (ap (λ (x : ThreadState). x.number) w.thread) r;
-            untaken = subst (λ x. Rattle.stay_law.proofs.Steps.TakesNoneHere k.code x) (sym w.thread) b.state.untaken;
+            untaken = subst (λ x. Rattle.prepare_law.proofs.Below.stay_law.Steps.TakesNoneHere k.code x) (sym w.thread) b.state.untaken;
           };
-          later = subst (Later s.rest.partition) (sym (ap (λ (x : Rattle.server_model.specs.Servers.Rest). x.partition) w.rest)) (later_now h p c b nw f);
+          later = subst (Later s.rest.partition) (sym (ap (λ (x : Rattle.write_law.specs.Below.server_model.Servers.Rest). x.partition) w.rest)) (later_now h p c b nw f);
           through = tt;
         }
 
@@ -379,10 +379,10 @@ module _ (k : Cluster) (coherent : IsCoherent k) (s : Server) (here : server_at 
         let st2 : St h2 = record {
           ok = g2;
           onward = worded h h2 b.state g2 u p.object nw.word written none (ap (λ (x : ThreadState). x.number) w.thread) (r g2);
-          untaken = subst (λ x. Rattle.stay_law.proofs.Steps.TakesNoneHere k.code x) (sym w.thread) b.state.untaken;
+          untaken = subst (λ x. Rattle.prepare_law.proofs.Below.stay_law.Steps.TakesNoneHere k.code x) (sym w.thread) b.state.untaken;
         } in
         let l2 : Later s.rest.partition h2.work.rest.partition =
-        subst (Later s.rest.partition) (sym (ap (λ (x : Rattle.server_model.specs.Servers.Rest). x.partition) w.rest)) (later_stored s.rest.partition nw.work.rest.partition word (owned.Box (record p { word = nw.word })) l) in
+        subst (Later s.rest.partition) (sym (ap (λ (x : Rattle.write_law.specs.Below.server_model.Servers.Rest). x.partition) w.rest)) (later_stored s.rest.partition nw.work.rest.partition word (owned.Box (record p { word = nw.word })) l) in
         subst (λ o. Mine (ready_at (in_cell nw.word None) o)) (sym both) (marked h2 nw.word q st2 l2 (subst (λ x. Through x q) (sym w.thread) through) g3)
 
     cell_tinted : (o : Option Hand) → put_word (in_cell word None) (issue_tint p h.work) h ≡ o → Mine (ready_at (in_cell (next_word p.word) None) (put_word (in_cell word q) (issue_tint p h.work) h))

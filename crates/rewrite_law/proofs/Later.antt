@@ -4,29 +4,29 @@ use Rattle.std.specs.Prelude.{drop as drop_first, slice_set, slice_get, slice_in
 use Rattle.std.proofs.lemmas.Bool.Decides.{nat_tests}
 use Rattle.std.proofs.lemmas.List.{length-set, length-append}
 use Rattle.std.proofs.lemmas.Option.{slice_get_within}
-use Rattle.global_addr.specs.Words.{colour_of, server_of, address_of}
-use Rattle.heap_partition.specs.declared.value.Cell.{Cell}
-use Rattle.heap_partition.specs.declared.value.Owned.{Owned}
-use Rattle.colour_retire.specs.Colours.{picked, rest_of}
-use Rattle.owner_box.specs.View.{PartitionState}
-use Rattle.owner_box.specs.Partition.{cell_of, next_place, new_word, put_cell, made, made_again, freed, renewed, with_value, stored}
-use Rattle.owner_box.proofs.Issued.{packed}
-use Rattle.server_model.specs.Servers.{Server, Cluster, server_at}
-use Rattle.heap_law.specs.Names.{Among, tot, one}
-use Rattle.heap_law.specs.Things.{Thing, lies, vacant, retired, counts, things_at, cell_things, free_things, partition_things, copy_things, mutex_things, task_things, standing_things, waiting_things, leaving_things, server_things, servers_things, things_of}
-use Rattle.heap_law.specs.Sight.{is_spot, is_issued_at, is_issued, colour_up_to, word_of_object, sight, issued}
-use Rattle.heap_law.specs.Weights.{states, below}
-use Rattle.heap_law.specs.Coherent.{IsSound}
-use Rattle.heap_law.proofs.Names.{and_left, and_right, same_number}
-use Rattle.event_law.specs.Sums.{is_server}
-use Rattle.event_law.proofs.Bags.{counts_of, body_things, rest_things, all_standing, server_same}
-use Rattle.event_law.proofs.Events.{others_of, tot-server}
-use Rattle.event_law.proofs.Sound.{sound_has_sums}
-use Rattle.event_law.proofs.Trades.{tot-append}
-use Rattle.path_law.proofs.InState.{only_one}
-use Rattle.path_law.proofs.Contained.{listed_in}
-use Rattle.path_law.proofs.Origins.{among_first, among_second}
-use Rattle.path_law.proofs.Sole.{some_is}
+use Rattle.write_law.specs.Below.global_addr.Words.{colour_of, server_of, address_of}
+use Rattle.write_law.specs.Below.heap_partition.declared.value.Cell.{Cell}
+use Rattle.write_law.specs.Below.heap_partition.declared.value.Owned.{Owned}
+use Rattle.write_law.specs.Below.colour_retire.Colours.{picked, rest_of}
+use Rattle.write_law.specs.Below.owner_box.View.{PartitionState}
+use Rattle.write_law.specs.Below.owner_box.Partition.{cell_of, next_place, new_word, put_cell, made, made_again, freed, renewed, with_value, stored}
+use Rattle.write_law.proofs.Below.owner_box.Issued.{packed}
+use Rattle.write_law.specs.Below.server_model.Servers.{Server, Cluster, server_at}
+use Rattle.write_law.specs.Below.heap_law.Names.{Among, tot, one}
+use Rattle.write_law.specs.Below.heap_law.Things.{Thing, lies, vacant, retired, counts, things_at, cell_things, free_things, partition_things, copy_things, mutex_things, task_things, standing_things, waiting_things, leaving_things, server_things, servers_things, things_of}
+use Rattle.write_law.specs.Below.heap_law.Sight.{is_spot, is_issued_at, is_issued, colour_up_to, word_of_object, sight, issued}
+use Rattle.write_law.specs.Below.heap_law.Weights.{states, below}
+use Rattle.write_law.specs.Below.heap_law.Coherent.{IsSound}
+use Rattle.write_law.proofs.Below.heap_law.Names.{and_left, and_right, same_number}
+use Rattle.write_law.specs.Below.event_law.Sums.{is_server}
+use Rattle.write_law.proofs.Below.event_law.Bags.{counts_of, body_things, rest_things, all_standing, server_same}
+use Rattle.write_law.proofs.Below.event_law.Events.{others_of, tot-server}
+use Rattle.write_law.proofs.Below.event_law.Sound.{sound_has_sums}
+use Rattle.write_law.proofs.Below.event_law.Trades.{tot-append}
+use Rattle.write_law.proofs.Below.path_law.InState.{only_one}
+use Rattle.write_law.proofs.Below.path_law.Contained.{listed_in}
+use Rattle.write_law.proofs.Below.path_law.Origins.{among_first, among_second}
+use Rattle.write_law.proofs.Below.path_law.Sole.{some_is}
 use Rattle.prepare_law.proofs.Below.read_law.Lookups.{one_state}
 use Rattle.write_law.proofs.Below.result_law.Flights.{has_weight}
 use Rattle.write_law.proofs.Below.result_law.Pointing.{its_partition}
@@ -87,7 +87,7 @@ later_renewed p q w last l = by (cell_of q w)
 
 -- WHAT STANDS THERE WHEN THE EVENT BEGAN
 
-none_issued : (colours w : ℕ) (ps : List Rattle.heap_law.specs.Sight.Pointer) (b : List Thing) → ((x : Thing) → Among x b → is_issued_at colours ps w x ≡ false) → is_issued colours ps b w ≡ false
+none_issued : (colours w : ℕ) (ps : List Rattle.write_law.specs.Below.heap_law.Sight.Pointer) (b : List Thing) → ((x : Thing) → Among x b → is_issued_at colours ps w x ≡ false) → is_issued colours ps b w ≡ false
 none_issued colours w ps [] f = refl
 none_issued colours w ps (x ∷ b) f = ap (λ q. q || is_issued colours ps b w) (f x (inl refl)) ∙ none_issued colours w ps b (λ y h. f y (inr h))
 

@@ -1,36 +1,36 @@
 -- What each small step of a write hands on, beside the cluster from which its event began.
 use Rattle.std.proofs.Common.{◌≡◌, ◌≤◌, ◌⊎◌, ⊎_elim, ℕ, false, true, Option, Some, None, refl, sym, ap, ◌∙◌, arith}
-use Rattle.fr_base.specs.declared.name.ObjNo.{ObjNo}
-use Rattle.heap_partition.specs.declared.value.Cell.{Cell}
-use Rattle.mut_borrow.specs.declared.mutable.MutRef.{MutRef}
-use Rattle.thread_state.specs.declared.value.Value.{Value}
-use Rattle.thread_state.specs.declared.value.Value.TheVariants as value
-use Rattle.server_model.specs.Servers.{Cluster}
-use Rattle.heap_law.specs.Names.{Among, one, same_object}
-use Rattle.heap_law.specs.Things.{Location, Thing, in_cell, lies, flies, things_of}
-use Rattle.heap_law.specs.Follow.{value_in, value_of, cell_of}
-use Rattle.heap_law.specs.Stale.{Reference}
-use Rattle.heap_law.specs.Sight.{sight, issued}
-use Rattle.heap_law.specs.Coherent.{Holds, are_issued, IsSound}
-use Rattle.heap_law.specs.Weights.{cells}
-use Rattle.heap_law.specs.Words.{IsStale}
-use Rattle.heap_law.proofs.Words.{itself}
-use Rattle.path_law.proofs.InState.{only_one}
-use Rattle.path_law.proofs.Contained.{reference_there}
-use Rattle.word_law.specs.Reworded.{HasPlaces, LiesThere, Reworded}
-use Rattle.word_law.specs.Unmoved.{Untouched, LeavesWords}
-use Rattle.word_law.specs.Soles.{IsSole, SameOutlines, outline}
-use Rattle.word_law.specs.WordsAfter.{Rewrites, IsNoFirst}
-use Rattle.word_law.proofs.Standing.{CellOf, lying, flying, cell_among, cell_found, borrow_stands}
-use Rattle.word_law.proofs.Grounds.{of_borrows, same_place}
-use Rattle.word_law.proofs.Outlines.{outlined_reference, soles_stay}
-use Rattle.word_law.proofs.Words.{words_go_on, fresh_go_on}
-use Rattle.word_law.proofs.Beside.{holders_go_on, dirty_goes_on}
-use Rattle.word_law.proofs.Past.{first_issued, past_goes_on}
-use Rattle.word_law.proofs.Only.{are_only}
-use Rattle.word_law.proofs.Unmoved.{stale_at, untouched_stays}
-use Rattle.stay_law.proofs.Alike.{Alike}
-use Rattle.stay_law.proofs.Seen.{seen_alike}
+use Rattle.write_law.specs.Below.fr_base.declared.name.ObjNo.{ObjNo}
+use Rattle.write_law.specs.Below.heap_partition.declared.value.Cell.{Cell}
+use Rattle.write_law.specs.Below.mut_borrow.declared.mutable.MutRef.{MutRef}
+use Rattle.write_law.specs.Below.thread_state.declared.value.Value.{Value}
+use Rattle.write_law.specs.Below.thread_state.declared.value.Value.TheVariants as value
+use Rattle.write_law.specs.Below.server_model.Servers.{Cluster}
+use Rattle.write_law.specs.Below.heap_law.Names.{Among, one, same_object}
+use Rattle.write_law.specs.Below.heap_law.Things.{Location, Thing, in_cell, lies, flies, things_of}
+use Rattle.write_law.specs.Below.heap_law.Follow.{value_in, value_of, cell_of}
+use Rattle.write_law.specs.Below.heap_law.Stale.{Reference}
+use Rattle.write_law.specs.Below.heap_law.Sight.{sight, issued}
+use Rattle.write_law.specs.Below.heap_law.Coherent.{Holds, are_issued, IsSound}
+use Rattle.write_law.specs.Below.heap_law.Weights.{cells}
+use Rattle.write_law.specs.Below.heap_law.Words.{IsStale}
+use Rattle.write_law.proofs.Below.heap_law.Words.{itself}
+use Rattle.write_law.proofs.Below.path_law.InState.{only_one}
+use Rattle.write_law.proofs.Below.path_law.Contained.{reference_there}
+use Rattle.move_law.specs.Below.word_law.Reworded.{HasPlaces, LiesThere, Reworded}
+use Rattle.move_law.specs.Below.word_law.Unmoved.{Untouched, LeavesWords}
+use Rattle.move_law.specs.Below.word_law.Soles.{IsSole, SameOutlines, outline}
+use Rattle.move_law.specs.Below.word_law.WordsAfter.{Rewrites, IsNoFirst}
+use Rattle.move_law.proofs.Below.word_law.Standing.{CellOf, lying, flying, cell_among, cell_found, borrow_stands}
+use Rattle.move_law.proofs.Below.word_law.Grounds.{of_borrows, same_place}
+use Rattle.move_law.proofs.Below.word_law.Outlines.{outlined_reference, soles_stay}
+use Rattle.move_law.proofs.Below.word_law.Words.{words_go_on, fresh_go_on}
+use Rattle.move_law.proofs.Below.word_law.Beside.{holders_go_on, dirty_goes_on}
+use Rattle.move_law.proofs.Below.word_law.Past.{first_issued, past_goes_on}
+use Rattle.move_law.proofs.Below.word_law.Only.{are_only}
+use Rattle.move_law.proofs.Below.word_law.Unmoved.{stale_at, untouched_stays}
+use Rattle.prepare_law.proofs.Below.stay_law.Alike.{Alike}
+use Rattle.prepare_law.proofs.Below.stay_law.Seen.{seen_alike}
 use Rattle.prepare_law.specs.Requests.{WordsRise}
 use Rattle.prepare_law.proofs.Rising.{rise_itself, rise_left, rise_changed}
 
@@ -124,7 +124,7 @@ no_first k x w o all new d s q m e n f =
     let b = of_borrows (sight x).ground q (things_of x) m in
     let y = outlined_reference (value_in (sight k).ground q.at) q.reference (sym (s.outlines.stands q.at) ∙ ap outline (borrow_stands x d q.at q.reference b.among)) in
     let there = reference_there k q.at y.0 y.1 in
-    let was : issued (sight k) y.0.first ≡ true = first_issued k all q.at y.0 (of_borrows (sight k).ground (record { at = q.at; holder = Rattle.heap_law.specs.Stale.holder_of (sight k).ground q.at y.0.holder; reference = y.0 }) (things_of k) there).among in
+    let was : issued (sight k) y.0.first ≡ true = first_issued k all q.at y.0 (of_borrows (sight k).ground (record { at = q.at; holder = Rattle.write_law.specs.Below.heap_law.Stale.holder_of (sight k).ground q.at y.0.holder; reference = y.0 }) (things_of k) there).among in
     let first : y.0.first ≡ q.reference.first = ap (λ (a : MutRef). a.first) y.2 in
     let t : true ≡ false = sym was ∙ ap (issued (sight k)) (first ∙ sym f) ∙ new in
     absurd cc

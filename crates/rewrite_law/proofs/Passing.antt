@@ -1,41 +1,41 @@
 -- The hand of a step that writes, with its thread put back: what is noted and passed changes no value.
 use Rattle.std.proofs.Common.{◌≡◌, ⊎_elim, ℕ, ◌+◌, ◌==◌, Bool, true, false, if◌then◌else◌, List, [], ◌∷◌, ◌++◌, Option, Some, None, IsSome, refl, sym, ap, subst, ◌∙◌}
 use Rattle.std.specs.Prelude.{slice_get}
-use Rattle.thread_state.specs.View.{ThreadState}
-use Rattle.thread_state.specs.declared.phase.Phase.{Phase}
-use Rattle.server_msgs.specs.declared.message.Message.{Message}
-use Rattle.journal.specs.declared.act.Act.{Act}
-use Rattle.server_model.specs.Servers.{Server, Cluster, server_at}
-use Rattle.server_model.specs.Work.{Hand, note, send, working, with_phase, thread_in, set_thread, without_thread, put_back}
-use Rattle.server_model.specs.Clusters.{with_server}
-use Rattle.server_model.specs.Places.{Spot, load_at}
-use Rattle.server_model.specs.Prepare.{passing}
-use Rattle.server_model.specs.Events.{begin_work, begin_at}
-use Rattle.heap_law.specs.Names.{Among}
-use Rattle.heap_law.specs.Things.{Location, at_slot, at_temp, in_cell, Thing, sent, thread_things, message_things, server_things, servers_things, things_of}
-use Rattle.heap_law.specs.Follow.{Standing, value_in, value_of, cell_of, cells_in, threads_in, thread_at, slot_of, temp_of}
-use Rattle.heap_law.specs.Sight.{Pointer, pointers_of, sight}
-use Rattle.type_law.specs.ClusterTypes.{IsCoherent}
-use Rattle.path_law.proofs.Contained.{rest_none}
-use Rattle.path_law.proofs.Origins.{threads_joined, among_first, among_second}
-use Rattle.path_law.proofs.Sole.{some_is}
-use Rattle.word_law.specs.Reworded.{HasPlaces}
-use Rattle.word_law.specs.PutBack.{put_in}
-use Rattle.word_law.proofs.Put.{Split, put_split}
-use Rattle.word_law.proofs.Unseen.{Alike as Same, alike_itself, server_alike, servers_alike as servers_same}
-use Rattle.word_law.proofs.Slots.{thread_replaced, thread_cells, cells_joined}
-use Rattle.event_law.proofs.Rules.{is_plain}
-use Rattle.event_law.proofs.RulesKeep.{sums_kept}
-use Rattle.event_law.proofs.Bags.{all_standing, body_things, sent_number, thread_number}
-use Rattle.event_law.proofs.Chains.{phase_changes, hand_sends}
-use Rattle.event_law.proofs.Events.{others_of}
-use Rattle.event_law.proofs.ObjectMessages.{passes}
-use Rattle.stay_law.proofs.Alike.{Alike, itself, turned, chain, beside, blank, goes as goes_unseen}
-use Rattle.stay_law.proofs.Lists.{thread_set, taken_alike}
-use Rattle.stay_law.proofs.Servers.{held_if, sends}
-use Rattle.stay_law.proofs.Threads.{slots_of, temps_of, thread_alike, TakesNone}
-use Rattle.stay_law.proofs.Sites.{HandAlike, put_alike, begun_alike, ends_alike, servers_alike, replaced}
-use Rattle.stay_law.proofs.Steps.{TakesNoneHere, hand_itself}
+use Rattle.write_law.specs.Below.thread_state.View.{ThreadState}
+use Rattle.write_law.specs.Below.thread_state.declared.phase.Phase.{Phase}
+use Rattle.write_law.specs.Below.server_msgs.declared.message.Message.{Message}
+use Rattle.write_law.specs.Below.journal.declared.act.Act.{Act}
+use Rattle.write_law.specs.Below.server_model.Servers.{Server, Cluster, server_at}
+use Rattle.write_law.specs.Below.server_model.Work.{Hand, note, send, working, with_phase, thread_in, set_thread, without_thread, put_back}
+use Rattle.write_law.specs.Below.server_model.Clusters.{with_server}
+use Rattle.write_law.specs.Below.server_model.Places.{Spot, load_at}
+use Rattle.write_law.specs.Below.server_model.Prepare.{passing}
+use Rattle.write_law.specs.Below.server_model.Events.{begin_work, begin_at}
+use Rattle.write_law.specs.Below.heap_law.Names.{Among}
+use Rattle.write_law.specs.Below.heap_law.Things.{Location, at_slot, at_temp, in_cell, Thing, sent, thread_things, message_things, server_things, servers_things, things_of}
+use Rattle.write_law.specs.Below.heap_law.Follow.{Standing, value_in, value_of, cell_of, cells_in, threads_in, thread_at, slot_of, temp_of}
+use Rattle.write_law.specs.Below.heap_law.Sight.{Pointer, pointers_of, sight}
+use Rattle.write_law.specs.Below.type_law.ClusterTypes.{IsCoherent}
+use Rattle.write_law.proofs.Below.path_law.Contained.{rest_none}
+use Rattle.write_law.proofs.Below.path_law.Origins.{threads_joined, among_first, among_second}
+use Rattle.write_law.proofs.Below.path_law.Sole.{some_is}
+use Rattle.move_law.specs.Below.word_law.Reworded.{HasPlaces}
+use Rattle.move_law.specs.Below.word_law.PutBack.{put_in}
+use Rattle.move_law.proofs.Below.word_law.Put.{Split, put_split}
+use Rattle.move_law.proofs.Below.word_law.Unseen.{Alike as Same, alike_itself, server_alike, servers_alike as servers_same}
+use Rattle.move_law.proofs.Below.word_law.Slots.{thread_replaced, thread_cells, cells_joined}
+use Rattle.write_law.proofs.Below.event_law.Rules.{is_plain}
+use Rattle.write_law.proofs.Below.event_law.RulesKeep.{sums_kept}
+use Rattle.write_law.proofs.Below.event_law.Bags.{all_standing, body_things, sent_number, thread_number}
+use Rattle.write_law.proofs.Below.event_law.Chains.{phase_changes, hand_sends}
+use Rattle.write_law.proofs.Below.event_law.Events.{others_of}
+use Rattle.write_law.proofs.Below.event_law.ObjectMessages.{passes}
+use Rattle.prepare_law.proofs.Below.stay_law.Alike.{Alike, itself, turned, chain, beside, blank, goes as goes_unseen}
+use Rattle.prepare_law.proofs.Below.stay_law.Lists.{thread_set, taken_alike}
+use Rattle.prepare_law.proofs.Below.stay_law.Servers.{held_if, sends}
+use Rattle.prepare_law.proofs.Below.stay_law.Threads.{slots_of, temps_of, thread_alike, TakesNone}
+use Rattle.prepare_law.proofs.Below.stay_law.Sites.{HandAlike, put_alike, begun_alike, ends_alike, servers_alike, replaced}
+use Rattle.prepare_law.proofs.Below.stay_law.Steps.{TakesNoneHere, hand_itself}
 use Rattle.prepare_law.specs.Requests.{WordsRise}
 use Rattle.prepare_law.proofs.Hands.{Ok, put, places, stands, first_hand}
 use Rattle.rewrite_law.proofs.Onward.{Onward, onward_itself, onward_alike, holds_alike}
@@ -74,7 +74,7 @@ module _ (a b : Cluster) (n : ℕ) (t u : ThreadState) (number : u.number ≡ t.
   cells_same = ap cells_in s.after ∙ cells_parts s.left (thread_things n false u) s.right (thread_cells n u) ∙ sym (cells_parts s.left (thread_things n false t) s.right (thread_cells n t)) ∙ sym (ap cells_in s.before)
 
   -- what a thread shows that the two show alike
-  shown : (read : Option Standing → Option Rattle.thread_state.specs.declared.value.Value.Value) → read (Some y) ≡ read (Some x) → (m : ℕ) → read (thread_at (threads_in (things_of b)) m) ≡ read (thread_at (threads_in (things_of a)) m)
+  shown : (read : Option Standing → Option Rattle.write_law.specs.Below.thread_state.declared.value.Value.Value) → read (Some y) ≡ read (Some x) → (m : ℕ) → read (thread_at (threads_in (things_of b)) m) ≡ read (thread_at (threads_in (things_of a)) m)
   shown read same m =
       ⊎_elim
       (λ (e : thread_at (threads_in s.left ++ (y ∷ threads_in s.right)) m ≡ thread_at (threads_in s.left ++ (x ∷ threads_in s.right)) m). ap (λ q. read (thread_at q m)) threads_b ∙ ap read e ∙ sym (ap (λ q. read (thread_at q m)) threads_a))

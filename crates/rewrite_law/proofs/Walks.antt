@@ -2,29 +2,29 @@
 use Rattle.std.proofs.Common.{◌≡◌, ℕ, zero, suc, ◌+◌, ◌<◌, ◌≤◌, ◌==◌, nat_lt, Bool, true, false, if◌then◌else◌, Option, Some, None, refl, sym, ap, subst, ◌∙◌, arith}
 use Rattle.std.specs.Prelude.{⊤, slice_get}
 use Rattle.std.proofs.lemmas.Bool.Decides.{nat_tests}
-use Rattle.fr_base.specs.declared.name.ObjNo.{ObjNo}
-use Rattle.global_addr.specs.Words.{server_of}
-use Rattle.heap_partition.specs.declared.value.BoxPtr.{BoxPtr}
-use Rattle.heap_partition.specs.declared.value.Cell.{Cell}
-use Rattle.heap_partition.specs.declared.value.Owned.TheVariants as owned
-use Rattle.mut_borrow.specs.declared.mutable.MutRef.{MutRef}
-use Rattle.owner_box.specs.View.{PartitionState}
-use Rattle.journal.specs.declared.act.Act.TheVariants as act
-use Rattle.thread_state.specs.View.{ThreadState}
-use Rattle.thread_state.specs.declared.phase.Phase.TheVariants as phase
-use Rattle.thread_state.specs.declared.value.Value.{Value}
-use Rattle.thread_state.specs.declared.value.Value.TheVariants as value
-use Rattle.server_msgs.specs.declared.message.Message.TheVariants as message
-use Rattle.place_walk.specs.declared.hop.Hop.TheVariants as jump
-use Rattle.place_walk.specs.Hops.{write_hop}
-use Rattle.server_model.specs.Servers.{Rest, Server, Cluster, server_at}
-use Rattle.server_model.specs.Work.{Hand, thread_in}
-use Rattle.server_model.specs.NewWords.{issue_colour}
-use Rattle.server_model.specs.Places.{Spot, in_slot, in_cell, value_in, value_at, load_at}
-use Rattle.server_model.specs.Prepare.{Prepared, ready, requested, nothing, and_then, ask_object, box_of, local, passing, box_ready, write_by, pass_by, write_value, write_star, write_stars}
-use Rattle.heap_law.specs.Things.{Location, at_slot, in_cell as in_object}
-use Rattle.type_law.specs.ClusterTypes.{IsCoherent}
-use Rattle.path_law.proofs.Sole.{some_is}
+use Rattle.write_law.specs.Below.fr_base.declared.name.ObjNo.{ObjNo}
+use Rattle.write_law.specs.Below.global_addr.Words.{server_of}
+use Rattle.write_law.specs.Below.heap_partition.declared.value.BoxPtr.{BoxPtr}
+use Rattle.write_law.specs.Below.heap_partition.declared.value.Cell.{Cell}
+use Rattle.write_law.specs.Below.heap_partition.declared.value.Owned.TheVariants as owned
+use Rattle.write_law.specs.Below.mut_borrow.declared.mutable.MutRef.{MutRef}
+use Rattle.write_law.specs.Below.owner_box.View.{PartitionState}
+use Rattle.write_law.specs.Below.journal.declared.act.Act.TheVariants as act
+use Rattle.write_law.specs.Below.thread_state.View.{ThreadState}
+use Rattle.write_law.specs.Below.thread_state.declared.phase.Phase.TheVariants as phase
+use Rattle.write_law.specs.Below.thread_state.declared.value.Value.{Value}
+use Rattle.write_law.specs.Below.thread_state.declared.value.Value.TheVariants as value
+use Rattle.write_law.specs.Below.server_msgs.declared.message.Message.TheVariants as message
+use Rattle.write_law.specs.Below.place_walk.declared.hop.Hop.TheVariants as jump
+use Rattle.write_law.specs.Below.place_walk.Hops.{write_hop}
+use Rattle.write_law.specs.Below.server_model.Servers.{Rest, Server, Cluster, server_at}
+use Rattle.write_law.specs.Below.server_model.Work.{Hand, thread_in}
+use Rattle.write_law.specs.Below.server_model.NewWords.{issue_colour}
+use Rattle.write_law.specs.Below.server_model.Places.{Spot, in_slot, in_cell, value_in, value_at, load_at}
+use Rattle.write_law.specs.Below.server_model.Prepare.{Prepared, ready, requested, nothing, and_then, ask_object, box_of, local, passing, box_ready, write_by, pass_by, write_value, write_star, write_stars}
+use Rattle.write_law.specs.Below.heap_law.Things.{Location, at_slot, in_cell as in_object}
+use Rattle.write_law.specs.Below.type_law.ClusterTypes.{IsCoherent}
+use Rattle.write_law.proofs.Below.path_law.Sole.{some_is}
 use Rattle.write_law.proofs.Memory.{Leads, looks}
 use Rattle.write_law.proofs.Route.{LeadsBy, Hop, by_slot, by_reference, by_box, by_cell, Route, Writing, At, a_slot, a_cell, Fine, hop_star}
 use Rattle.rewrite_law.proofs.Onward.{IsWritten}
@@ -63,9 +63,9 @@ module _ (k : Cluster) (coherent : IsCoherent k) (s : Server) (here : server_at 
 
   -- the hop counts
   local_state : (v : Value) (h : Hand) → S h → S (local v h)
-  local_state v h g = by (Rattle.server_model.specs.Places.pointer_of v)
+  local_state v h g = by (Rattle.write_law.specs.Below.server_model.Places.pointer_of v)
     where
-      by : (o : Option BoxPtr) → S (Rattle.server_model.specs.Prepare.hopped (λ p. Rattle.server_model.specs.Work.note (act.Local p.object p.word)) o h)
+      by : (o : Option BoxPtr) → S (Rattle.write_law.specs.Below.server_model.Prepare.hopped (λ p. Rattle.write_law.specs.Below.server_model.Work.note (act.Local p.object p.word)) o h)
       by None = g
       by (Some p) = noted k coherent s here t y at (act.Local p.object p.word) h g
 

@@ -1,35 +1,35 @@
 -- The place that a thread of a coherent cluster writes through stars: each pointer that it follows to an object is the one through which that is written.
 use Rattle.std.proofs.Common.{◌≡◌, ◌≤◌, ◌<◌, ℕ, suc, ◌-◌, true, Option, Some, None, refl, ap, ◌∙◌, arith}
-use Rattle.fr_base.specs.declared.name.ObjNo.{ObjNo}
-use Rattle.fr_base.specs.declared.place.Lval.{Lval}
-use Rattle.fr_base.specs.declared.instruction.Operand.{Operand}
-use Rattle.fr_base.specs.declared.instruction.Instr.{Instr}
-use Rattle.fr_base.specs.declared.instruction.Instr.TheVariants as instr
-use Rattle.fr_code.specs.CodeTypes.{Entry, Table, InstrTypes, i_assign, i_move}
-use Rattle.fr_store.specs.Keys.{slot_k}
-use Rattle.heap_partition.specs.declared.value.BoxPtr.{BoxPtr}
-use Rattle.heap_partition.specs.declared.value.Cell.{Cell}
-use Rattle.heap_partition.specs.declared.value.Owned.TheVariants as owned
-use Rattle.thread_state.specs.View.{ThreadState}
-use Rattle.thread_state.specs.declared.phase.Phase.{Phase}
-use Rattle.thread_state.specs.declared.phase.Phase.TheVariants as phase
-use Rattle.thread_state.specs.declared.value.Value.{Value}
-use Rattle.thread_state.specs.declared.value.Value.TheVariants as value
-use Rattle.server_model.specs.Servers.{Server, Cluster}
-use Rattle.server_model.specs.Places.{pointer_of}
-use Rattle.heap_law.specs.Things.{Location, in_cell}
-use Rattle.heap_law.specs.Follow.{Standing, Ground, value_in, value_of, slot_of, leads}
-use Rattle.heap_law.specs.Paths.{path_of, assigning, taking, written_place}
-use Rattle.heap_law.specs.Sight.{sight}
-use Rattle.heap_law.specs.Walking.{path}
-use Rattle.heap_law.specs.Words.{IsStale}
-use Rattle.path_law.specs.HeapStore.{HasPaths, GoesOn}
-use Rattle.path_law.specs.Pointing.{MayWrite, WritesTo, assigns as assigns_to, moves as moves_from}
-use Rattle.path_law.proofs.Circles.{shorter}
-use Rattle.path_law.proofs.MayWrites.{may_write_there}
-use Rattle.path_law.proofs.Shown.{stands_there}
-use Rattle.word_law.specs.Unmoved.{taking_by}
-use Rattle.word_law.proofs.Alone.{written_are_sole}
+use Rattle.write_law.specs.Below.fr_base.declared.name.ObjNo.{ObjNo}
+use Rattle.write_law.specs.Below.fr_base.declared.place.Lval.{Lval}
+use Rattle.write_law.specs.Below.fr_base.declared.instruction.Operand.{Operand}
+use Rattle.write_law.specs.Below.fr_base.declared.instruction.Instr.{Instr}
+use Rattle.write_law.specs.Below.fr_base.declared.instruction.Instr.TheVariants as instr
+use Rattle.write_law.specs.Below.fr_code.CodeTypes.{Entry, Table, InstrTypes, i_assign, i_move}
+use Rattle.write_law.specs.Below.fr_store.Keys.{slot_k}
+use Rattle.write_law.specs.Below.heap_partition.declared.value.BoxPtr.{BoxPtr}
+use Rattle.write_law.specs.Below.heap_partition.declared.value.Cell.{Cell}
+use Rattle.write_law.specs.Below.heap_partition.declared.value.Owned.TheVariants as owned
+use Rattle.write_law.specs.Below.thread_state.View.{ThreadState}
+use Rattle.write_law.specs.Below.thread_state.declared.phase.Phase.{Phase}
+use Rattle.write_law.specs.Below.thread_state.declared.phase.Phase.TheVariants as phase
+use Rattle.write_law.specs.Below.thread_state.declared.value.Value.{Value}
+use Rattle.write_law.specs.Below.thread_state.declared.value.Value.TheVariants as value
+use Rattle.write_law.specs.Below.server_model.Servers.{Server, Cluster}
+use Rattle.write_law.specs.Below.server_model.Places.{pointer_of}
+use Rattle.write_law.specs.Below.heap_law.Things.{Location, in_cell}
+use Rattle.write_law.specs.Below.heap_law.Follow.{Standing, Ground, value_in, value_of, slot_of, leads}
+use Rattle.write_law.specs.Below.heap_law.Paths.{path_of, assigning, taking, written_place}
+use Rattle.write_law.specs.Below.heap_law.Sight.{sight}
+use Rattle.write_law.specs.Below.heap_law.Walking.{path}
+use Rattle.write_law.specs.Below.heap_law.Words.{IsStale}
+use Rattle.write_law.specs.Below.path_law.HeapStore.{HasPaths, GoesOn}
+use Rattle.write_law.specs.Below.path_law.Pointing.{MayWrite, WritesTo, assigns as assigns_to, moves as moves_from}
+use Rattle.write_law.proofs.Below.path_law.Circles.{shorter}
+use Rattle.write_law.proofs.Below.path_law.MayWrites.{may_write_there}
+use Rattle.write_law.proofs.Below.path_law.Shown.{stands_there}
+use Rattle.move_law.specs.Below.word_law.Unmoved.{taking_by}
+use Rattle.move_law.proofs.Below.word_law.Alone.{written_are_sole}
 use Rattle.prepare_law.specs.Below.read_law.Reading.{LiesUnder}
 use Rattle.prepare_law.proofs.Below.read_law.Homes.{fresh_word}
 use Rattle.write_law.proofs.Below.end_law.Fresh.{writes_are_fresh}

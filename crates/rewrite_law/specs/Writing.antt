@@ -1,17 +1,17 @@
 -- A STEP THAT WRITES THROUGH STARS keeps the words (this project's rules).
 use Rattle.std.specs.Prelude.{◌≡◌, ℕ, suc, true, Some, None, slice_get}
-use Rattle.fr_base.specs.declared.instruction.Operand.{Operand}
-use Rattle.fr_base.specs.declared.instruction.Instr.{Instr}
-use Rattle.fr_base.specs.declared.instruction.Instr.TheVariants as instr
-use Rattle.fr_base.specs.declared.place.Lval.{Lval}
-use Rattle.journal.specs.View.{EntryView}
-use Rattle.thread_state.specs.View.{ThreadState}
-use Rattle.server_model.specs.declared.event.What.TheVariants.{Step}
-use Rattle.server_model.specs.Servers.{Server, Cluster, server_at}
-use Rattle.server_model.specs.Work.{thread_in}
-use Rattle.server_model.specs.Clusters.{apply}
-use Rattle.type_law.specs.ClusterTypes.{IsCoherent}
-use Rattle.event_law.specs.Laws.{Gives, FewEvents}
+use Rattle.write_law.specs.Below.fr_base.declared.instruction.Operand.{Operand}
+use Rattle.write_law.specs.Below.fr_base.declared.instruction.Instr.{Instr}
+use Rattle.write_law.specs.Below.fr_base.declared.instruction.Instr.TheVariants as instr
+use Rattle.write_law.specs.Below.fr_base.declared.place.Lval.{Lval}
+use Rattle.write_law.specs.Below.journal.View.{EntryView}
+use Rattle.write_law.specs.Below.thread_state.View.{ThreadState}
+use Rattle.write_law.specs.Below.server_model.declared.event.What.TheVariants.{Step}
+use Rattle.write_law.specs.Below.server_model.Servers.{Server, Cluster, server_at}
+use Rattle.write_law.specs.Below.server_model.Work.{thread_in}
+use Rattle.write_law.specs.Below.server_model.Clusters.{apply}
+use Rattle.write_law.specs.Below.type_law.ClusterTypes.{IsCoherent}
+use Rattle.write_law.specs.Below.event_law.Laws.{Gives, FewEvents}
 use Rattle.prepare_law.specs.Requests.{WordsRise}
 
 -- an instruction that assigns or moves out through so many stars and one

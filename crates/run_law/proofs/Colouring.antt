@@ -1,25 +1,25 @@
 -- Along a run of events the coloured heap follows, entry by entry, and messages are counted.
 use Rattle.std.proofs.Common.{◌≡◌, ◌+◌, ◌&&◌, true, List, [], ◌∷◌, Option, Some, None, refl, sym, ap, subst, ◌∙◌, arith}
-use Rattle.fr_base.specs.declared.instruction.Instr.{Instr}
-use Rattle.fr_base.specs.declared.settings.Options.{Options}
-use Rattle.journal.specs.View.{EntryView}
-use Rattle.coloured_heap.specs.Heap.{Coloured, start}
-use Rattle.coloured_heap.specs.Lists.{holds}
-use Rattle.coloured_heap.specs.Legal.{entry_after, onward, journal_from, journal_after}
-use Rattle.coloured_heap.specs.Reach.{is_reached, reached_from, is_all_reached}
-use Rattle.coloured_heap.specs.Sends.{all_messages}
-use Rattle.coloured_heap.specs.Figures.{deliveries}
-use Rattle.server_model.specs.declared.event.Event.{Event}
-use Rattle.server_model.specs.Servers.{Cluster, start_of, server_at}
-use Rattle.server_model.specs.Clusters.{done_at, apply}
-use Rattle.heap_law.specs.Sight.{sight}
-use Rattle.heap_law.specs.Naming.{events_of}
-use Rattle.heap_law.specs.Colours.{StandsColoured}
-use Rattle.heap_law.specs.LeftBy.{messages_of}
-use Rattle.type_law.specs.ClusterTypes.{IsCoherent}
-use Rattle.event_law.specs.Laws.{Gives, FewEvents}
-use Rattle.event_law.proofs.Results.{then_gives, map_gives, over_gives, both_give, given_by}
-use Rattle.event_law.proofs.KnownSound.{servers_between}
+use Rattle.start_law.specs.Below.fr_base.declared.instruction.Instr.{Instr}
+use Rattle.start_law.specs.Below.fr_base.declared.settings.Options.{Options}
+use Rattle.start_law.specs.Below.journal.View.{EntryView}
+use Rattle.start_law.specs.Below.coloured_heap.Heap.{Coloured, start}
+use Rattle.start_law.specs.Below.coloured_heap.Lists.{holds}
+use Rattle.start_law.specs.Below.coloured_heap.Legal.{entry_after, onward, journal_from, journal_after}
+use Rattle.start_law.specs.Below.coloured_heap.Reach.{is_reached, reached_from, is_all_reached}
+use Rattle.start_law.specs.Below.coloured_heap.Sends.{all_messages}
+use Rattle.start_law.specs.Below.coloured_heap.Figures.{deliveries}
+use Rattle.start_law.specs.Below.server_model.declared.event.Event.{Event}
+use Rattle.start_law.specs.Below.server_model.Servers.{Cluster, start_of, server_at}
+use Rattle.start_law.specs.Below.server_model.Clusters.{done_at, apply}
+use Rattle.start_law.specs.Below.heap_law.Sight.{sight}
+use Rattle.start_law.specs.Below.heap_law.Naming.{events_of}
+use Rattle.start_law.specs.Below.heap_law.Colours.{StandsColoured}
+use Rattle.start_law.specs.Below.heap_law.LeftBy.{messages_of}
+use Rattle.start_law.specs.Below.type_law.ClusterTypes.{IsCoherent}
+use Rattle.limit_law.specs.Below.event_law.Laws.{Gives, FewEvents}
+use Rattle.limit_law.proofs.Below.event_law.Results.{then_gives, map_gives, over_gives, both_give, given_by}
+use Rattle.limit_law.proofs.Below.event_law.KnownSound.{servers_between}
 use Rattle.start_law.specs.Starts.{StartsAreCoherent}
 use Rattle.code_meaning.specs.LeftByItsCode.{LeftByItsCode}
 use Rattle.code_meaning.proofs.StartLeft.{starts_left}

@@ -1,26 +1,26 @@
 -- Each event is counted once, and leaves the code.
 use Rattle.std.proofs.Common.{◌≡◌, ℕ, ◌+◌, ◌==◌, Bool, true, false, if◌then◌else◌, List, [], ◌∷◌, length, Some, None, refl, ap, ◌∙◌, arith}
 use Rattle.std.specs.Prelude.{take, drop}
-use Rattle.fr_typing.proofs.PlaceLemmas.{eq_cases}
-use Rattle.fr_base.specs.declared.instruction.Instr.{Instr}
-use Rattle.fr_base.specs.declared.settings.Options.{Options}
-use Rattle.server_msgs.specs.declared.message.Message.{Message}
-use Rattle.server_msgs.specs.declared.message.Message.TheVariants as message
-use Rattle.journal.specs.View.{EntryView}
-use Rattle.server_model.specs.declared.event.Event.{Event}
-use Rattle.server_model.specs.declared.event.What.{What}
-use Rattle.server_model.specs.declared.event.What.TheVariants.{Step, Deliver, Evict, Migrate}
-use Rattle.server_model.specs.Servers.{Sent, Server, Cluster, server_at}
-use Rattle.server_model.specs.Events.{enabled, does, stepped, left_by}
-use Rattle.server_model.specs.Clusters.{with_server, with_outbox, accept, accept_at, accept_all, hand_over_newer, done_at, apply}
-use Rattle.heap_law.specs.Names.{tot}
-use Rattle.heap_law.specs.Things.{message_things, waiting_things, leaving_things, standing_things, server_things, servers_things}
-use Rattle.heap_law.specs.Sight.{sight}
-use Rattle.heap_law.specs.Naming.{event_count, events_of}
-use Rattle.heap_law.proofs.Sums.{tot-append}
-use Rattle.event_law.proofs.Unseen.{Unseen, Unnoted, none_at, thread_alone, seen_of}
-use Rattle.event_law.specs.Laws.{Gives}
-use Rattle.event_law.proofs.Results.{then_gives, map_gives, test_gives, over_gives}
+use Rattle.start_law.proofs.Below.fr_typing.PlaceLemmas.{eq_cases}
+use Rattle.start_law.specs.Below.fr_base.declared.instruction.Instr.{Instr}
+use Rattle.start_law.specs.Below.fr_base.declared.settings.Options.{Options}
+use Rattle.start_law.specs.Below.server_msgs.declared.message.Message.{Message}
+use Rattle.start_law.specs.Below.server_msgs.declared.message.Message.TheVariants as message
+use Rattle.start_law.specs.Below.journal.View.{EntryView}
+use Rattle.start_law.specs.Below.server_model.declared.event.Event.{Event}
+use Rattle.start_law.specs.Below.server_model.declared.event.What.{What}
+use Rattle.start_law.specs.Below.server_model.declared.event.What.TheVariants.{Step, Deliver, Evict, Migrate}
+use Rattle.start_law.specs.Below.server_model.Servers.{Sent, Server, Cluster, server_at}
+use Rattle.start_law.specs.Below.server_model.Events.{enabled, does, stepped, left_by}
+use Rattle.start_law.specs.Below.server_model.Clusters.{with_server, with_outbox, accept, accept_at, accept_all, hand_over_newer, done_at, apply}
+use Rattle.start_law.specs.Below.heap_law.Names.{tot}
+use Rattle.start_law.specs.Below.heap_law.Things.{message_things, waiting_things, leaving_things, standing_things, server_things, servers_things}
+use Rattle.start_law.specs.Below.heap_law.Sight.{sight}
+use Rattle.start_law.specs.Below.heap_law.Naming.{event_count, events_of}
+use Rattle.start_law.proofs.Below.heap_law.Sums.{tot-append}
+use Rattle.limit_law.proofs.Below.event_law.Unseen.{Unseen, Unnoted, none_at, thread_alone, seen_of}
+use Rattle.limit_law.specs.Below.event_law.Laws.{Gives}
+use Rattle.limit_law.proofs.Below.event_law.Results.{then_gives, map_gives, test_gives, over_gives}
 use Rattle.limit_law.specs.Counts.{events_in}
 
 -- THINGS: counts of servers alone count events

@@ -1,26 +1,26 @@
 -- Along a run of events the plain machine follows, step by step.
 use Rattle.std.proofs.Common.{◌≡◌, ℕ, zero, suc, ◌+◌, ◌<◌, ◌^◌, List, [], ◌∷◌, ◌++◌, length, take, Option, Some, None, refl, sym, ap, subst, ◌∙◌, arith}
 use Rattle.std.specs.Prelude.{option_map}
-use Rattle.fr_base.specs.declared.instruction.Instr.{Instr}
-use Rattle.fr_base.specs.declared.settings.Options.{Options}
-use Rattle.fr_base.specs.declared.label.Label.{Label}
-use Rattle.fr_base.specs.declared.step.Fresh.{Fresh}
-use Rattle.fr_plain.specs.Machine.{Turn, then_labels, go_on}
-use Rattle.fr_plain.specs.PlainState.{SameState, plain_state}
-use Rattle.fr_code.specs.Machine.{CodeWhole, CodeStepped, CodeState, code_step, code_run, code_start}
-use Rattle.journal.specs.View.{EntryView}
-use Rattle.journal.specs.Journals.{turn_of, order, labels, printed, prints}
-use Rattle.server_model.specs.declared.event.Event.{Event}
-use Rattle.server_model.specs.Servers.{Cluster, start_of}
-use Rattle.server_model.specs.Clusters.{apply}
-use Rattle.heap_law.specs.Sight.{sight}
-use Rattle.heap_law.specs.Naming.{events_of}
-use Rattle.heap_law.specs.OneHeap.{one_heap}
-use Rattle.heap_law.specs.LeftBy.{LeadsTo, RunsWith}
-use Rattle.type_law.specs.ClusterTypes.{IsCoherent}
-use Rattle.event_law.specs.Laws.{Gives, FewEvents}
-use Rattle.event_law.proofs.Results.{then_gives, over_gives, weaker, given_by}
-use Rattle.event_law.proofs.KnownSound.{servers_between}
+use Rattle.start_law.specs.Below.fr_base.declared.instruction.Instr.{Instr}
+use Rattle.start_law.specs.Below.fr_base.declared.settings.Options.{Options}
+use Rattle.start_law.specs.Below.fr_base.declared.label.Label.{Label}
+use Rattle.start_law.specs.Below.fr_base.declared.step.Fresh.{Fresh}
+use Rattle.start_law.specs.Below.fr_plain.Machine.{Turn, then_labels, go_on}
+use Rattle.start_law.specs.Below.fr_plain.PlainState.{SameState, plain_state}
+use Rattle.start_law.specs.Below.fr_code.Machine.{CodeWhole, CodeStepped, CodeState, code_step, code_run, code_start}
+use Rattle.start_law.specs.Below.journal.View.{EntryView}
+use Rattle.start_law.specs.Below.journal.Journals.{turn_of, order, labels, printed, prints}
+use Rattle.start_law.specs.Below.server_model.declared.event.Event.{Event}
+use Rattle.start_law.specs.Below.server_model.Servers.{Cluster, start_of}
+use Rattle.start_law.specs.Below.server_model.Clusters.{apply}
+use Rattle.start_law.specs.Below.heap_law.Sight.{sight}
+use Rattle.start_law.specs.Below.heap_law.Naming.{events_of}
+use Rattle.start_law.specs.Below.heap_law.OneHeap.{one_heap}
+use Rattle.start_law.specs.Below.heap_law.LeftBy.{LeadsTo, RunsWith}
+use Rattle.start_law.specs.Below.type_law.ClusterTypes.{IsCoherent}
+use Rattle.limit_law.specs.Below.event_law.Laws.{Gives, FewEvents}
+use Rattle.limit_law.proofs.Below.event_law.Results.{then_gives, over_gives, weaker, given_by}
+use Rattle.limit_law.proofs.Below.event_law.KnownSound.{servers_between}
 use Rattle.start_law.specs.Starts.{StartsAreCoherent}
 use Rattle.assign_law.specs.Every.{IsStepOrStill}
 use Rattle.assign_law.proofs.Every.{each_is}

@@ -1,53 +1,53 @@
 -- An event without a plain step has no labels: none of what messages do gives one, and where a thread waits, none counts yet.
 use Rattle.std.proofs.Common.{◌≡◌, ℕ, zero, suc, ◌+◌, ◌-◌, ◌==◌, nat_lt, Bool, true, false, if◌then◌else◌, List, [], ◌∷◌, ◌++◌, length, Option, Some, None, refl}
 use Rattle.std.specs.Prelude.{slice_get, slice_set, option_map}
-use Rattle.fr_base.specs.declared.name.MutexNo.{MutexNo}
-use Rattle.fr_base.specs.declared.instruction.Instr.{Instr}
-use Rattle.fr_base.specs.declared.place.Lval.{Lval}
-use Rattle.fr_base.specs.declared.release.Released.TheVariants as released
-use Rattle.fr_base.specs.declared.step.Fresh.{Fresh}
-use Rattle.fr_base.specs.declared.settings.Options.{Options}
-use Rattle.heap_partition.specs.declared.value.Cell.{Cell}
-use Rattle.heap_partition.specs.declared.value.Owned.{Owned}
-use Rattle.heap_partition.specs.declared.value.Owned.TheVariants as owned
-use Rattle.thread_state.specs.View.{ThreadState}
-use Rattle.thread_state.specs.declared.phase.Phase.TheVariants as phase
-use Rattle.thread_state.specs.declared.value.Value.{Value}
-use Rattle.thread_state.specs.declared.value.Value.TheVariants as value
-use Rattle.mutex_home.specs.declared.answers.Asked.{Asked}
-use Rattle.mutex_home.specs.declared.answers.Asked.TheVariants as was
-use Rattle.mutex_home.specs.declared.answers.Back.{Back}
-use Rattle.mutex_home.specs.declared.answers.Back.TheVariants as back
-use Rattle.join_home.specs.declared.answers.EndedAs.{EndedAs}
-use Rattle.join_home.specs.declared.answers.EndedAs.TheVariants as ends
-use Rattle.server_msgs.specs.declared.message.Message.{Message}
-use Rattle.server_msgs.specs.declared.message.Message.TheVariants as message
-use Rattle.server_model.specs.NewWords.{can_grow}
-use Rattle.owner_box.specs.Partition.{new_word, made, freed, stored}
-use Rattle.read_cache.specs.Cache.{can_pin, pin, can_fill, fill, can_evict, evict}
-use Rattle.migration.specs.Packing.{pack_thread}
-use Rattle.fr_base.specs.Lists.{is_in}
-use Rattle.mutex_home.specs.Mutexes as mutexes
-use Rattle.join_home.specs.Tasks as tasks
-use Rattle.journal.specs.declared.act.Act.TheVariants as act
-use Rattle.journal.specs.View.{EntryView}
-use Rattle.server_model.specs.declared.event.What.{What}
-use Rattle.server_model.specs.declared.event.What.TheVariants.{Step, Deliver, Evict, Migrate}
-use Rattle.server_model.specs.Servers.{Server, Cluster, server_at}
-use Rattle.server_model.specs.Work.{Work, Hand, Site, send, note, look_object, leads_here, working, with_partition, with_cache, with_mutexes, with_tasks, with_slots, without_thread, use_word, then_some, thread_in, in_hand, at_thread, beside_threads, put_back, with_phase, used_once}
-use Rattle.server_model.specs.Places.{Spot, in_slot, on_top, in_cell, note_write, put_at, with_word, set_pointer, value_at}
-use Rattle.server_model.specs.NewWords.{NewWord, issue_placed}
-use Rattle.server_model.specs.Prepare.{Access, ReadTo, ReadPointer, WriteTo, LendTo, EndRef, Prepared, ready, requested, nothing, write_stars, passing, prepare, access_of}
-use Rattle.server_model.specs.Commit.{Committed, done, waits, refused, commit, settle}
-use Rattle.server_model.specs.Drop.{give_up}
-use Rattle.server_model.specs.Objects.{chased, waits_for_cell, passed_spot, waits_under, instr_access, deliver_fetch, filled, deliver_fetched, deliver_move, arrived_at, arrived_slot, arrived_write, arrived_lend, arrived_end, arrived, came, deliver_moved, deliver_drop}
-use Rattle.server_model.specs.Sharing.{waits_for_lock, waits_for_dup, given, answer_lock, deliver_lock, deliver_granted, answer_back, deliver_unlock, deliver_dup, deliver_dupped, give_up_left, release_mutex}
-use Rattle.server_model.specs.Joining.{waits_for_join, got_par, answer, stand, answer_join, deliver_join, deliver_joined, release_task, pair_over, end_answer}
-use Rattle.server_model.specs.Moving.{depart, migrate}
-use Rattle.server_model.specs.Events.{Stepped, done_step, committed, prepared, step, step_in, stepped, deliver_message, received, deliver, evict_copy, enabled, does, begin_work, begin_at, left_by}
-use Rattle.server_model.specs.Clusters.{done_at}
-use Rattle.event_law.specs.Laws.{Gives}
-use Rattle.event_law.proofs.Results.{then_gives, map_gives, test_gives, bind_gives, over_gives}
+use Rattle.start_law.specs.Below.fr_base.declared.name.MutexNo.{MutexNo}
+use Rattle.start_law.specs.Below.fr_base.declared.instruction.Instr.{Instr}
+use Rattle.start_law.specs.Below.fr_base.declared.place.Lval.{Lval}
+use Rattle.start_law.specs.Below.fr_base.declared.release.Released.TheVariants as released
+use Rattle.start_law.specs.Below.fr_base.declared.step.Fresh.{Fresh}
+use Rattle.start_law.specs.Below.fr_base.declared.settings.Options.{Options}
+use Rattle.start_law.specs.Below.heap_partition.declared.value.Cell.{Cell}
+use Rattle.start_law.specs.Below.heap_partition.declared.value.Owned.{Owned}
+use Rattle.start_law.specs.Below.heap_partition.declared.value.Owned.TheVariants as owned
+use Rattle.start_law.specs.Below.thread_state.View.{ThreadState}
+use Rattle.start_law.specs.Below.thread_state.declared.phase.Phase.TheVariants as phase
+use Rattle.start_law.specs.Below.thread_state.declared.value.Value.{Value}
+use Rattle.start_law.specs.Below.thread_state.declared.value.Value.TheVariants as value
+use Rattle.start_law.specs.Below.mutex_home.declared.answers.Asked.{Asked}
+use Rattle.start_law.specs.Below.mutex_home.declared.answers.Asked.TheVariants as was
+use Rattle.start_law.specs.Below.mutex_home.declared.answers.Back.{Back}
+use Rattle.start_law.specs.Below.mutex_home.declared.answers.Back.TheVariants as back
+use Rattle.start_law.specs.Below.join_home.declared.answers.EndedAs.{EndedAs}
+use Rattle.start_law.specs.Below.join_home.declared.answers.EndedAs.TheVariants as ends
+use Rattle.start_law.specs.Below.server_msgs.declared.message.Message.{Message}
+use Rattle.start_law.specs.Below.server_msgs.declared.message.Message.TheVariants as message
+use Rattle.start_law.specs.Below.server_model.NewWords.{can_grow}
+use Rattle.start_law.specs.Below.owner_box.Partition.{new_word, made, freed, stored}
+use Rattle.start_law.specs.Below.read_cache.Cache.{can_pin, pin, can_fill, fill, can_evict, evict}
+use Rattle.start_law.specs.Below.migration.Packing.{pack_thread}
+use Rattle.start_law.specs.Below.fr_base.Lists.{is_in}
+use Rattle.start_law.specs.Below.mutex_home.Mutexes as mutexes
+use Rattle.start_law.specs.Below.join_home.Tasks as tasks
+use Rattle.start_law.specs.Below.journal.declared.act.Act.TheVariants as act
+use Rattle.start_law.specs.Below.journal.View.{EntryView}
+use Rattle.start_law.specs.Below.server_model.declared.event.What.{What}
+use Rattle.start_law.specs.Below.server_model.declared.event.What.TheVariants.{Step, Deliver, Evict, Migrate}
+use Rattle.start_law.specs.Below.server_model.Servers.{Server, Cluster, server_at}
+use Rattle.start_law.specs.Below.server_model.Work.{Work, Hand, Site, send, note, look_object, leads_here, working, with_partition, with_cache, with_mutexes, with_tasks, with_slots, without_thread, use_word, then_some, thread_in, in_hand, at_thread, beside_threads, put_back, with_phase, used_once}
+use Rattle.start_law.specs.Below.server_model.Places.{Spot, in_slot, on_top, in_cell, note_write, put_at, with_word, set_pointer, value_at}
+use Rattle.start_law.specs.Below.server_model.NewWords.{NewWord, issue_placed}
+use Rattle.start_law.specs.Below.server_model.Prepare.{Access, ReadTo, ReadPointer, WriteTo, LendTo, EndRef, Prepared, ready, requested, nothing, write_stars, passing, prepare, access_of}
+use Rattle.start_law.specs.Below.server_model.Commit.{Committed, done, waits, refused, commit, settle}
+use Rattle.start_law.specs.Below.server_model.Drop.{give_up}
+use Rattle.start_law.specs.Below.server_model.Objects.{chased, waits_for_cell, passed_spot, waits_under, instr_access, deliver_fetch, filled, deliver_fetched, deliver_move, arrived_at, arrived_slot, arrived_write, arrived_lend, arrived_end, arrived, came, deliver_moved, deliver_drop}
+use Rattle.start_law.specs.Below.server_model.Sharing.{waits_for_lock, waits_for_dup, given, answer_lock, deliver_lock, deliver_granted, answer_back, deliver_unlock, deliver_dup, deliver_dupped, give_up_left, release_mutex}
+use Rattle.start_law.specs.Below.server_model.Joining.{waits_for_join, got_par, answer, stand, answer_join, deliver_join, deliver_joined, release_task, pair_over, end_answer}
+use Rattle.start_law.specs.Below.server_model.Moving.{depart, migrate}
+use Rattle.start_law.specs.Below.server_model.Events.{Stepped, done_step, committed, prepared, step, step_in, stepped, deliver_message, received, deliver, evict_copy, enabled, does, begin_work, begin_at, left_by}
+use Rattle.start_law.specs.Below.server_model.Clusters.{done_at}
+use Rattle.limit_law.specs.Below.event_law.Laws.{Gives}
+use Rattle.limit_law.proofs.Below.event_law.Results.{then_gives, map_gives, test_gives, bind_gives, over_gives}
 use Rattle.run_law.specs.Runs.{UndoneUnlabelled}
 
 abbrev Mute : Work → Type 0

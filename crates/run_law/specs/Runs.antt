@@ -1,27 +1,27 @@
 -- RUNS OF EVENTS, one after another, each with its messages handed over (this project's rule).
 use Rattle.std.specs.Prelude.{◌≡◌, ◌+◌, ◌<◌, ◌^◌, ℕ, true, List, [], ◌∷◌, length, take, Option, Some, None, option_map}
-use Rattle.fr_base.specs.declared.instruction.Instr.{Instr}
-use Rattle.fr_base.specs.declared.settings.Options.{Options}
-use Rattle.fr_code.specs.CodeTypes.{Table}
-use Rattle.fr_code.specs.CodeTable.{IsTable}
-use Rattle.journal.specs.View.{EntryView}
-use Rattle.journal.specs.Journals.{order, labels, prints}
-use Rattle.coloured_heap.specs.Heap.{Coloured}
-use Rattle.coloured_heap.specs.Legal.{entry_after}
-use Rattle.coloured_heap.specs.Reach.{is_reached}
-use Rattle.coloured_heap.specs.Sends.{all_messages}
-use Rattle.coloured_heap.specs.Figures as figures
-use Rattle.server_model.specs.declared.event.Event.{Event}
-use Rattle.server_model.specs.Servers.{Cluster, start_of}
-use Rattle.server_model.specs.Work.{then_some}
-use Rattle.server_model.specs.Clusters.{apply}
-use Rattle.heap_law.specs.Sight.{sight}
-use Rattle.heap_law.specs.Naming.{options_out, events_of}
-use Rattle.heap_law.specs.OneHeap.{one_heap}
-use Rattle.heap_law.specs.Colours.{StandsColoured}
-use Rattle.heap_law.specs.LeftBy.{LeadsTo, RunsWith, messages_of}
-use Rattle.type_law.specs.ClusterTypes.{IsCoherent}
-use Rattle.event_law.specs.Laws.{Gives, FewEvents}
+use Rattle.start_law.specs.Below.fr_base.declared.instruction.Instr.{Instr}
+use Rattle.start_law.specs.Below.fr_base.declared.settings.Options.{Options}
+use Rattle.start_law.specs.Below.fr_code.CodeTypes.{Table}
+use Rattle.start_law.specs.Below.fr_code.CodeTable.{IsTable}
+use Rattle.start_law.specs.Below.journal.View.{EntryView}
+use Rattle.start_law.specs.Below.journal.Journals.{order, labels, prints}
+use Rattle.start_law.specs.Below.coloured_heap.Heap.{Coloured}
+use Rattle.start_law.specs.Below.coloured_heap.Legal.{entry_after}
+use Rattle.start_law.specs.Below.coloured_heap.Reach.{is_reached}
+use Rattle.start_law.specs.Below.coloured_heap.Sends.{all_messages}
+use Rattle.start_law.specs.Below.coloured_heap.Figures as figures
+use Rattle.start_law.specs.Below.server_model.declared.event.Event.{Event}
+use Rattle.start_law.specs.Below.server_model.Servers.{Cluster, start_of}
+use Rattle.start_law.specs.Below.server_model.Work.{then_some}
+use Rattle.start_law.specs.Below.server_model.Clusters.{apply}
+use Rattle.start_law.specs.Below.heap_law.Sight.{sight}
+use Rattle.start_law.specs.Below.heap_law.Naming.{options_out, events_of}
+use Rattle.start_law.specs.Below.heap_law.OneHeap.{one_heap}
+use Rattle.start_law.specs.Below.heap_law.Colours.{StandsColoured}
+use Rattle.start_law.specs.Below.heap_law.LeftBy.{LeadsTo, RunsWith, messages_of}
+use Rattle.start_law.specs.Below.type_law.ClusterTypes.{IsCoherent}
+use Rattle.limit_law.specs.Below.event_law.Laws.{Gives, FewEvents}
 use Rattle.code_meaning.specs.Runs.{run}
 use Rattle.code_meaning.specs.OneHeap.{plain_run}
 use Rattle.code_meaning.specs.Laws.{HasPrinted}

@@ -3,21 +3,21 @@ use Rattle.std.proofs.Common.{◌≡◌, ℕ, ◌+◌, ◌==◌, Bool, true, fal
 use Rattle.std.specs.Prelude.{map, filter, remove, slice_get}
 use Rattle.std.proofs.lemmas.List.Edits.{length-remove}
 use Rattle.std.proofs.lemmas.Option.{slice_get_within}
-use Rattle.server_msgs.specs.declared.message.Message.{Message}
-use Rattle.server_msgs.specs.declared.message.Message.TheVariants as message
-use Rattle.fr_base.specs.declared.label.Label.{Label}
-use Rattle.fr_base.specs.declared.step.Fresh.{Fresh}
-use Rattle.journal.specs.declared.act.Act.{Act}
-use Rattle.journal.specs.declared.act.Act.TheVariants as act
-use Rattle.journal.specs.View.{EntryView}
-use Rattle.coloured_heap.specs.Sends.{Sending, sendings, leaves, all_messages}
-use Rattle.coloured_heap.specs.Figures.{deliveries}
-use Rattle.server_model.specs.Servers.{Sent, Rest, Server}
-use Rattle.heap_law.specs.Names.{tot}
-use Rattle.heap_law.specs.Things.{Thing, things_at, message_things, waiting_things, leaving_things, standing_things, server_things}
-use Rattle.heap_law.specs.Appended.{sending_of, sending_out, stays}
-use Rattle.heap_law.proofs.Sums.{tot-append}
-use Rattle.event_law.proofs.Unseen.{Unseen, Unnoted, none_at, thread_alone, seen_of}
+use Rattle.local_law.specs.Below.server_msgs.declared.message.Message.{Message}
+use Rattle.local_law.specs.Below.server_msgs.declared.message.Message.TheVariants as message
+use Rattle.local_law.specs.Below.fr_base.declared.label.Label.{Label}
+use Rattle.local_law.specs.Below.fr_base.declared.step.Fresh.{Fresh}
+use Rattle.local_law.specs.Below.journal.declared.act.Act.{Act}
+use Rattle.local_law.specs.Below.journal.declared.act.Act.TheVariants as act
+use Rattle.local_law.specs.Below.journal.View.{EntryView}
+use Rattle.local_law.specs.Below.coloured_heap.Sends.{Sending, sendings, leaves, all_messages}
+use Rattle.local_law.specs.Below.coloured_heap.Figures.{deliveries}
+use Rattle.local_law.specs.Below.server_model.Servers.{Sent, Rest, Server}
+use Rattle.local_law.specs.Below.heap_law.Names.{tot}
+use Rattle.local_law.specs.Below.heap_law.Things.{Thing, things_at, message_things, waiting_things, leaving_things, standing_things, server_things}
+use Rattle.local_law.specs.Below.heap_law.Appended.{sending_of, sending_out, stays}
+use Rattle.local_law.proofs.Below.heap_law.Sums.{tot-append}
+use Rattle.local_law.proofs.Below.event_law.Unseen.{Unseen, Unnoted, none_at, thread_alone, seen_of}
 use Rattle.local_law.proofs.Messages.{on_sent}
 use Rattle.sending_law.proofs.Sent.{Sends, evicts}
 

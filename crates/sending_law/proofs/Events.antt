@@ -2,35 +2,35 @@
 use Rattle.std.proofs.Common.{◌≡◌, ℕ, ◌==◌, Bool, true, false, [], ◌∷◌, ◌++◌, ◌+◌, length, take, drop, Option, Some, None, refl, sym, subst, append-nil, arith}
 use Rattle.std.specs.Prelude.{slice_get, option_map}
 use Rattle.std.proofs.lemmas.Bool.Decides.{nat_tests}
-use Rattle.fr_base.specs.Names.{home_of}
-use Rattle.read_cache.specs.Cache.{can_evict, evict}
-use Rattle.thread_state.specs.View.{ThreadState}
-use Rattle.server_msgs.specs.declared.message.Message.TheVariants as message
-use Rattle.journal.specs.declared.act.Act.TheVariants as act
-use Rattle.journal.specs.View.{EntryView}
-use Rattle.coloured_heap.specs.Sends.{all_messages}
-use Rattle.coloured_heap.specs.Figures.{deliveries}
-use Rattle.server_model.specs.declared.event.What.{What}
-use Rattle.server_model.specs.declared.event.What.TheVariants.{Step, Deliver, Evict, Migrate}
-use Rattle.server_model.specs.declared.event.Event.{Event}
-use Rattle.server_model.specs.Servers.{Server, Cluster, server_at}
-use Rattle.server_model.specs.Work.{Work, Hand, Site, receive, note, then_some, thread_in, with_cache, beside_threads}
-use Rattle.migration.specs.Packing.{pack_thread}
-use Rattle.server_model.specs.Moving.{migrate}
-use Rattle.server_model.specs.Clusters.{with_server, hand_over_newer, done_at}
-use Rattle.server_model.specs.Events.{Stepped, enabled, begin_work, begin_at, left_by, received, deliver_message, deliver, evict_copy, step, step_in, stepped, does}
-use Rattle.heap_law.specs.Names.{other}
-use Rattle.heap_law.specs.Sharing.{other_home}
-use Rattle.heap_law.specs.Sight.{sight}
-use Rattle.heap_law.specs.LeftBy.{messages_of}
-use Rattle.heap_law.specs.Appended.{AppendsSendings, left_waiting}
-use Rattle.heap_law.specs.Coherent.{IsSound}
-use Rattle.event_law.specs.Laws.{Gives, GoTo}
-use Rattle.event_law.proofs.Results.{map_gives, test_gives, over_gives, then_gives, weaker, both_give}
-use Rattle.event_law.proofs.Events.{tot-server}
-use Rattle.event_law.proofs.Handing.{hand_over_newer_law}
-use Rattle.event_law.proofs.Applied.{go_with}
-use Rattle.event_law.proofs.Sending.{each_event_sends}
+use Rattle.local_law.specs.Below.fr_base.Names.{home_of}
+use Rattle.local_law.specs.Below.read_cache.Cache.{can_evict, evict}
+use Rattle.local_law.specs.Below.thread_state.View.{ThreadState}
+use Rattle.local_law.specs.Below.server_msgs.declared.message.Message.TheVariants as message
+use Rattle.local_law.specs.Below.journal.declared.act.Act.TheVariants as act
+use Rattle.local_law.specs.Below.journal.View.{EntryView}
+use Rattle.local_law.specs.Below.coloured_heap.Sends.{all_messages}
+use Rattle.local_law.specs.Below.coloured_heap.Figures.{deliveries}
+use Rattle.local_law.specs.Below.server_model.declared.event.What.{What}
+use Rattle.local_law.specs.Below.server_model.declared.event.What.TheVariants.{Step, Deliver, Evict, Migrate}
+use Rattle.local_law.specs.Below.server_model.declared.event.Event.{Event}
+use Rattle.local_law.specs.Below.server_model.Servers.{Server, Cluster, server_at}
+use Rattle.local_law.specs.Below.server_model.Work.{Work, Hand, Site, receive, note, then_some, thread_in, with_cache, beside_threads}
+use Rattle.local_law.specs.Below.migration.Packing.{pack_thread}
+use Rattle.local_law.specs.Below.server_model.Moving.{migrate}
+use Rattle.local_law.specs.Below.server_model.Clusters.{with_server, hand_over_newer, done_at}
+use Rattle.local_law.specs.Below.server_model.Events.{Stepped, enabled, begin_work, begin_at, left_by, received, deliver_message, deliver, evict_copy, step, step_in, stepped, does}
+use Rattle.local_law.specs.Below.heap_law.Names.{other}
+use Rattle.local_law.specs.Below.heap_law.Sharing.{other_home}
+use Rattle.local_law.specs.Below.heap_law.Sight.{sight}
+use Rattle.local_law.specs.Below.heap_law.LeftBy.{messages_of}
+use Rattle.local_law.specs.Below.heap_law.Appended.{AppendsSendings, left_waiting}
+use Rattle.local_law.specs.Below.heap_law.Coherent.{IsSound}
+use Rattle.local_law.specs.Below.event_law.Laws.{Gives, GoTo}
+use Rattle.local_law.proofs.Below.event_law.Results.{map_gives, test_gives, over_gives, then_gives, weaker, both_give}
+use Rattle.local_law.proofs.Below.event_law.Events.{tot-server}
+use Rattle.local_law.proofs.Below.event_law.Handing.{hand_over_newer_law}
+use Rattle.local_law.proofs.Below.event_law.Applied.{go_with}
+use Rattle.local_law.proofs.Below.event_law.Sending.{each_event_sends}
 use Rattle.local_law.proofs.Handed.{known}
 use Rattle.sending_law.specs.Sending.{EventsSendTheirActs}
 use Rattle.sending_law.specs.Counting.{EventsCountMessages}

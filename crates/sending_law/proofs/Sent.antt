@@ -3,17 +3,17 @@ use Rattle.std.proofs.Common.{◌≡◌, ℕ, ◌==◌, Bool, true, false, not, 
 use Rattle.std.specs.Prelude.{map, filter}
 use Rattle.std.proofs.lemmas.List.{map-append}
 use Rattle.std.proofs.lemmas.List.Elements.{filter-append, filter_map-append}
-use Rattle.journal.specs.declared.act.Act.{Act}
-use Rattle.journal.specs.declared.act.Act.TheVariants as act
-use Rattle.coloured_heap.specs.Sends.{Sending, sends, sendings, leaves}
-use Rattle.server_msgs.specs.Messages.{kind_of}
-use Rattle.server_msgs.specs.declared.message.Message.{Message}
-use Rattle.server_model.specs.Servers.{Sent, Rest}
-use Rattle.server_model.specs.Work.{Work, sent_from, is_hop, without_hops}
-use Rattle.heap_law.specs.Appended.{sending_of, sending_out, stays}
-use Rattle.heap_law.specs.Names.{tot}
-use Rattle.heap_law.proofs.Names.{same_number}
-use Rattle.heap_law.proofs.Sums.{tot-append}
+use Rattle.local_law.specs.Below.journal.declared.act.Act.{Act}
+use Rattle.local_law.specs.Below.journal.declared.act.Act.TheVariants as act
+use Rattle.local_law.specs.Below.coloured_heap.Sends.{Sending, sends, sendings, leaves}
+use Rattle.local_law.specs.Below.server_msgs.Messages.{kind_of}
+use Rattle.local_law.specs.Below.server_msgs.declared.message.Message.{Message}
+use Rattle.local_law.specs.Below.server_model.Servers.{Sent, Rest}
+use Rattle.local_law.specs.Below.server_model.Work.{Work, sent_from, is_hop, without_hops}
+use Rattle.local_law.specs.Below.heap_law.Appended.{sending_of, sending_out, stays}
+use Rattle.local_law.specs.Below.heap_law.Names.{tot}
+use Rattle.local_law.proofs.Below.heap_law.Names.{same_number}
+use Rattle.local_law.proofs.Below.heap_law.Sums.{tot-append}
 
 -- an eviction
 abbrev pub evicts : Act → ℕ

@@ -2,48 +2,48 @@
 use Rattle.std.proofs.Common.{◌≡◌, ℕ, refl, sym, ap, zero, suc, ◌+◌, ◌==◌, Bool, true, false, if◌then◌else◌, List, Option, Some, None}
 use Rattle.std.specs.Prelude.{slice_get}
 use Rattle.std.specs.Bool.{⊤}
-use Rattle.fr_base.specs.Rooms.{WithRoom}
-use Rattle.fr_base.specs.declared.place.Lval.{Lval}
-use Rattle.fr_base.specs.declared.place.Op.{Op}
-use Rattle.fr_base.specs.declared.step.Fresh.{Fresh}
-use Rattle.fr_base.specs.declared.release.Released.TheVariants as released
-use Rattle.fr_base.specs.declared.instruction.Instr.{Instr}
-use Rattle.fr_base.specs.declared.instruction.Instr.TheVariants as instr
-use Rattle.fr_base.specs.declared.instruction.Operand.{Operand}
-use Rattle.fr_base.specs.declared.instruction.Operand.TheVariants as operand
-use Rattle.global_addr.specs.Words.{server_of}
-use Rattle.heap_partition.specs.declared.value.Owned.{Owned}
-use Rattle.heap_partition.specs.declared.value.Owned.TheVariants as owned
-use Rattle.read_cache.specs.Cache.{can_unpin}
-use Rattle.mut_borrow.specs.Refs.{finish_word}
-use Rattle.mut_borrow.specs.declared.shared.SharedRef.{SharedRef}
-use Rattle.mut_borrow.specs.declared.mutable.MutRef.{MutRef}
-use Rattle.join_home.specs.Tasks.{can_begin, can_begin_pair}
-use Rattle.mutex_home.specs.Mutexes.{can_make}
-use Rattle.thread_state.specs.View.{new_thread}
-use Rattle.thread_state.specs.declared.phase.Phase.{Phase}
-use Rattle.thread_state.specs.declared.phase.Phase.TheVariants as phase
-use Rattle.thread_state.specs.declared.value.Value.{Value}
-use Rattle.thread_state.specs.declared.value.Value.TheVariants as value
-use Rattle.server_msgs.specs.declared.message.Message.TheVariants as message
-use Rattle.journal.specs.declared.act.Act.{Act}
-use Rattle.journal.specs.declared.act.Act.TheVariants as act
-use Rattle.fr_base.specs.declared.message.Kind.TheVariants as kind
-use Rattle.coloured_heap.specs.Sends.{sends}
-use Rattle.heap_partition.specs.declared.value.Cell.{Cell}
-use Rattle.owner_box.specs.Partition.{new_word}
-use Rattle.server_model.specs.Servers.{Rest}
-use Rattle.server_model.specs.Work.{Work, Hand, Popped, last_of, pop_temp, pop_slot, pop, pop_owned, pop_int, taken_as, owned_of, int_of, task_of, then_some, working, label_all}
-use Rattle.migration.specs.Packing.{unpin_all}
-use Rattle.server_model.specs.NewWords.{NewWord, can_grow, issue_placed}
-use Rattle.server_model.specs.Places.{Spot, in_slot, on_top, in_cell, in_copy, nowhere, cell_at, value_at, load_at, put_slot, second_of}
-use Rattle.server_model.specs.Drop.{home_of, give_up, unpin_ref, finished_at, drop_value}
-use Rattle.server_model.specs.Start.{next_thread, server_for, start_thread, capture}
-use Rattle.server_model.specs.Commit.{Committed, done, waits, refused, done_where, go_on, goes_on, waiting, label_dropped, replace_slot, store_labels, store_at, replace_at, assign, take_out, read_as, shared_from, borrow_from, mutable_from, borrow_mut_from, discard, drop_slot, next_object, push_box, box_up, arith as calculate, print, begun, spawn_with, spawn, ask_join, take_gift, join, pair_begun, par, par_end, end_with, end_thread, mutex_made, mutex, mutex_at, ask_dup, dup, ask_lock, lock, held_of, unlock, commit, settle}
-use Rattle.server_model.specs.Prepare.{Prepared, ready, requested, nothing, access_of, prepare}
-use Rattle.server_model.specs.Events.{Stepped, done_step, committed, prepared, step}
-use Rattle.event_law.specs.Laws.{Gives}
-use Rattle.event_law.proofs.Results.{then_gives, map_gives, over_gives, bind_gives, test_gives}
+use Rattle.local_law.specs.Below.fr_base.Rooms.{WithRoom}
+use Rattle.local_law.specs.Below.fr_base.declared.place.Lval.{Lval}
+use Rattle.local_law.specs.Below.fr_base.declared.place.Op.{Op}
+use Rattle.local_law.specs.Below.fr_base.declared.step.Fresh.{Fresh}
+use Rattle.local_law.specs.Below.fr_base.declared.release.Released.TheVariants as released
+use Rattle.local_law.specs.Below.fr_base.declared.instruction.Instr.{Instr}
+use Rattle.local_law.specs.Below.fr_base.declared.instruction.Instr.TheVariants as instr
+use Rattle.local_law.specs.Below.fr_base.declared.instruction.Operand.{Operand}
+use Rattle.local_law.specs.Below.fr_base.declared.instruction.Operand.TheVariants as operand
+use Rattle.local_law.specs.Below.global_addr.Words.{server_of}
+use Rattle.local_law.specs.Below.heap_partition.declared.value.Owned.{Owned}
+use Rattle.local_law.specs.Below.heap_partition.declared.value.Owned.TheVariants as owned
+use Rattle.local_law.specs.Below.read_cache.Cache.{can_unpin}
+use Rattle.local_law.specs.Below.mut_borrow.Refs.{finish_word}
+use Rattle.local_law.specs.Below.mut_borrow.declared.shared.SharedRef.{SharedRef}
+use Rattle.local_law.specs.Below.mut_borrow.declared.mutable.MutRef.{MutRef}
+use Rattle.local_law.specs.Below.join_home.Tasks.{can_begin, can_begin_pair}
+use Rattle.local_law.specs.Below.mutex_home.Mutexes.{can_make}
+use Rattle.local_law.specs.Below.thread_state.View.{new_thread}
+use Rattle.local_law.specs.Below.thread_state.declared.phase.Phase.{Phase}
+use Rattle.local_law.specs.Below.thread_state.declared.phase.Phase.TheVariants as phase
+use Rattle.local_law.specs.Below.thread_state.declared.value.Value.{Value}
+use Rattle.local_law.specs.Below.thread_state.declared.value.Value.TheVariants as value
+use Rattle.local_law.specs.Below.server_msgs.declared.message.Message.TheVariants as message
+use Rattle.local_law.specs.Below.journal.declared.act.Act.{Act}
+use Rattle.local_law.specs.Below.journal.declared.act.Act.TheVariants as act
+use Rattle.local_law.specs.Below.fr_base.declared.message.Kind.TheVariants as kind
+use Rattle.local_law.specs.Below.coloured_heap.Sends.{sends}
+use Rattle.local_law.specs.Below.heap_partition.declared.value.Cell.{Cell}
+use Rattle.local_law.specs.Below.owner_box.Partition.{new_word}
+use Rattle.local_law.specs.Below.server_model.Servers.{Rest}
+use Rattle.local_law.specs.Below.server_model.Work.{Work, Hand, Popped, last_of, pop_temp, pop_slot, pop, pop_owned, pop_int, taken_as, owned_of, int_of, task_of, then_some, working, label_all}
+use Rattle.local_law.specs.Below.migration.Packing.{unpin_all}
+use Rattle.local_law.specs.Below.server_model.NewWords.{NewWord, can_grow, issue_placed}
+use Rattle.local_law.specs.Below.server_model.Places.{Spot, in_slot, on_top, in_cell, in_copy, nowhere, cell_at, value_at, load_at, put_slot, second_of}
+use Rattle.local_law.specs.Below.server_model.Drop.{home_of, give_up, unpin_ref, finished_at, drop_value}
+use Rattle.local_law.specs.Below.server_model.Start.{next_thread, server_for, start_thread, capture}
+use Rattle.local_law.specs.Below.server_model.Commit.{Committed, done, waits, refused, done_where, go_on, goes_on, waiting, label_dropped, replace_slot, store_labels, store_at, replace_at, assign, take_out, read_as, shared_from, borrow_from, mutable_from, borrow_mut_from, discard, drop_slot, next_object, push_box, box_up, arith as calculate, print, begun, spawn_with, spawn, ask_join, take_gift, join, pair_begun, par, par_end, end_with, end_thread, mutex_made, mutex, mutex_at, ask_dup, dup, ask_lock, lock, held_of, unlock, commit, settle}
+use Rattle.local_law.specs.Below.server_model.Prepare.{Prepared, ready, requested, nothing, access_of, prepare}
+use Rattle.local_law.specs.Below.server_model.Events.{Stepped, done_step, committed, prepared, step}
+use Rattle.local_law.specs.Below.event_law.Laws.{Gives}
+use Rattle.local_law.proofs.Below.event_law.Results.{then_gives, map_gives, over_gives, bind_gives, test_gives}
 use Rattle.sending_law.proofs.Sent.{By, evicts, sends_act, notes, without}
 use Rattle.sending_law.proofs.Prepares.{Good, Fine, puts, pointer_puts, prepare_sends}
 

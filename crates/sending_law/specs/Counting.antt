@@ -1,15 +1,15 @@
 -- HOW MANY MESSAGES WAIT: those that acts send, without those that were delivered (this project's rule).
 use Rattle.std.specs.Prelude.{◌≡◌, ◌+◌, [], ◌∷◌}
-use Rattle.journal.specs.View.{EntryView}
-use Rattle.coloured_heap.specs.Sends.{all_messages}
-use Rattle.coloured_heap.specs.Figures.{deliveries}
-use Rattle.server_model.specs.declared.event.Event.{Event}
-use Rattle.server_model.specs.Servers.{Cluster}
-use Rattle.server_model.specs.Clusters.{apply}
-use Rattle.heap_law.specs.Sight.{sight}
-use Rattle.heap_law.specs.Coherent.{IsSound}
-use Rattle.heap_law.specs.LeftBy.{messages_of}
-use Rattle.event_law.specs.Laws.{Gives, FewEvents}
+use Rattle.local_law.specs.Below.journal.View.{EntryView}
+use Rattle.local_law.specs.Below.coloured_heap.Sends.{all_messages}
+use Rattle.local_law.specs.Below.coloured_heap.Figures.{deliveries}
+use Rattle.local_law.specs.Below.server_model.declared.event.Event.{Event}
+use Rattle.local_law.specs.Below.server_model.Servers.{Cluster}
+use Rattle.local_law.specs.Below.server_model.Clusters.{apply}
+use Rattle.local_law.specs.Below.heap_law.Sight.{sight}
+use Rattle.local_law.specs.Below.heap_law.Coherent.{IsSound}
+use Rattle.local_law.specs.Below.heap_law.LeftBy.{messages_of}
+use Rattle.local_law.specs.Below.event_law.Laws.{Gives, FewEvents}
 
 -- whatever event from a sound cluster in which few were done, with its messages handed over: the messages that wait afterwards, and the one that it delivers, are together as many as those that
 -- waited before and those that its acts send

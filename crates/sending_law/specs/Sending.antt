@@ -1,12 +1,12 @@
 -- WHAT AN EVENT SENDS is what its acts send (this project's rule).
 use Rattle.std.specs.Prelude.{◌≡◌, ℕ, Some}
-use Rattle.journal.specs.View.{EntryView}
-use Rattle.server_model.specs.declared.event.What.{What}
-use Rattle.server_model.specs.Servers.{Server, Cluster, server_at}
-use Rattle.server_model.specs.Events.{does}
-use Rattle.heap_law.specs.Appended.{AppendsSendings}
-use Rattle.heap_law.specs.Coherent.{IsSound}
-use Rattle.event_law.specs.Laws.{Gives}
+use Rattle.local_law.specs.Below.journal.View.{EntryView}
+use Rattle.local_law.specs.Below.server_model.declared.event.What.{What}
+use Rattle.local_law.specs.Below.server_model.Servers.{Server, Cluster, server_at}
+use Rattle.local_law.specs.Below.server_model.Events.{does}
+use Rattle.local_law.specs.Below.heap_law.Appended.{AppendsSendings}
+use Rattle.local_law.specs.Below.heap_law.Coherent.{IsSound}
+use Rattle.local_law.specs.Below.event_law.Laws.{Gives}
 
 -- whatever event at a server of a sound cluster: its messages are those of its entry's acts, in order
 abbrev pub EventsSendTheirActs : Type 0

@@ -1,21 +1,21 @@
 -- Acts that answer for objects: a copy is served, comes to the cache, and an object leaves.
 use Rattle.std.proofs.Common.{◌≡◌, ℕ, ◌+◌, ◌-◌, ◌≤◌, ◌==◌, ◌&&◌, not, Bool, true, false, if◌then◌else◌, List, [], ◌∷◌, ◌++◌, Some, is_some, option_map, refl, sym, ap, ap₂, ◌∙◌, arith}
 use Rattle.std.proofs.lemmas.Bool.{lt-ltb}
-use Rattle.fr_base.specs.Lists.{tot, one}
-use Rattle.fr_base.specs.declared.name.ObjNo.{ObjNo}
-use Rattle.fr_base.specs.declared.label.Plain.{Plain}
-use Rattle.fr_base.specs.declared.settings.Options.{Options}
-use Rattle.journal.specs.View.{EntryView}
-use Rattle.journal.specs.declared.act.Act.TheVariants as act
-use Rattle.coloured_heap.specs.Lists.{first, holds, less_first, less_all, times}
-use Rattle.coloured_heap.specs.Heap.{Flies, Living, Copied, Wish, ForCopy, ForObject, Coloured, is_object, object_at, lies_at, is_under, copy_at, is_copy, next_served, value_in, same_wish, is_wished}
-use Rattle.coloured_heap.specs.Rules.{names, is_here, is_kept}
-use Rattle.coloured_heap.specs.Changes.{with_copy}
-use Rattle.coloured_heap.proofs.Times.{both, number_is}
-use Rattle.coloured_heap.proofs.Found.{found_each, found_less, times_less, times_other, has_some}
-use Rattle.coloured_heap.proofs.Same.{wish_is}
-use Rattle.coloured_heap.proofs.ShownNames.{number_flip}
-use Rattle.heap_law.specs.Colours.{same_copied}
+use Rattle.entry_law.specs.Below.fr_base.Lists.{tot, one}
+use Rattle.entry_law.specs.Below.fr_base.declared.name.ObjNo.{ObjNo}
+use Rattle.entry_law.specs.Below.fr_base.declared.label.Plain.{Plain}
+use Rattle.entry_law.specs.Below.fr_base.declared.settings.Options.{Options}
+use Rattle.entry_law.specs.Below.journal.View.{EntryView}
+use Rattle.entry_law.specs.Below.journal.declared.act.Act.TheVariants as act
+use Rattle.entry_law.specs.Below.coloured_heap.Lists.{first, holds, less_first, less_all, times}
+use Rattle.entry_law.specs.Below.coloured_heap.Heap.{Flies, Living, Copied, Wish, ForCopy, ForObject, Coloured, is_object, object_at, lies_at, is_under, copy_at, is_copy, next_served, value_in, same_wish, is_wished}
+use Rattle.entry_law.specs.Below.coloured_heap.Rules.{names, is_here, is_kept}
+use Rattle.entry_law.specs.Below.coloured_heap.Changes.{with_copy}
+use Rattle.entry_law.proofs.Below.coloured_heap.Times.{both, number_is}
+use Rattle.entry_law.proofs.Below.coloured_heap.Found.{found_each, found_less, times_less, times_other, has_some}
+use Rattle.entry_law.proofs.Below.coloured_heap.Same.{wish_is}
+use Rattle.entry_law.proofs.Below.coloured_heap.ShownNames.{number_flip}
+use Rattle.entry_law.specs.Below.heap_law.Colours.{same_copied}
 use Rattle.entry_law.proofs.Answers.{Answers, Fits, Allowed, answering, less_wish}
 use Rattle.entry_law.proofs.Shown.{copies_test}
 

@@ -1,17 +1,17 @@
 -- What a cluster answers after the delivery of an object or a copy: threads, mutexes and their names stay.
 use Rattle.std.proofs.Common.{◌≡◌, ℕ, List, Option, is_none, ap, ◌∙◌}
-use Rattle.fr_base.specs.declared.name.MutexNo.{MutexNo}
-use Rattle.fr_base.specs.declared.name.ObjNo.{ObjNo}
-use Rattle.server_model.specs.Servers.{Cluster}
-use Rattle.coloured_heap.specs.Heap.{Living, Copied, Wish, Running}
-use Rattle.heap_law.specs.Names.{tot}
-use Rattle.heap_law.specs.Things.{Thing}
-use Rattle.heap_law.specs.Sight.{sight, issued}
-use Rattle.heap_law.specs.Weights.{is_thread}
-use Rattle.heap_law.specs.Naming.{started_at, made_at}
-use Rattle.heap_law.specs.Colours.{living_of, copy_of, served_of, wishes_of, running_of}
-use Rattle.heap_law.specs.Coherent.{IsSound}
-use Rattle.still_law.proofs.Told.{told}
+use Rattle.entry_law.specs.Below.fr_base.declared.name.MutexNo.{MutexNo}
+use Rattle.entry_law.specs.Below.fr_base.declared.name.ObjNo.{ObjNo}
+use Rattle.entry_law.specs.Below.server_model.Servers.{Cluster}
+use Rattle.entry_law.specs.Below.coloured_heap.Heap.{Living, Copied, Wish, Running}
+use Rattle.entry_law.specs.Below.heap_law.Names.{tot}
+use Rattle.entry_law.specs.Below.heap_law.Things.{Thing}
+use Rattle.entry_law.specs.Below.heap_law.Sight.{sight, issued}
+use Rattle.entry_law.specs.Below.heap_law.Weights.{is_thread}
+use Rattle.entry_law.specs.Below.heap_law.Naming.{started_at, made_at}
+use Rattle.entry_law.specs.Below.heap_law.Colours.{living_of, copy_of, served_of, wishes_of, running_of}
+use Rattle.entry_law.specs.Below.heap_law.Coherent.{IsSound}
+use Rattle.entry_law.proofs.Below.still_law.Told.{told}
 use Rattle.entry_law.proofs.Answers.{Answers, Agrees, answers_of}
 use Rattle.entry_law.proofs.Shown.{runs, there_in, holder_by}
 use Rattle.entry_law.proofs.After.{Follows, Keeps, started_still, running_still, ended_by, made_still, there_still, holder_still}

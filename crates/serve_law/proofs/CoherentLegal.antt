@@ -1,41 +1,41 @@
 -- An event of a coherent cluster has a legal entry, where its server leads on and words and gifts are kept.
 use Rattle.std.proofs.Common.{◌≡◌, ℕ, true, Option, Some, None, is_some, option_map, refl, sym, ap, subst, ◌∙◌}
 use Rattle.std.specs.Prelude.{⊤, slice_get}
-use Rattle.fr_base.specs.declared.name.MutexNo.{MutexNo}
-use Rattle.fr_base.specs.declared.instruction.Instr.{Instr}
-use Rattle.fr_base.specs.declared.instruction.Instr.TheVariants as instr
-use Rattle.thread_state.specs.View.{ThreadState}
-use Rattle.server_msgs.specs.declared.message.Message.{Message}
-use Rattle.server_msgs.specs.declared.message.Message.TheVariants as message
-use Rattle.journal.specs.View.{EntryView}
-use Rattle.server_model.specs.declared.event.Event.{Event}
-use Rattle.server_model.specs.declared.event.What.{What}
-use Rattle.server_model.specs.declared.event.What.TheVariants.{Step, Deliver, Evict, Migrate}
-use Rattle.server_model.specs.Servers.{Server, Cluster, server_at}
-use Rattle.server_model.specs.Work.{thread_in, then_some}
-use Rattle.server_model.specs.Events.{does}
-use Rattle.server_model.specs.Clusters.{apply}
-use Rattle.coloured_heap.specs.Heap.{Coloured}
-use Rattle.heap_law.specs.Names.{one, if_so}
-use Rattle.heap_law.specs.Things.{server_things, things_of}
-use Rattle.heap_law.specs.Follow.{Standing, locate}
-use Rattle.heap_law.specs.Sight.{sight}
-use Rattle.heap_law.specs.Requests.{locked_mutex, is_mutex}
-use Rattle.heap_law.specs.Sharing.{gift_content}
-use Rattle.heap_law.specs.Colours.{StandsColoured}
-use Rattle.heap_law.specs.Coherent.{IsSound}
-use Rattle.type_law.specs.ClusterTypes.{IsCoherent}
-use Rattle.event_law.specs.Kinds.{Kind, moving, message_kind, instr_kind, kind_at, kind_of}
-use Rattle.event_law.specs.Laws.{Gives, FewEvents}
-use Rattle.event_law.proofs.Results.{both_give, weaker}
-use Rattle.still_law.specs.Shows.{Counts}
-use Rattle.still_law.proofs.Alike.{mutex_same, all_seen}
-use Rattle.still_law.proofs.Counting.{no_stray}
-use Rattle.still_law.proofs.Once.{shown_once}
-use Rattle.still_law.proofs.Sites.{AlikeBy, leads_by}
-use Rattle.still_law.proofs.StillKinds.{IsStill, server_still}
-use Rattle.word_law.specs.Unmoved.{LeavesWords}
-use Rattle.carry_law.proofs.Leaving.{moves_leave}
+use Rattle.entry_law.specs.Below.fr_base.declared.name.MutexNo.{MutexNo}
+use Rattle.entry_law.specs.Below.fr_base.declared.instruction.Instr.{Instr}
+use Rattle.entry_law.specs.Below.fr_base.declared.instruction.Instr.TheVariants as instr
+use Rattle.entry_law.specs.Below.thread_state.View.{ThreadState}
+use Rattle.entry_law.specs.Below.server_msgs.declared.message.Message.{Message}
+use Rattle.entry_law.specs.Below.server_msgs.declared.message.Message.TheVariants as message
+use Rattle.entry_law.specs.Below.journal.View.{EntryView}
+use Rattle.entry_law.specs.Below.server_model.declared.event.Event.{Event}
+use Rattle.entry_law.specs.Below.server_model.declared.event.What.{What}
+use Rattle.entry_law.specs.Below.server_model.declared.event.What.TheVariants.{Step, Deliver, Evict, Migrate}
+use Rattle.entry_law.specs.Below.server_model.Servers.{Server, Cluster, server_at}
+use Rattle.entry_law.specs.Below.server_model.Work.{thread_in, then_some}
+use Rattle.entry_law.specs.Below.server_model.Events.{does}
+use Rattle.entry_law.specs.Below.server_model.Clusters.{apply}
+use Rattle.entry_law.specs.Below.coloured_heap.Heap.{Coloured}
+use Rattle.entry_law.specs.Below.heap_law.Names.{one, if_so}
+use Rattle.entry_law.specs.Below.heap_law.Things.{server_things, things_of}
+use Rattle.entry_law.specs.Below.heap_law.Follow.{Standing, locate}
+use Rattle.entry_law.specs.Below.heap_law.Sight.{sight}
+use Rattle.entry_law.specs.Below.heap_law.Requests.{locked_mutex, is_mutex}
+use Rattle.entry_law.specs.Below.heap_law.Sharing.{gift_content}
+use Rattle.entry_law.specs.Below.heap_law.Colours.{StandsColoured}
+use Rattle.entry_law.specs.Below.heap_law.Coherent.{IsSound}
+use Rattle.fresh_law.specs.Below.type_law.ClusterTypes.{IsCoherent}
+use Rattle.entry_law.specs.Below.event_law.Kinds.{Kind, moving, message_kind, instr_kind, kind_at, kind_of}
+use Rattle.entry_law.specs.Below.event_law.Laws.{Gives, FewEvents}
+use Rattle.entry_law.proofs.Below.event_law.Results.{both_give, weaker}
+use Rattle.entry_law.specs.Below.still_law.Shows.{Counts}
+use Rattle.entry_law.proofs.Below.still_law.Alike.{mutex_same, all_seen}
+use Rattle.entry_law.proofs.Below.still_law.Counting.{no_stray}
+use Rattle.entry_law.proofs.Below.still_law.Once.{shown_once}
+use Rattle.entry_law.proofs.Below.still_law.Sites.{AlikeBy, leads_by}
+use Rattle.entry_law.proofs.Below.still_law.StillKinds.{IsStill, server_still}
+use Rattle.entry_law.specs.Below.word_law.Unmoved.{LeavesWords}
+use Rattle.fresh_law.proofs.Below.carry_law.Leaving.{moves_leave}
 use Rattle.entry_law.specs.Entries.{LeadsOn}
 use Rattle.entry_law.proofs.After.{Keeps}
 use Rattle.entry_law.proofs.Applied.{Led, Afterwards, applied_by}

@@ -1,15 +1,15 @@
 -- A legal journal goes on with the legal entry of an event.
 use Rattle.std.proofs.Common.{◌≡◌, List, [], ◌∷◌, ◌++◌, Some, refl, ap, ◌∙◌}
-use Rattle.journal.specs.View.{EntryView}
-use Rattle.server_model.specs.declared.event.Event.{Event}
-use Rattle.server_model.specs.Servers.{Cluster, server_at}
-use Rattle.server_model.specs.Clusters.{done_at, apply}
-use Rattle.coloured_heap.specs.Heap.{start}
-use Rattle.coloured_heap.specs.Legal.{onward, journal_from, journal_after}
-use Rattle.coloured_heap.proofs.Journals.{goes_on}
-use Rattle.heap_law.specs.LeftBy.{LeavesColoured}
-use Rattle.event_law.specs.Laws.{Gives}
-use Rattle.event_law.proofs.Results.{then_gives, map_gives, both_give}
+use Rattle.entry_law.specs.Below.journal.View.{EntryView}
+use Rattle.entry_law.specs.Below.server_model.declared.event.Event.{Event}
+use Rattle.entry_law.specs.Below.server_model.Servers.{Cluster, server_at}
+use Rattle.entry_law.specs.Below.server_model.Clusters.{done_at, apply}
+use Rattle.entry_law.specs.Below.coloured_heap.Heap.{start}
+use Rattle.entry_law.specs.Below.coloured_heap.Legal.{onward, journal_from, journal_after}
+use Rattle.entry_law.proofs.Below.coloured_heap.Journals.{goes_on}
+use Rattle.entry_law.specs.Below.heap_law.LeftBy.{LeavesColoured}
+use Rattle.entry_law.specs.Below.event_law.Laws.{Gives}
+use Rattle.entry_law.proofs.Below.event_law.Results.{then_gives, map_gives, both_give}
 use Rattle.entry_law.specs.Entries.{LeadsOn}
 use Rattle.serve_law.specs.Served.{LegalEntryContinues}
 

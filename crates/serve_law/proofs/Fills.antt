@@ -1,54 +1,54 @@
 -- A served copy comes: it is under its word in the cache, in place of the same one, and no longer on its way.
 use Rattle.std.proofs.Common.{◌≡◌, ℕ, ◌+◌, ◌-◌, ◌≤◌, ◌==◌, ◌&&◌, not, Bool, true, false, if◌then◌else◌, List, [], ◌∷◌, ◌++◌, Option, Some, None, is_some, option_map, refl, sym, ap, ap₂, subst, ◌∙◌, arith, append-nil}
 use Rattle.std.specs.Prelude.{slice_get}
-use Rattle.fr_base.specs.Lists.{is_in}
-use Rattle.fr_base.specs.declared.name.ObjNo.{ObjNo}
-use Rattle.fr_base.specs.declared.label.Plain.{Plain}
-use Rattle.heap_partition.specs.Plain.{plain_of}
-use Rattle.heap_partition.specs.Same.{same_cell}
-use Rattle.heap_partition.specs.declared.value.Cell.{Cell}
-use Rattle.read_cache.specs.Cache.{Copy, copy_of as cached_of, can_fill, fill, can_pin, pin, users, with_users}
-use Rattle.thread_state.specs.View.{ThreadState, is_over}
-use Rattle.thread_state.specs.declared.phase.Phase.{Phase}
-use Rattle.thread_state.specs.declared.phase.Phase.TheVariants as phase
-use Rattle.server_msgs.specs.declared.message.Message.{Message}
-use Rattle.server_msgs.specs.declared.message.Message.TheVariants as message
-use Rattle.journal.specs.declared.act.Act.TheVariants as act
-use Rattle.server_model.specs.Servers.{Server, Cluster, server_at}
-use Rattle.server_model.specs.Work.{Work, Hand, Site, note, with_cache, with_phase, working, thread_in, set_thread, put_back, then_some, used_once}
-use Rattle.server_model.specs.Events.{received, deliver_message}
-use Rattle.server_model.specs.Objects.{filled, waits_for_cell, deliver_fetched}
-use Rattle.coloured_heap.specs.Heap.{Place, Living, Copied, Running, Coloured, is_under, is_copy}
-use Rattle.coloured_heap.proofs.Times.{both, number_is}
-use Rattle.heap_law.specs.Names.{tot, one, other, some, if_so, same_object, Among}
-use Rattle.heap_law.specs.Things.{Thing, lies, flies, copied, sent, stands, things_at, copy_things, message_things, things_of}
-use Rattle.heap_law.specs.Follow.{cells_in}
-use Rattle.heap_law.specs.Sight.{is_word, sight, word}
-use Rattle.heap_law.specs.Weights.{cells, is_thread}
-use Rattle.heap_law.specs.Placing.{other_cell, clean_cell, other_copy, unclean}
-use Rattle.heap_law.specs.Naming.{started_at, made_at}
-use Rattle.heap_law.specs.OneHeap.{first_shown}
-use Rattle.heap_law.specs.Words.{HasWords}
-use Rattle.heap_law.specs.Colours.{StandsColoured, same_copied, living_of, copy_of, served_of}
-use Rattle.heap_law.specs.Coherent.{IsSound}
-use Rattle.heap_law.proofs.Sums.{server_parts}
-use Rattle.heap_law.proofs.Words.{none_at, none_all}
-use Rattle.type_law.specs.ClusterTypes.{IsCoherent}
-use Rattle.event_law.specs.Laws.{Gives}
-use Rattle.event_law.proofs.Askers.{other_none}
-use Rattle.event_law.proofs.Bags.{of_cache}
-use Rattle.event_law.proofs.Copies.{all_copied, new_copy, copy_word, copy_goes, copy_comes}
-use Rattle.event_law.proofs.Results.{over_gives, test_gives}
-use Rattle.event_law.proofs.Trades.{trade_whole}
-use Rattle.still_law.proofs.Tests.{numbers, objects}
-use Rattle.still_law.proofs.Told.{told, ones}
-use Rattle.word_law.proofs.Standing.{CellOf, lying, flying}
-use Rattle.result_law.proofs.Flights.{weighs, has_weight}
-use Rattle.result_law.proofs.Pointing.{same_cells}
-use Rattle.local_law.proofs.Messages.{on_sent}
-use Rattle.copy_law.proofs.Clean.{FoundBy, found_by, cell_thing, told as word_of}
-use Rattle.clean_law.proofs.Asked.{asking}
-use Rattle.clean_law.proofs.Worded.{clean_told}
+use Rattle.entry_law.specs.Below.fr_base.Lists.{is_in}
+use Rattle.entry_law.specs.Below.fr_base.declared.name.ObjNo.{ObjNo}
+use Rattle.entry_law.specs.Below.fr_base.declared.label.Plain.{Plain}
+use Rattle.entry_law.specs.Below.heap_partition.Plain.{plain_of}
+use Rattle.entry_law.specs.Below.heap_partition.Same.{same_cell}
+use Rattle.entry_law.specs.Below.heap_partition.declared.value.Cell.{Cell}
+use Rattle.entry_law.specs.Below.read_cache.Cache.{Copy, copy_of as cached_of, can_fill, fill, can_pin, pin, users, with_users}
+use Rattle.entry_law.specs.Below.thread_state.View.{ThreadState, is_over}
+use Rattle.entry_law.specs.Below.thread_state.declared.phase.Phase.{Phase}
+use Rattle.entry_law.specs.Below.thread_state.declared.phase.Phase.TheVariants as phase
+use Rattle.entry_law.specs.Below.server_msgs.declared.message.Message.{Message}
+use Rattle.entry_law.specs.Below.server_msgs.declared.message.Message.TheVariants as message
+use Rattle.entry_law.specs.Below.journal.declared.act.Act.TheVariants as act
+use Rattle.entry_law.specs.Below.server_model.Servers.{Server, Cluster, server_at}
+use Rattle.entry_law.specs.Below.server_model.Work.{Work, Hand, Site, note, with_cache, with_phase, working, thread_in, set_thread, put_back, then_some, used_once}
+use Rattle.entry_law.specs.Below.server_model.Events.{received, deliver_message}
+use Rattle.entry_law.specs.Below.server_model.Objects.{filled, waits_for_cell, deliver_fetched}
+use Rattle.entry_law.specs.Below.coloured_heap.Heap.{Place, Living, Copied, Running, Coloured, is_under, is_copy}
+use Rattle.entry_law.proofs.Below.coloured_heap.Times.{both, number_is}
+use Rattle.entry_law.specs.Below.heap_law.Names.{tot, one, other, some, if_so, same_object, Among}
+use Rattle.entry_law.specs.Below.heap_law.Things.{Thing, lies, flies, copied, sent, stands, things_at, copy_things, message_things, things_of}
+use Rattle.entry_law.specs.Below.heap_law.Follow.{cells_in}
+use Rattle.entry_law.specs.Below.heap_law.Sight.{is_word, sight, word}
+use Rattle.entry_law.specs.Below.heap_law.Weights.{cells, is_thread}
+use Rattle.entry_law.specs.Below.heap_law.Placing.{other_cell, clean_cell, other_copy, unclean}
+use Rattle.entry_law.specs.Below.heap_law.Naming.{started_at, made_at}
+use Rattle.entry_law.specs.Below.heap_law.OneHeap.{first_shown}
+use Rattle.entry_law.specs.Below.heap_law.Words.{HasWords}
+use Rattle.entry_law.specs.Below.heap_law.Colours.{StandsColoured, same_copied, living_of, copy_of, served_of}
+use Rattle.entry_law.specs.Below.heap_law.Coherent.{IsSound}
+use Rattle.entry_law.proofs.Below.heap_law.Sums.{server_parts}
+use Rattle.entry_law.proofs.Below.heap_law.Words.{none_at, none_all}
+use Rattle.fresh_law.specs.Below.type_law.ClusterTypes.{IsCoherent}
+use Rattle.entry_law.specs.Below.event_law.Laws.{Gives}
+use Rattle.entry_law.proofs.Below.event_law.Askers.{other_none}
+use Rattle.entry_law.proofs.Below.event_law.Bags.{of_cache}
+use Rattle.entry_law.proofs.Below.event_law.Copies.{all_copied, new_copy, copy_word, copy_goes, copy_comes}
+use Rattle.entry_law.proofs.Below.event_law.Results.{over_gives, test_gives}
+use Rattle.entry_law.proofs.Below.event_law.Trades.{trade_whole}
+use Rattle.entry_law.proofs.Below.still_law.Tests.{numbers, objects}
+use Rattle.entry_law.proofs.Below.still_law.Told.{told, ones}
+use Rattle.entry_law.proofs.Below.word_law.Standing.{CellOf, lying, flying}
+use Rattle.fresh_law.proofs.Below.result_law.Flights.{weighs, has_weight}
+use Rattle.fresh_law.proofs.Below.result_law.Pointing.{same_cells}
+use Rattle.fresh_law.proofs.Below.local_law.Messages.{on_sent}
+use Rattle.fresh_law.proofs.Below.copy_law.Clean.{FoundBy, found_by, cell_thing, told as word_of}
+use Rattle.fresh_law.proofs.Below.clean_law.Asked.{asking}
+use Rattle.fresh_law.proofs.Below.clean_law.Worded.{clean_told}
 use Rattle.entry_law.proofs.Answers.{answers_of, fits}
 use Rattle.entry_law.proofs.Weighed.{Seen, WorkTurns, thread_turns}
 use Rattle.entry_law.proofs.Shown.{if_some, placed_in, dropped_by, as_living, living_is, copy_in, copies_test, served_in, wished_in, runs, there_in, holder_by}

@@ -2,48 +2,48 @@
 use Rattle.std.proofs.Common.{◌≡◌, ℕ, ◌+◌, ◌==◌, ◌&&◌, Bool, true, false, nat_lt, if◌then◌else◌, List, [], ◌∷◌, length, Option, Some, None, is_some, option_map, refl, sym, ap, ap₂, subst, ◌∙◌, arith, append-nil}
 use Rattle.std.proofs.lemmas.Bool.Decides.{nat_tests}
 use Rattle.std.specs.Prelude.{nat_le, slice_get}
-use Rattle.fr_base.specs.declared.name.ObjNo.{ObjNo}
-use Rattle.fr_base.specs.declared.label.Plain.{Plain}
-use Rattle.global_addr.specs.Words.{colour_of, server_of, address_of}
-use Rattle.heap_partition.specs.Plain.{plain_of}
-use Rattle.heap_partition.specs.declared.value.Cell.{Cell}
-use Rattle.owner_box.specs.View.{PartitionState}
-use Rattle.owner_box.specs.Partition.{freed, cell_of}
-use Rattle.server_msgs.specs.declared.message.Message.TheVariants as message
-use Rattle.journal.specs.declared.act.Act.TheVariants as act
-use Rattle.server_model.specs.Servers.{Server, Cluster, server_at}
-use Rattle.server_model.specs.Work.{Work, Site, note, send, with_partition, leads_here, look, look_object}
-use Rattle.server_model.specs.Events.{received, deliver_message}
-use Rattle.server_model.specs.Objects.{deliver_move}
-use Rattle.coloured_heap.specs.Heap.{Place, Lies, Flies, Living, Wish, ForObject, Coloured, same_wish, is_object}
-use Rattle.coloured_heap.proofs.ShownNames.{object_flip}
-use Rattle.heap_law.specs.Names.{tot, one, some, same_object}
-use Rattle.heap_law.specs.Things.{Thing, lies, flies, sent, vacant, retired, is_free, message_things, things_of}
-use Rattle.heap_law.specs.Sight.{is_word, colour_up_to, is_spot, sight, word, issued}
-use Rattle.heap_law.specs.Weights.{is_thread, lies_under}
-use Rattle.heap_law.specs.Placing.{sum_over}
-use Rattle.heap_law.specs.Walking.{sum_threads}
-use Rattle.heap_law.specs.Naming.{started_at, made_at, servers_wrong, pinned_parcel}
-use Rattle.heap_law.specs.Requests.{not_under, not_there}
-use Rattle.heap_law.specs.OneHeap.{first_shown}
-use Rattle.heap_law.specs.Words.{HasWords}
-use Rattle.heap_law.specs.Colours.{StandsColoured, living_of}
-use Rattle.heap_law.specs.Coherent.{IsSound}
-use Rattle.heap_law.proofs.Names.{and_left, and_right}
-use Rattle.type_law.specs.ClusterTypes.{IsCoherent}
-use Rattle.event_law.specs.Laws.{Gives}
-use Rattle.event_law.proofs.Askers.{other_none}
-use Rattle.event_law.proofs.Bags.{of_partition}
-use Rattle.event_law.proofs.Cells.{left_by, looked, frees}
-use Rattle.event_law.proofs.ObjectMessages.{looked_object}
-use Rattle.event_law.proofs.Results.{over_gives, map_gives}
-use Rattle.still_law.proofs.Addresses.{in_place, lies_alone}
-use Rattle.still_law.proofs.Leaving.{others, placed_here}
-use Rattle.still_law.proofs.Tests.{numbers, objects}
-use Rattle.still_law.proofs.Told.{told}
-use Rattle.word_law.specs.Unmoved.{WordsStay}
-use Rattle.copy_law.proofs.Clean.{told as word_of}
-use Rattle.value_law.proofs.Named.{placed as placed_parts}
+use Rattle.entry_law.specs.Below.fr_base.declared.name.ObjNo.{ObjNo}
+use Rattle.entry_law.specs.Below.fr_base.declared.label.Plain.{Plain}
+use Rattle.entry_law.specs.Below.global_addr.Words.{colour_of, server_of, address_of}
+use Rattle.entry_law.specs.Below.heap_partition.Plain.{plain_of}
+use Rattle.entry_law.specs.Below.heap_partition.declared.value.Cell.{Cell}
+use Rattle.entry_law.specs.Below.owner_box.View.{PartitionState}
+use Rattle.entry_law.specs.Below.owner_box.Partition.{freed, cell_of}
+use Rattle.entry_law.specs.Below.server_msgs.declared.message.Message.TheVariants as message
+use Rattle.entry_law.specs.Below.journal.declared.act.Act.TheVariants as act
+use Rattle.entry_law.specs.Below.server_model.Servers.{Server, Cluster, server_at}
+use Rattle.entry_law.specs.Below.server_model.Work.{Work, Site, note, send, with_partition, leads_here, look, look_object}
+use Rattle.entry_law.specs.Below.server_model.Events.{received, deliver_message}
+use Rattle.entry_law.specs.Below.server_model.Objects.{deliver_move}
+use Rattle.entry_law.specs.Below.coloured_heap.Heap.{Place, Lies, Flies, Living, Wish, ForObject, Coloured, same_wish, is_object}
+use Rattle.entry_law.proofs.Below.coloured_heap.ShownNames.{object_flip}
+use Rattle.entry_law.specs.Below.heap_law.Names.{tot, one, some, same_object}
+use Rattle.entry_law.specs.Below.heap_law.Things.{Thing, lies, flies, sent, vacant, retired, is_free, message_things, things_of}
+use Rattle.entry_law.specs.Below.heap_law.Sight.{is_word, colour_up_to, is_spot, sight, word, issued}
+use Rattle.entry_law.specs.Below.heap_law.Weights.{is_thread, lies_under}
+use Rattle.entry_law.specs.Below.heap_law.Placing.{sum_over}
+use Rattle.entry_law.specs.Below.heap_law.Walking.{sum_threads}
+use Rattle.entry_law.specs.Below.heap_law.Naming.{started_at, made_at, servers_wrong, pinned_parcel}
+use Rattle.entry_law.specs.Below.heap_law.Requests.{not_under, not_there}
+use Rattle.entry_law.specs.Below.heap_law.OneHeap.{first_shown}
+use Rattle.entry_law.specs.Below.heap_law.Words.{HasWords}
+use Rattle.entry_law.specs.Below.heap_law.Colours.{StandsColoured, living_of}
+use Rattle.entry_law.specs.Below.heap_law.Coherent.{IsSound}
+use Rattle.entry_law.proofs.Below.heap_law.Names.{and_left, and_right}
+use Rattle.fresh_law.specs.Below.type_law.ClusterTypes.{IsCoherent}
+use Rattle.entry_law.specs.Below.event_law.Laws.{Gives}
+use Rattle.entry_law.proofs.Below.event_law.Askers.{other_none}
+use Rattle.entry_law.proofs.Below.event_law.Bags.{of_partition}
+use Rattle.entry_law.proofs.Below.event_law.Cells.{left_by, looked, frees}
+use Rattle.entry_law.proofs.Below.event_law.ObjectMessages.{looked_object}
+use Rattle.entry_law.proofs.Below.event_law.Results.{over_gives, map_gives}
+use Rattle.entry_law.proofs.Below.still_law.Addresses.{in_place, lies_alone}
+use Rattle.entry_law.proofs.Below.still_law.Leaving.{others, placed_here}
+use Rattle.entry_law.proofs.Below.still_law.Tests.{numbers, objects}
+use Rattle.entry_law.proofs.Below.still_law.Told.{told}
+use Rattle.entry_law.specs.Below.word_law.Unmoved.{WordsStay}
+use Rattle.fresh_law.proofs.Below.copy_law.Clean.{told as word_of}
+use Rattle.fresh_law.proofs.Below.value_law.Named.{placed as placed_parts}
 use Rattle.entry_law.proofs.Answers.{answers_of, fits}
 use Rattle.entry_law.proofs.Weighed.{WorkTurns, beside, sends}
 use Rattle.entry_law.proofs.Shown.{if_some, placed_in, dropped_by, as_living, living_is, copy_in, served_in, wished_in, runs, there_in, holder_by}

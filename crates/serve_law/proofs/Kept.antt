@@ -1,28 +1,28 @@
 -- An object of which a copy was asked for isn't given up: no `drop` message names it, as no place leads to such an object.
 use Rattle.std.proofs.Common.{◌≡◌, ℕ, zero, suc, ◌≤◌, ◌==◌, Some, refl, subst, arith}
-use Rattle.fr_base.specs.declared.name.ObjNo.{ObjNo}
-use Rattle.heap_partition.specs.declared.value.Cell.{Cell}
-use Rattle.server_msgs.specs.declared.message.Message.{Message}
-use Rattle.server_msgs.specs.declared.message.Message.TheVariants as message
-use Rattle.server_model.specs.Servers.{Cluster}
-use Rattle.heap_law.specs.Names.{tot, one, same_object, Among}
-use Rattle.heap_law.specs.Things.{in_cell, Thing, lies, flies, sent, things_of}
-use Rattle.heap_law.specs.Follow.{cells_in, value_in, leads}
-use Rattle.heap_law.specs.Sight.{sight}
-use Rattle.heap_law.specs.Weights.{cells, drops}
-use Rattle.heap_law.specs.Words.{HasWords}
-use Rattle.heap_law.proofs.Words.{named}
-use Rattle.type_law.specs.ClusterTypes.{IsCoherent}
-use Rattle.path_law.specs.HeapStore.{HasPaths}
-use Rattle.path_law.proofs.Alike.{coherent_has_paths}
-use Rattle.read_law.proofs.Flights.{truly}
-use Rattle.word_law.proofs.Standing.{lying, flying}
-use Rattle.result_law.proofs.Flights.{weighs}
-use Rattle.local_law.proofs.Messages.{on_sent}
-use Rattle.copy_law.proofs.Clean.{thing_cell}
-use Rattle.clean_law.proofs.Asked.{asking}
-use Rattle.free_law.proofs.Lists.{NoneLeads}
-use Rattle.free_law.proofs.Unled.{none_leads}
+use Rattle.entry_law.specs.Below.fr_base.declared.name.ObjNo.{ObjNo}
+use Rattle.entry_law.specs.Below.heap_partition.declared.value.Cell.{Cell}
+use Rattle.entry_law.specs.Below.server_msgs.declared.message.Message.{Message}
+use Rattle.entry_law.specs.Below.server_msgs.declared.message.Message.TheVariants as message
+use Rattle.entry_law.specs.Below.server_model.Servers.{Cluster}
+use Rattle.entry_law.specs.Below.heap_law.Names.{tot, one, same_object, Among}
+use Rattle.entry_law.specs.Below.heap_law.Things.{in_cell, Thing, lies, flies, sent, things_of}
+use Rattle.entry_law.specs.Below.heap_law.Follow.{cells_in, value_in, leads}
+use Rattle.entry_law.specs.Below.heap_law.Sight.{sight}
+use Rattle.entry_law.specs.Below.heap_law.Weights.{cells, drops}
+use Rattle.entry_law.specs.Below.heap_law.Words.{HasWords}
+use Rattle.entry_law.proofs.Below.heap_law.Words.{named}
+use Rattle.fresh_law.specs.Below.type_law.ClusterTypes.{IsCoherent}
+use Rattle.fresh_law.specs.Below.path_law.HeapStore.{HasPaths}
+use Rattle.fresh_law.proofs.Below.path_law.Alike.{coherent_has_paths}
+use Rattle.entry_law.proofs.Below.read_law.Flights.{truly}
+use Rattle.entry_law.proofs.Below.word_law.Standing.{lying, flying}
+use Rattle.fresh_law.proofs.Below.result_law.Flights.{weighs}
+use Rattle.fresh_law.proofs.Below.local_law.Messages.{on_sent}
+use Rattle.fresh_law.proofs.Below.copy_law.Clean.{thing_cell}
+use Rattle.fresh_law.proofs.Below.clean_law.Asked.{asking}
+use Rattle.fresh_law.proofs.Below.free_law.Lists.{NoneLeads}
+use Rattle.fresh_law.proofs.Below.free_law.Unled.{none_leads}
 use Rattle.fresh_law.proofs.Turned.{Unasked}
 use Rattle.fresh_law.proofs.Askers.{ReadsUnder, unasked_by, reads_to}
 use Rattle.entry_law.proofs.Shown.{dropped_by}

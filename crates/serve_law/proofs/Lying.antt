@@ -1,32 +1,32 @@
 -- What the coloured heap has of an object that lies at a server under its word.
 use Rattle.std.proofs.Common.{◌≡◌, ℕ, ◌+◌, ◌≤◌, Bool, true, false, List, [], ◌∷◌, Option, Some, None, option_map, refl, sym, ap, ap₂, ◌∙◌, arith}
 use Rattle.std.specs.Prelude.{slice_set}
-use Rattle.fr_base.specs.declared.name.ObjNo.{ObjNo}
-use Rattle.fr_base.specs.declared.label.Plain.{Plain}
-use Rattle.global_addr.specs.Words.{address_of}
-use Rattle.heap_partition.specs.Plain.{plain_of}
-use Rattle.heap_partition.specs.declared.value.Cell.{Cell}
-use Rattle.owner_box.specs.View.{PartitionState}
-use Rattle.server_model.specs.Servers.{Server, Cluster, server_at}
-use Rattle.server_model.specs.Work.{look, look_object}
-use Rattle.server_msgs.specs.declared.message.Message.{Message}
-use Rattle.server_msgs.specs.declared.message.Message.TheVariants as message
-use Rattle.coloured_heap.specs.Heap.{Place, Lies, Flies}
-use Rattle.heap_law.specs.Names.{tot, one, other, some, same_object}
-use Rattle.heap_law.specs.Things.{Thing, lies, flies, sent, things_at, cell_things, free_things, message_things, things_of}
-use Rattle.heap_law.specs.Sight.{is_word, sight, word}
-use Rattle.heap_law.specs.Weights.{cells}
-use Rattle.heap_law.specs.OneHeap.{or_else, first_shown}
-use Rattle.heap_law.specs.Colours.{living_of}
-use Rattle.heap_law.specs.Coherent.{IsSound}
-use Rattle.heap_law.proofs.Words.{itself}
-use Rattle.heap_law.proofs.Sums.{server_parts}
-use Rattle.event_law.proofs.Askers.{other_none}
-use Rattle.event_law.proofs.Trades.{tot-append}
-use Rattle.event_law.proofs.Cells.{looked, vacates}
-use Rattle.event_law.proofs.ObjectMessages.{looked_object}
-use Rattle.still_law.proofs.Tests.{IsTest, numbers}
-use Rattle.still_law.proofs.Told.{told, ones, first_told}
+use Rattle.entry_law.specs.Below.fr_base.declared.name.ObjNo.{ObjNo}
+use Rattle.entry_law.specs.Below.fr_base.declared.label.Plain.{Plain}
+use Rattle.entry_law.specs.Below.global_addr.Words.{address_of}
+use Rattle.entry_law.specs.Below.heap_partition.Plain.{plain_of}
+use Rattle.entry_law.specs.Below.heap_partition.declared.value.Cell.{Cell}
+use Rattle.entry_law.specs.Below.owner_box.View.{PartitionState}
+use Rattle.entry_law.specs.Below.server_model.Servers.{Server, Cluster, server_at}
+use Rattle.entry_law.specs.Below.server_model.Work.{look, look_object}
+use Rattle.entry_law.specs.Below.server_msgs.declared.message.Message.{Message}
+use Rattle.entry_law.specs.Below.server_msgs.declared.message.Message.TheVariants as message
+use Rattle.entry_law.specs.Below.coloured_heap.Heap.{Place, Lies, Flies}
+use Rattle.entry_law.specs.Below.heap_law.Names.{tot, one, other, some, same_object}
+use Rattle.entry_law.specs.Below.heap_law.Things.{Thing, lies, flies, sent, things_at, cell_things, free_things, message_things, things_of}
+use Rattle.entry_law.specs.Below.heap_law.Sight.{is_word, sight, word}
+use Rattle.entry_law.specs.Below.heap_law.Weights.{cells}
+use Rattle.entry_law.specs.Below.heap_law.OneHeap.{or_else, first_shown}
+use Rattle.entry_law.specs.Below.heap_law.Colours.{living_of}
+use Rattle.entry_law.specs.Below.heap_law.Coherent.{IsSound}
+use Rattle.entry_law.proofs.Below.heap_law.Words.{itself}
+use Rattle.entry_law.proofs.Below.heap_law.Sums.{server_parts}
+use Rattle.entry_law.proofs.Below.event_law.Askers.{other_none}
+use Rattle.entry_law.proofs.Below.event_law.Trades.{tot-append}
+use Rattle.entry_law.proofs.Below.event_law.Cells.{looked, vacates}
+use Rattle.entry_law.proofs.Below.event_law.ObjectMessages.{looked_object}
+use Rattle.entry_law.proofs.Below.still_law.Tests.{IsTest, numbers}
+use Rattle.entry_law.proofs.Below.still_law.Told.{told, ones, first_told}
 use Rattle.entry_law.proofs.Weighed.{Bare}
 use Rattle.entry_law.proofs.Carried.{cluster_less, is_sent}
 use Rattle.entry_law.proofs.Shown.{if_some, placed_in, placings, same_placed, dropped_by, as_living, living_is}

@@ -1,21 +1,21 @@
 -- Each kind of delivery whose entries are proved to be legal here.
 use Rattle.std.proofs.Common.{◌≡◌, ℕ, Option, Some, None, option_map, refl, subst}
 use Rattle.std.specs.Prelude.{⊤, slice_get}
-use Rattle.fr_base.specs.declared.instruction.Instr.{Instr}
-use Rattle.fr_base.specs.declared.instruction.Instr.TheVariants as instr
-use Rattle.thread_state.specs.View.{ThreadState}
-use Rattle.server_msgs.specs.declared.message.Message.{Message}
-use Rattle.server_msgs.specs.declared.message.Message.TheVariants as message
-use Rattle.server_model.specs.declared.event.What.{What}
-use Rattle.server_model.specs.declared.event.What.TheVariants.{Step, Deliver, Evict, Migrate}
-use Rattle.server_model.specs.Servers.{Server, Cluster, server_at}
-use Rattle.server_model.specs.Work.{thread_in, then_some}
-use Rattle.server_model.specs.Events.{does}
-use Rattle.coloured_heap.specs.Heap.{Coloured}
-use Rattle.heap_law.specs.Colours.{StandsColoured}
-use Rattle.type_law.specs.ClusterTypes.{IsCoherent}
-use Rattle.event_law.specs.Kinds.{Kind, fetch, fetched, moving, evicts, migrates, message_kind, instr_kind, kind_at}
-use Rattle.event_law.specs.Laws.{Gives}
+use Rattle.entry_law.specs.Below.fr_base.declared.instruction.Instr.{Instr}
+use Rattle.entry_law.specs.Below.fr_base.declared.instruction.Instr.TheVariants as instr
+use Rattle.entry_law.specs.Below.thread_state.View.{ThreadState}
+use Rattle.entry_law.specs.Below.server_msgs.declared.message.Message.{Message}
+use Rattle.entry_law.specs.Below.server_msgs.declared.message.Message.TheVariants as message
+use Rattle.entry_law.specs.Below.server_model.declared.event.What.{What}
+use Rattle.entry_law.specs.Below.server_model.declared.event.What.TheVariants.{Step, Deliver, Evict, Migrate}
+use Rattle.entry_law.specs.Below.server_model.Servers.{Server, Cluster, server_at}
+use Rattle.entry_law.specs.Below.server_model.Work.{thread_in, then_some}
+use Rattle.entry_law.specs.Below.server_model.Events.{does}
+use Rattle.entry_law.specs.Below.coloured_heap.Heap.{Coloured}
+use Rattle.entry_law.specs.Below.heap_law.Colours.{StandsColoured}
+use Rattle.fresh_law.specs.Below.type_law.ClusterTypes.{IsCoherent}
+use Rattle.entry_law.specs.Below.event_law.Kinds.{Kind, fetch, fetched, moving, evicts, migrates, message_kind, instr_kind, kind_at}
+use Rattle.entry_law.specs.Below.event_law.Laws.{Gives}
 use Rattle.entry_law.proofs.Applied.{Led, delivered, keeps_by}
 use Rattle.serve_law.specs.Served.{CoherentEntriesLegal}
 use Rattle.serve_law.proofs.CoherentLegal.{KindKeeps, coherent_legal, moves_keep}

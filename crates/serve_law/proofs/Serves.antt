@@ -1,35 +1,35 @@
 -- A copy is served: its wish goes, and it is on its way with the object's present value.
 use Rattle.std.proofs.Common.{◌≡◌, ℕ, ◌+◌, ◌==◌, true, false, List, [], ◌∷◌, Some, None, refl, sym, ap, subst, ◌∙◌, arith}
 use Rattle.std.specs.Prelude.{slice_get}
-use Rattle.fr_base.specs.declared.name.ObjNo.{ObjNo}
-use Rattle.heap_partition.specs.Plain.{plain_of}
-use Rattle.heap_partition.specs.declared.value.Cell.{Cell}
-use Rattle.server_msgs.specs.declared.message.Message.TheVariants as message
-use Rattle.journal.specs.declared.act.Act.TheVariants as act
-use Rattle.server_model.specs.Servers.{Server, Cluster, server_at}
-use Rattle.server_model.specs.Work.{Work, Site, note, send, look_object}
-use Rattle.server_model.specs.Events.{received, deliver_message}
-use Rattle.server_model.specs.Objects.{deliver_fetch}
-use Rattle.coloured_heap.specs.Heap.{Lies, Living, Copied, Wish, ForCopy, Coloured, same_wish}
-use Rattle.heap_law.specs.Names.{tot, one, some}
-use Rattle.heap_law.specs.Things.{Thing, sent, message_things, things_of}
-use Rattle.heap_law.specs.Sight.{is_word, sight, word}
-use Rattle.heap_law.specs.Weights.{lies_under}
-use Rattle.heap_law.specs.Placing.{sum_over}
-use Rattle.heap_law.specs.Requests.{not_under, not_there}
-use Rattle.heap_law.specs.Words.{HasWords}
-use Rattle.heap_law.specs.Colours.{StandsColoured, same_copied, served_of}
-use Rattle.heap_law.specs.Coherent.{IsSound}
-use Rattle.heap_law.proofs.Names.{and_left}
-use Rattle.heap_law.proofs.Words.{named as object_named}
-use Rattle.type_law.specs.ClusterTypes.{IsCoherent}
-use Rattle.event_law.specs.Laws.{Gives}
-use Rattle.event_law.proofs.Askers.{other_none}
-use Rattle.event_law.proofs.Results.{over_gives, map_gives}
-use Rattle.still_law.proofs.Tests.{numbers}
-use Rattle.local_law.proofs.Messages.{on_sent}
-use Rattle.copy_law.proofs.Clean.{told as word_of}
-use Rattle.clean_law.proofs.Asked.{asking}
+use Rattle.entry_law.specs.Below.fr_base.declared.name.ObjNo.{ObjNo}
+use Rattle.entry_law.specs.Below.heap_partition.Plain.{plain_of}
+use Rattle.entry_law.specs.Below.heap_partition.declared.value.Cell.{Cell}
+use Rattle.entry_law.specs.Below.server_msgs.declared.message.Message.TheVariants as message
+use Rattle.entry_law.specs.Below.journal.declared.act.Act.TheVariants as act
+use Rattle.entry_law.specs.Below.server_model.Servers.{Server, Cluster, server_at}
+use Rattle.entry_law.specs.Below.server_model.Work.{Work, Site, note, send, look_object}
+use Rattle.entry_law.specs.Below.server_model.Events.{received, deliver_message}
+use Rattle.entry_law.specs.Below.server_model.Objects.{deliver_fetch}
+use Rattle.entry_law.specs.Below.coloured_heap.Heap.{Lies, Living, Copied, Wish, ForCopy, Coloured, same_wish}
+use Rattle.entry_law.specs.Below.heap_law.Names.{tot, one, some}
+use Rattle.entry_law.specs.Below.heap_law.Things.{Thing, sent, message_things, things_of}
+use Rattle.entry_law.specs.Below.heap_law.Sight.{is_word, sight, word}
+use Rattle.entry_law.specs.Below.heap_law.Weights.{lies_under}
+use Rattle.entry_law.specs.Below.heap_law.Placing.{sum_over}
+use Rattle.entry_law.specs.Below.heap_law.Requests.{not_under, not_there}
+use Rattle.entry_law.specs.Below.heap_law.Words.{HasWords}
+use Rattle.entry_law.specs.Below.heap_law.Colours.{StandsColoured, same_copied, served_of}
+use Rattle.entry_law.specs.Below.heap_law.Coherent.{IsSound}
+use Rattle.entry_law.proofs.Below.heap_law.Names.{and_left}
+use Rattle.entry_law.proofs.Below.heap_law.Words.{named as object_named}
+use Rattle.fresh_law.specs.Below.type_law.ClusterTypes.{IsCoherent}
+use Rattle.entry_law.specs.Below.event_law.Laws.{Gives}
+use Rattle.entry_law.proofs.Below.event_law.Askers.{other_none}
+use Rattle.entry_law.proofs.Below.event_law.Results.{over_gives, map_gives}
+use Rattle.entry_law.proofs.Below.still_law.Tests.{numbers}
+use Rattle.fresh_law.proofs.Below.local_law.Messages.{on_sent}
+use Rattle.fresh_law.proofs.Below.copy_law.Clean.{told as word_of}
+use Rattle.fresh_law.proofs.Below.clean_law.Asked.{asking}
 use Rattle.entry_law.proofs.Answers.{answers_of, fits}
 use Rattle.entry_law.proofs.Weighed.{beside, sends}
 use Rattle.entry_law.proofs.Shown.{dropped_by, wished_in}

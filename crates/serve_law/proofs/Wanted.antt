@@ -1,41 +1,41 @@
 -- An object that a thread asks for isn't given up: the thread's place leads to it.
 use Rattle.std.proofs.Common.{◌≡◌, ℕ, ◌≤◌, ◌==◌, ◌&&◌, true, Option, Some, None, refl, sym, ap, ap₂, subst, ◌∙◌, arith}
-use Rattle.fr_base.specs.declared.name.ObjNo.{ObjNo}
-use Rattle.heap_partition.specs.declared.value.BoxPtr.{BoxPtr}
-use Rattle.heap_partition.specs.declared.value.Owned.TheVariants as owned
-use Rattle.thread_state.specs.View.{is_over}
-use Rattle.thread_state.specs.declared.value.Value.{Value}
-use Rattle.thread_state.specs.declared.value.Value.TheVariants as value
-use Rattle.thread_state.specs.declared.phase.Phase.TheVariants as phase
-use Rattle.server_msgs.specs.declared.message.Message.{Message}
-use Rattle.server_msgs.specs.declared.message.Message.TheVariants as message
-use Rattle.server_model.specs.Servers.{Cluster}
-use Rattle.server_model.specs.Places.{pointer_of}
-use Rattle.heap_law.specs.Names.{tot, one, other, same_object, Among}
-use Rattle.heap_law.specs.Things.{Location, in_cell, Thing, sent, things_of}
-use Rattle.heap_law.specs.Follow.{Standing, thread_at, value_in, leads}
-use Rattle.heap_law.specs.Sight.{sight}
-use Rattle.heap_law.specs.Paths.{Path, reads, shares, lends, Awaited}
-use Rattle.heap_law.specs.Walking.{path, asks_for, asked_for}
-use Rattle.heap_law.specs.Requests.{is_cell, in_phase, carries}
-use Rattle.heap_law.specs.Turn.{AwaitsAt, read_at, before_share, at_share, before_lend, at_lend, InTurn, by_read, by_share, by_lend, by_write, by_end, by_holder, WaitsFor}
-use Rattle.heap_law.specs.Coherent.{IsSound}
-use Rattle.heap_law.proofs.Names.{and_left, and_right}
-use Rattle.heap_law.proofs.Words.{none_at, named}
-use Rattle.type_law.specs.ClusterTypes.{IsCoherent}
-use Rattle.event_law.proofs.Askers.{other_none}
-use Rattle.still_law.proofs.Tests.{numbers}
-use Rattle.path_law.specs.HeapStore.{GoesOn, HasPaths}
-use Rattle.path_law.proofs.Alike.{coherent_has_paths}
-use Rattle.path_law.proofs.Contained.{among_thread}
-use Rattle.path_law.proofs.InState.{only_one}
-use Rattle.path_law.proofs.Sole.{some_is}
-use Rattle.read_law.proofs.Flights.{found, truly, whole_to, one_answer, asks_whole, same_one, one_message, is_waiting, answers_told}
-use Rattle.result_law.proofs.Flights.{weighs}
-use Rattle.end_law.proofs.Ends.{ends_at}
-use Rattle.end_law.proofs.Alone.{ended}
-use Rattle.end_law.proofs.ReadPaths.{read_pointer, write_pointer, clean_pointer}
-use Rattle.free_law.proofs.Lists.{NoneLeads}
+use Rattle.entry_law.specs.Below.fr_base.declared.name.ObjNo.{ObjNo}
+use Rattle.entry_law.specs.Below.heap_partition.declared.value.BoxPtr.{BoxPtr}
+use Rattle.entry_law.specs.Below.heap_partition.declared.value.Owned.TheVariants as owned
+use Rattle.entry_law.specs.Below.thread_state.View.{is_over}
+use Rattle.entry_law.specs.Below.thread_state.declared.value.Value.{Value}
+use Rattle.entry_law.specs.Below.thread_state.declared.value.Value.TheVariants as value
+use Rattle.entry_law.specs.Below.thread_state.declared.phase.Phase.TheVariants as phase
+use Rattle.entry_law.specs.Below.server_msgs.declared.message.Message.{Message}
+use Rattle.entry_law.specs.Below.server_msgs.declared.message.Message.TheVariants as message
+use Rattle.entry_law.specs.Below.server_model.Servers.{Cluster}
+use Rattle.entry_law.specs.Below.server_model.Places.{pointer_of}
+use Rattle.entry_law.specs.Below.heap_law.Names.{tot, one, other, same_object, Among}
+use Rattle.entry_law.specs.Below.heap_law.Things.{Location, in_cell, Thing, sent, things_of}
+use Rattle.entry_law.specs.Below.heap_law.Follow.{Standing, thread_at, value_in, leads}
+use Rattle.entry_law.specs.Below.heap_law.Sight.{sight}
+use Rattle.entry_law.specs.Below.heap_law.Paths.{Path, reads, shares, lends, Awaited}
+use Rattle.entry_law.specs.Below.heap_law.Walking.{path, asks_for, asked_for}
+use Rattle.entry_law.specs.Below.heap_law.Requests.{is_cell, in_phase, carries}
+use Rattle.entry_law.specs.Below.heap_law.Turn.{AwaitsAt, read_at, before_share, at_share, before_lend, at_lend, InTurn, by_read, by_share, by_lend, by_write, by_end, by_holder, WaitsFor}
+use Rattle.entry_law.specs.Below.heap_law.Coherent.{IsSound}
+use Rattle.entry_law.proofs.Below.heap_law.Names.{and_left, and_right}
+use Rattle.entry_law.proofs.Below.heap_law.Words.{none_at, named}
+use Rattle.fresh_law.specs.Below.type_law.ClusterTypes.{IsCoherent}
+use Rattle.entry_law.proofs.Below.event_law.Askers.{other_none}
+use Rattle.entry_law.proofs.Below.still_law.Tests.{numbers}
+use Rattle.fresh_law.specs.Below.path_law.HeapStore.{GoesOn, HasPaths}
+use Rattle.fresh_law.proofs.Below.path_law.Alike.{coherent_has_paths}
+use Rattle.fresh_law.proofs.Below.path_law.Contained.{among_thread}
+use Rattle.fresh_law.proofs.Below.path_law.InState.{only_one}
+use Rattle.fresh_law.proofs.Below.path_law.Sole.{some_is}
+use Rattle.entry_law.proofs.Below.read_law.Flights.{found, truly, whole_to, one_answer, asks_whole, same_one, one_message, is_waiting, answers_told}
+use Rattle.fresh_law.proofs.Below.result_law.Flights.{weighs}
+use Rattle.fresh_law.proofs.Below.end_law.Ends.{ends_at}
+use Rattle.fresh_law.proofs.Below.end_law.Alone.{ended}
+use Rattle.fresh_law.proofs.Below.end_law.ReadPaths.{read_pointer, write_pointer, clean_pointer}
+use Rattle.fresh_law.proofs.Below.free_law.Lists.{NoneLeads}
 use Rattle.entry_law.proofs.Shown.{dropped_by}
 use Rattle.serve_law.proofs.Kept.{led_kept}
 

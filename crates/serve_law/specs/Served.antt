@@ -1,13 +1,13 @@
 -- ENTRIES OF DELIVERIES ARE LEGAL: those for which coherence is needed, types among it (this project's).
 use Rattle.std.specs.Prelude.{◌≡◌, List, [], ◌∷◌, ◌++◌, Some}
-use Rattle.journal.specs.View.{EntryView}
-use Rattle.server_model.specs.declared.event.Event.{Event}
-use Rattle.server_model.specs.Servers.{Cluster}
-use Rattle.server_model.specs.Clusters.{apply}
-use Rattle.heap_law.specs.LeftBy.{LeavesColoured}
-use Rattle.type_law.specs.ClusterTypes.{IsCoherent}
-use Rattle.event_law.specs.Kinds.{Kind, kind_of}
-use Rattle.event_law.specs.Laws.{Gives, FewEvents}
+use Rattle.entry_law.specs.Below.journal.View.{EntryView}
+use Rattle.entry_law.specs.Below.server_model.declared.event.Event.{Event}
+use Rattle.entry_law.specs.Below.server_model.Servers.{Cluster}
+use Rattle.entry_law.specs.Below.server_model.Clusters.{apply}
+use Rattle.entry_law.specs.Below.heap_law.LeftBy.{LeavesColoured}
+use Rattle.fresh_law.specs.Below.type_law.ClusterTypes.{IsCoherent}
+use Rattle.entry_law.specs.Below.event_law.Kinds.{Kind, kind_of}
+use Rattle.entry_law.specs.Below.event_law.Laws.{Gives, FewEvents}
 use Rattle.entry_law.specs.Entries.{EntryLegal}
 
 -- each event of that kind has a legal entry, from a coherent cluster in which few events were done

@@ -1,6 +1,6 @@
 //! Laws of the entries of deliveries of objects and copies.
 
-ghost use Rattle.event_law.specs.Kinds.{fetch, fetched, moving};
+ghost use Rattle.entry_law.specs.Below.event_law.Kinds.{fetch, fetched, moving};
 ghost use Rattle.serve_law.specs.Served.{CoherentEntriesLegal, LegalEntryContinues};
 
 /// From a coherent cluster with few events the entry of an event of these kinds is legal in each coloured heap that the cluster stands for, and leads to one that it stands for

@@ -1,20 +1,20 @@
 -- What is captured leaves slots that suit what is left of the environment.
 use Rattle.std.proofs.Common.{◌≡◌, ℕ, not, Bool, true, false, List, [], ◌∷◌, ◌++◌, Option, Some, None, refl, sym, ap, subst, ◌∙◌}
 use Rattle.std.specs.Prelude.{slice_get, slice_set}
-use Rattle.fr_terms.specs.Terms.{Captured}
-use Rattle.fr_typing.specs.Kinds.{Owned, Kind, own, shared, mutable, view, whole, gone, map_some, copies}
-use Rattle.fr_typing.specs.Places.{Slot, Env, heap_type, slot_of, put_at}
-use Rattle.fr_typing.specs.Checks.{place_of}
-use Rattle.fr_typing.specs.Captures.{Capturer, by_spawn, by_par, spot_of, captured_kind, captured_slot, Captures, captures_copy, captures_move}
-use Rattle.fr_code.specs.CodeTypes.{SlotPasses, passes, SlotsPass, pass_none, pass_next}
-use Rattle.thread_state.specs.declared.value.Value.{Value}
-use Rattle.thread_state.specs.declared.value.Value.TheVariants as value
-use Rattle.server_model.specs.Start.{captured, left_after, capture_from, capture}
-use Rattle.event_law.specs.Laws.{Gives}
-use Rattle.event_law.proofs.Results.{then_gives}
+use Rattle.agree_law.specs.Below.fr_terms.Terms.{Captured}
+use Rattle.agree_law.specs.Below.fr_typing.Kinds.{Owned, Kind, own, shared, mutable, view, whole, gone, map_some, copies}
+use Rattle.agree_law.specs.Below.fr_typing.Places.{Slot, Env, heap_type, slot_of, put_at}
+use Rattle.agree_law.specs.Below.fr_typing.Checks.{place_of}
+use Rattle.agree_law.specs.Below.fr_typing.Captures.{Capturer, by_spawn, by_par, spot_of, captured_kind, captured_slot, Captures, captures_copy, captures_move}
+use Rattle.agree_law.specs.Below.fr_code.CodeTypes.{SlotPasses, passes, SlotsPass, pass_none, pass_next}
+use Rattle.agree_law.specs.Below.thread_state.declared.value.Value.{Value}
+use Rattle.agree_law.specs.Below.thread_state.declared.value.Value.TheVariants as value
+use Rattle.agree_law.specs.Below.server_model.Start.{captured, left_after, capture_from, capture}
+use Rattle.agree_law.specs.Below.event_law.Laws.{Gives}
+use Rattle.agree_law.proofs.Below.event_law.Results.{then_gives}
 use Rattle.sorts_law.proofs.Parts.{suits, put_here}
 use Rattle.sorts_law.proofs.Suited.{Suited, set_suited}
-use Rattle.fr_base.specs.declared.name.ObjNo.{ObjNo}
+use Rattle.agree_law.specs.Below.fr_base.declared.name.ObjNo.{ObjNo}
 
 module _ (sees : ObjNo → Bool) where
   -- a captured type is copied where the variable's is

@@ -4,46 +4,46 @@ use Rattle.std.specs.Bool.{⊤}
 use Rattle.std.specs.Prelude.{slice_get, option_map, ◌&&◌}
 use Rattle.std.specs.List.{list_all}
 use Rattle.std.proofs.lemmas.Bool.Decides.{nat_tests}
-use Rattle.fr_base.specs.Lists.{last_of}
-use Rattle.fr_base.specs.Rooms.{WithRoom}
-use Rattle.fr_base.specs.declared.name.MutexNo.{MutexNo}
-use Rattle.fr_base.specs.declared.place.Lval.{Lval}
-use Rattle.fr_base.specs.declared.step.Fresh.{Fresh}
-use Rattle.fr_base.specs.declared.instruction.Instr.{Instr}
-use Rattle.fr_base.specs.declared.instruction.Instr.TheVariants as instr
-use Rattle.fr_base.specs.declared.instruction.Operand.{Operand}
-use Rattle.fr_base.specs.declared.instruction.Operand.TheVariants as operand
-use Rattle.fr_terms.specs.Terms.{Text}
-use Rattle.fr_typing.specs.Kinds.{Owned as OwnedType, int, box, mutex, task, Kind, own, shared, mutable, view, Piece, whole, gone, copies}
-use Rattle.fr_typing.specs.Places.{read_blocked, Slot, Env, found, type_at, put_at, on_path, is_mutable, is_own_path, stars, alike}
-use Rattle.fr_typing.specs.Checks.{is_int, is_owned, is_kept_out, set_through, with_lock}
-use Rattle.fr_typing.specs.Captures.{by_spawn, by_par}
-use Rattle.fr_typing.proofs.PlaceLemmas.{eq_cases}
-use Rattle.fr_sound.specs.States.{env_at, owned_kind}
-use Rattle.fr_code.specs.CodeTypes.{Entry, Table, wait, Takes, takes_const, takes_unit, takes_pop, HasType, is_variable, SlotsPass, InstrTypes, i_let, i_assign, i_copy, i_move, i_borrow, i_borrow_mut, i_box, i_arith, i_print, i_discard, i_drop, i_spawn, i_join, i_mutex, i_dup, i_lock, i_unlock, i_par, i_par_end}
-use Rattle.heap_partition.specs.declared.value.Owned.{Owned}
-use Rattle.heap_partition.specs.declared.value.Owned.TheVariants as owned
-use Rattle.fr_plain.specs.Acts.{result_of}
-use Rattle.mut_borrow.specs.declared.shared.SharedRef.{SharedRef}
-use Rattle.mutex_home.specs.Mutexes.{can_make, make, next_mutex}
-use Rattle.join_home.specs.Tasks.{can_begin, can_begin_pair}
-use Rattle.thread_state.specs.declared.phase.Phase.{Phase}
-use Rattle.thread_state.specs.declared.phase.Phase.TheVariants as phase
-use Rattle.thread_state.specs.declared.value.Value.{Value}
-use Rattle.thread_state.specs.declared.value.Value.TheVariants as value
-use Rattle.journal.specs.declared.act.Act.TheVariants as act
-use Rattle.server_model.specs.Work.{Hand, Popped, pop, pop_owned, pop_int, pop_temp, pop_slot, taken_as, owned_of, int_of, task_of, then_some, working, with_mutexes, label_all, push_temp}
-use Rattle.server_model.specs.NewWords.{issue_placed}
-use Rattle.server_model.specs.Places.{Spot, in_slot, on_top, in_cell, in_copy, nowhere, cell_at, value_at, load_at, put_slot, owns_nothing, second_of}
-use Rattle.server_model.specs.Start.{next_thread, capture}
-use Rattle.server_model.specs.Commit.{next_object, push_box, Committed, done, waits, refused, done_where, go_on, goes_on, waiting, let_slot, label_dropped, replace_slot, store_labels, store_at, replace_at, assign, take_out, read, shared_from, borrow_from, mutable_from, borrow_mut_from, drop_slot, begun, spawn_with, take_gift, join, pair_begun, par_with, par_end, mutex_at, dup, push_content, lock, held_of, unlock, commit}
-use Rattle.event_law.specs.Laws.{Gives}
-use Rattle.event_law.proofs.Results.{then_gives, map_gives, over_gives, bind_gives, test_gives, weaker}
+use Rattle.agree_law.specs.Below.fr_base.Lists.{last_of}
+use Rattle.agree_law.specs.Below.fr_base.Rooms.{WithRoom}
+use Rattle.agree_law.specs.Below.fr_base.declared.name.MutexNo.{MutexNo}
+use Rattle.agree_law.specs.Below.fr_base.declared.place.Lval.{Lval}
+use Rattle.agree_law.specs.Below.fr_base.declared.step.Fresh.{Fresh}
+use Rattle.agree_law.specs.Below.fr_base.declared.instruction.Instr.{Instr}
+use Rattle.agree_law.specs.Below.fr_base.declared.instruction.Instr.TheVariants as instr
+use Rattle.agree_law.specs.Below.fr_base.declared.instruction.Operand.{Operand}
+use Rattle.agree_law.specs.Below.fr_base.declared.instruction.Operand.TheVariants as operand
+use Rattle.agree_law.specs.Below.fr_terms.Terms.{Text}
+use Rattle.agree_law.specs.Below.fr_typing.Kinds.{Owned as OwnedType, int, box, mutex, task, Kind, own, shared, mutable, view, Piece, whole, gone, copies}
+use Rattle.agree_law.specs.Below.fr_typing.Places.{read_blocked, Slot, Env, found, type_at, put_at, on_path, is_mutable, is_own_path, stars, alike}
+use Rattle.agree_law.specs.Below.fr_typing.Checks.{is_int, is_owned, is_kept_out, set_through, with_lock}
+use Rattle.agree_law.specs.Below.fr_typing.Captures.{by_spawn, by_par}
+use Rattle.agree_law.proofs.Below.fr_typing.PlaceLemmas.{eq_cases}
+use Rattle.agree_law.specs.Below.fr_sound.States.{env_at, owned_kind}
+use Rattle.agree_law.specs.Below.fr_code.CodeTypes.{Entry, Table, wait, Takes, takes_const, takes_unit, takes_pop, HasType, is_variable, SlotsPass, InstrTypes, i_let, i_assign, i_copy, i_move, i_borrow, i_borrow_mut, i_box, i_arith, i_print, i_discard, i_drop, i_spawn, i_join, i_mutex, i_dup, i_lock, i_unlock, i_par, i_par_end}
+use Rattle.agree_law.specs.Below.heap_partition.declared.value.Owned.{Owned}
+use Rattle.agree_law.specs.Below.heap_partition.declared.value.Owned.TheVariants as owned
+use Rattle.agree_law.specs.Below.fr_plain.Acts.{result_of}
+use Rattle.agree_law.specs.Below.mut_borrow.declared.shared.SharedRef.{SharedRef}
+use Rattle.agree_law.specs.Below.mutex_home.Mutexes.{can_make, make, next_mutex}
+use Rattle.agree_law.specs.Below.join_home.Tasks.{can_begin, can_begin_pair}
+use Rattle.agree_law.specs.Below.thread_state.declared.phase.Phase.{Phase}
+use Rattle.agree_law.specs.Below.thread_state.declared.phase.Phase.TheVariants as phase
+use Rattle.agree_law.specs.Below.thread_state.declared.value.Value.{Value}
+use Rattle.agree_law.specs.Below.thread_state.declared.value.Value.TheVariants as value
+use Rattle.agree_law.specs.Below.journal.declared.act.Act.TheVariants as act
+use Rattle.agree_law.specs.Below.server_model.Work.{Hand, Popped, pop, pop_owned, pop_int, pop_temp, pop_slot, taken_as, owned_of, int_of, task_of, then_some, working, with_mutexes, label_all, push_temp}
+use Rattle.agree_law.specs.Below.server_model.NewWords.{issue_placed}
+use Rattle.agree_law.specs.Below.server_model.Places.{Spot, in_slot, on_top, in_cell, in_copy, nowhere, cell_at, value_at, load_at, put_slot, owns_nothing, second_of}
+use Rattle.agree_law.specs.Below.server_model.Start.{next_thread, capture}
+use Rattle.agree_law.specs.Below.server_model.Commit.{next_object, push_box, Committed, done, waits, refused, done_where, go_on, goes_on, waiting, let_slot, label_dropped, replace_slot, store_labels, store_at, replace_at, assign, take_out, read, shared_from, borrow_from, mutable_from, borrow_mut_from, drop_slot, begun, spawn_with, take_gift, join, pair_begun, par_with, par_end, mutex_at, dup, push_content, lock, held_of, unlock, commit}
+use Rattle.agree_law.specs.Below.event_law.Laws.{Gives}
+use Rattle.agree_law.proofs.Below.event_law.Results.{then_gives, map_gives, over_gives, bind_gives, test_gives, weaker}
 use Rattle.sorts_law.proofs.Parts.{shared_any, view_seen, Look, a_nothing, another, look_of, suits, suits_named, suits_slot, suits_at, put_suits, put_here}
 use Rattle.sorts_law.proofs.Suited.{Suited, Topped, topped_last, push_suited, pop_suited, pop_length, push_length, set_other, set_suited, to_suited, push_topped, owned_topped, int_topped}
 use Rattle.sorts_law.proofs.Drops.{Fit, drops, Slots, puts_owned, puts_cell}
 use Rattle.sorts_law.proofs.Captures.{captures_fit}
-use Rattle.fr_base.specs.declared.name.ObjNo.{ObjNo}
+use Rattle.agree_law.specs.Below.fr_base.declared.name.ObjNo.{ObjNo}
 
 module _ (sees : ObjNo → Bool) where
   -- WHAT IS KNOWN BEFORE

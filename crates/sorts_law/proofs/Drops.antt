@@ -1,30 +1,30 @@
 -- What is kept of how values look where a place is made ready, where a value is dropped, and where an owned one is put.
 use Rattle.std.proofs.Common.{◌≡◌, ℕ, Bool, true, false, nat_lt, if◌then◌else◌, List, [], ◌∷◌, length, map, Option, Some, None, refl, sym, ap, ap₂, ◌∙◌}
 use Rattle.std.specs.Prelude.{slice_get}
-use Rattle.fr_base.specs.declared.label.Plain.{Plain}
-use Rattle.fr_base.specs.declared.label.Plain.TheVariants as plain
-use Rattle.fr_typing.specs.Kinds.{Kind}
-use Rattle.fr_typing.specs.Places.{Env}
-use Rattle.heap_partition.specs.declared.value.Owned.{Owned}
-use Rattle.heap_partition.specs.declared.value.Owned.TheVariants as owned
-use Rattle.owner_box.specs.Partition.{stored}
-use Rattle.read_cache.specs.Cache.{can_unpin}
-use Rattle.mut_borrow.specs.Refs.{finish_word}
-use Rattle.mut_borrow.specs.declared.shared.SharedRef.{SharedRef}
-use Rattle.mut_borrow.specs.declared.mutable.MutRef.{MutRef}
-use Rattle.thread_state.specs.View.{ThreadState}
-use Rattle.thread_state.specs.declared.value.Value.{Value}
-use Rattle.thread_state.specs.declared.value.Value.TheVariants as value
-use Rattle.server_model.specs.Work.{Hand, working, with_partition, leads_here}
-use Rattle.server_model.specs.Places.{Spot, in_slot, on_top, in_cell, in_copy, nowhere, note_slot, note_write, put_at, written}
-use Rattle.server_model.specs.Drop.{unpin_ref, finished_at, drop_value}
-use Rattle.event_law.specs.Laws.{Gives}
-use Rattle.event_law.proofs.Results.{test_gives, weaker}
-use Rattle.still_law.specs.Shows.{Frame, moved_out, owning, shared_slot, mutable_slot, shared_object, mutable_object, marking, frame_of}
-use Rattle.still_law.proofs.Readied.{Readied, Kept, set_ready}
+use Rattle.agree_law.specs.Below.fr_base.declared.label.Plain.{Plain}
+use Rattle.agree_law.specs.Below.fr_base.declared.label.Plain.TheVariants as plain
+use Rattle.agree_law.specs.Below.fr_typing.Kinds.{Kind}
+use Rattle.agree_law.specs.Below.fr_typing.Places.{Env}
+use Rattle.agree_law.specs.Below.heap_partition.declared.value.Owned.{Owned}
+use Rattle.agree_law.specs.Below.heap_partition.declared.value.Owned.TheVariants as owned
+use Rattle.agree_law.specs.Below.owner_box.Partition.{stored}
+use Rattle.agree_law.specs.Below.read_cache.Cache.{can_unpin}
+use Rattle.agree_law.specs.Below.mut_borrow.Refs.{finish_word}
+use Rattle.agree_law.specs.Below.mut_borrow.declared.shared.SharedRef.{SharedRef}
+use Rattle.agree_law.specs.Below.mut_borrow.declared.mutable.MutRef.{MutRef}
+use Rattle.agree_law.specs.Below.thread_state.View.{ThreadState}
+use Rattle.agree_law.specs.Below.thread_state.declared.value.Value.{Value}
+use Rattle.agree_law.specs.Below.thread_state.declared.value.Value.TheVariants as value
+use Rattle.agree_law.specs.Below.server_model.Work.{Hand, working, with_partition, leads_here}
+use Rattle.agree_law.specs.Below.server_model.Places.{Spot, in_slot, on_top, in_cell, in_copy, nowhere, note_slot, note_write, put_at, written}
+use Rattle.agree_law.specs.Below.server_model.Drop.{unpin_ref, finished_at, drop_value}
+use Rattle.agree_law.specs.Below.event_law.Laws.{Gives}
+use Rattle.agree_law.proofs.Below.event_law.Results.{test_gives, weaker}
+use Rattle.agree_law.specs.Below.still_law.Shows.{Frame, moved_out, owning, shared_slot, mutable_slot, shared_object, mutable_object, marking, frame_of}
+use Rattle.agree_law.proofs.Below.still_law.Readied.{Readied, Kept, set_ready}
 use Rattle.sorts_law.proofs.Parts.{Look, seen_look, a_nothing, a_slot, a_mutable, another, look_of}
 use Rattle.sorts_law.proofs.Suited.{Suited, Topped, Alike, alike_suited, alike_topped, set_other, set_alike}
-use Rattle.fr_base.specs.declared.name.ObjNo.{ObjNo}
+use Rattle.agree_law.specs.Below.fr_base.declared.name.ObjNo.{ObjNo}
 
 module _ (sees : ObjNo → Bool) where
   -- FRAMES

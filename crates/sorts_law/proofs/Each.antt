@@ -1,38 +1,38 @@
 -- Each event of a coherent cluster leaves values with the sorts that typing gives them.
 use Rattle.std.proofs.Common.{◌≡◌, ℕ, ◌+◌, not, Bool, true, false, reverse, Option, Some, None, refl, sym, ap, subst, ◌∙◌, arith}
-use Rattle.fr_base.specs.declared.name.ObjNo.{ObjNo}
-use Rattle.fr_base.specs.declared.step.Fresh.{Fresh}
-use Rattle.fr_code.specs.CodeTypes.{Entry, Table}
-use Rattle.thread_state.specs.View.{ThreadState, is_over, new_thread}
-use Rattle.journal.specs.View.{EntryView}
-use Rattle.server_model.specs.declared.event.Event.{Event}
-use Rattle.server_model.specs.Servers.{Server, Cluster, server_at}
-use Rattle.server_model.specs.Start.{next_thread}
-use Rattle.server_model.specs.Events.{begin_work}
-use Rattle.server_model.specs.Clusters.{apply}
-use Rattle.heap_law.specs.Names.{tot, if_so}
-use Rattle.heap_law.specs.Things.{things_of}
-use Rattle.heap_law.specs.Follow.{Standing, threads_in}
-use Rattle.heap_law.specs.Sight.{Sight, sight}
-use Rattle.heap_law.specs.Coherent.{Holds, names_counted, counts_from_one, over_are_bare}
-use Rattle.type_law.specs.Names.{NameTypes, names_of}
-use Rattle.type_law.specs.ClusterTypes.{IsCoherent, entry_wrong, forms_of, forms_wrong, unseen_slots, unseen_temps, views_wrong}
-use Rattle.path_law.proofs.Forms.{none_of}
-use Rattle.path_law.proofs.Sole.{some_is}
-use Rattle.event_law.specs.Laws.{Gives, FewEvents, NumbersDiffer}
-use Rattle.event_law.proofs.Results.{both_give}
-use Rattle.event_law.proofs.KnownSound.{on_standing, sum_standing}
-use Rattle.event_law.proofs.Sending.{applied_part}
-use Rattle.local_law.proofs.Bare.{bare_kept}
-use Rattle.local_law.proofs.Mail.{StartsAt, BeginsBy, step_tells}
-use Rattle.local_law.proofs.Threads.{Parcel}
-use Rattle.local_law.proofs.Handed.{InParcel}
-use Rattle.value_law.proofs.Sentences.{names_kept, counts_kept}
+use Rattle.agree_law.specs.Below.fr_base.declared.name.ObjNo.{ObjNo}
+use Rattle.agree_law.specs.Below.fr_base.declared.step.Fresh.{Fresh}
+use Rattle.agree_law.specs.Below.fr_code.CodeTypes.{Entry, Table}
+use Rattle.agree_law.specs.Below.thread_state.View.{ThreadState, is_over, new_thread}
+use Rattle.agree_law.specs.Below.journal.View.{EntryView}
+use Rattle.agree_law.specs.Below.server_model.declared.event.Event.{Event}
+use Rattle.agree_law.specs.Below.server_model.Servers.{Server, Cluster, server_at}
+use Rattle.agree_law.specs.Below.server_model.Start.{next_thread}
+use Rattle.agree_law.specs.Below.server_model.Events.{begin_work}
+use Rattle.agree_law.specs.Below.server_model.Clusters.{apply}
+use Rattle.agree_law.specs.Below.heap_law.Names.{tot, if_so}
+use Rattle.agree_law.specs.Below.heap_law.Things.{things_of}
+use Rattle.agree_law.specs.Below.heap_law.Follow.{Standing, threads_in}
+use Rattle.agree_law.specs.Below.heap_law.Sight.{Sight, sight}
+use Rattle.agree_law.specs.Below.heap_law.Coherent.{Holds, names_counted, counts_from_one, over_are_bare}
+use Rattle.agree_law.specs.Below.type_law.Names.{NameTypes, names_of}
+use Rattle.agree_law.specs.Below.type_law.ClusterTypes.{IsCoherent, entry_wrong, forms_of, forms_wrong, unseen_slots, unseen_temps, views_wrong}
+use Rattle.state_law.proofs.Below.path_law.Forms.{none_of}
+use Rattle.state_law.proofs.Below.path_law.Sole.{some_is}
+use Rattle.agree_law.specs.Below.event_law.Laws.{Gives, FewEvents, NumbersDiffer}
+use Rattle.agree_law.proofs.Below.event_law.Results.{both_give}
+use Rattle.agree_law.proofs.Below.event_law.KnownSound.{on_standing, sum_standing}
+use Rattle.agree_law.proofs.Below.event_law.Sending.{applied_part}
+use Rattle.agree_law.proofs.Below.local_law.Bare.{bare_kept}
+use Rattle.agree_law.proofs.Below.local_law.Mail.{StartsAt, BeginsBy, step_tells}
+use Rattle.agree_law.proofs.Below.local_law.Threads.{Parcel}
+use Rattle.agree_law.proofs.Below.local_law.Handed.{InParcel}
+use Rattle.state_law.proofs.Below.value_law.Sentences.{names_kept, counts_kept}
 use Rattle.agree_law.proofs.Lifted.{lifted}
-use Rattle.frame_law.specs.Threads.{TypesThreads}
-use Rattle.frame_law.proofs.Undone.{undone_keep}
-use Rattle.typed_law.specs.Counted.{HasNumbers, sorts_wrong}
-use Rattle.typed_law.proofs.Leads.{each_none}
+use Rattle.agree_law.specs.Below.frame_law.Threads.{TypesThreads}
+use Rattle.agree_law.proofs.Below.frame_law.Undone.{undone_keep}
+use Rattle.state_law.specs.Below.typed_law.Counted.{HasNumbers, sorts_wrong}
+use Rattle.state_law.proofs.Below.typed_law.Leads.{each_none}
 use Rattle.state_law.specs.States.{HeapTyped}
 use Rattle.state_law.proofs.States.{events_keep}
 use Rattle.sorts_law.specs.Sorts.{EventsKeepSorts}

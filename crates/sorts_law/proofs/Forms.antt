@@ -1,29 +1,29 @@
 -- Values that have the forms of an entry, and of which the views are seen, suit it.
 use Rattle.std.proofs.Common.{◌≡◌, ◌≢◌, ℕ, suc, ◌+◌, ◌==◌, Bool, true, false, if◌then◌else◌, List, [], ◌∷◌, reverse, length, Option, Some, None, is_some, refl, sym, ap, subst, ◌∙◌, arith}
 use Rattle.std.proofs.lemmas.List.{length-reverse, reverse-append}
-use Rattle.fr_base.specs.Lists.{last_of}
-use Rattle.fr_base.specs.declared.name.ObjNo.{ObjNo}
-use Rattle.fr_typing.specs.Kinds.{Owned as OwnedType, box, Kind, own, shared, mutable, view, Piece, whole, gone, boxed, map_some}
-use Rattle.fr_typing.specs.Places.{Slot, Env}
-use Rattle.fr_typing.proofs.PlaceLemmas.{eq_cases}
-use Rattle.fr_sound.specs.States.{env_at, owned_part}
-use Rattle.fr_code.specs.CodeTypes.{Entry}
-use Rattle.heap_partition.specs.declared.value.Owned.{Owned}
-use Rattle.heap_partition.specs.declared.value.Owned.TheVariants as owned
-use Rattle.mut_borrow.specs.declared.shared.SharedRef.{SharedRef}
-use Rattle.thread_state.specs.View.{ThreadState}
-use Rattle.thread_state.specs.declared.value.Value.{Value}
-use Rattle.thread_state.specs.declared.value.Value.TheVariants as value
-use Rattle.server_model.specs.Work.{front_of}
-use Rattle.heap_law.specs.Names.{some}
-use Rattle.heap_law.specs.Sight.{Sight}
-use Rattle.heap_law.specs.Walking.{sum_threads}
-use Rattle.type_law.specs.Names.{NameTypes, fits_some}
-use Rattle.type_law.specs.ClusterTypes.{has_form, slot_form, slots_wrong, temps_wrong, forms_of, unseen, unseen_slots, unseen_temps, parent_sees}
-use Rattle.path_law.proofs.Shown.{none_else, at_behind, behind_is}
-use Rattle.path_law.proofs.Sole.{some_is}
-use Rattle.event_law.proofs.Values.{last_split}
-use Rattle.result_law.proofs.Operands.{top_of}
+use Rattle.agree_law.specs.Below.fr_base.Lists.{last_of}
+use Rattle.agree_law.specs.Below.fr_base.declared.name.ObjNo.{ObjNo}
+use Rattle.agree_law.specs.Below.fr_typing.Kinds.{Owned as OwnedType, box, Kind, own, shared, mutable, view, Piece, whole, gone, boxed, map_some}
+use Rattle.agree_law.specs.Below.fr_typing.Places.{Slot, Env}
+use Rattle.agree_law.proofs.Below.fr_typing.PlaceLemmas.{eq_cases}
+use Rattle.agree_law.specs.Below.fr_sound.States.{env_at, owned_part}
+use Rattle.agree_law.specs.Below.fr_code.CodeTypes.{Entry}
+use Rattle.agree_law.specs.Below.heap_partition.declared.value.Owned.{Owned}
+use Rattle.agree_law.specs.Below.heap_partition.declared.value.Owned.TheVariants as owned
+use Rattle.agree_law.specs.Below.mut_borrow.declared.shared.SharedRef.{SharedRef}
+use Rattle.agree_law.specs.Below.thread_state.View.{ThreadState}
+use Rattle.agree_law.specs.Below.thread_state.declared.value.Value.{Value}
+use Rattle.agree_law.specs.Below.thread_state.declared.value.Value.TheVariants as value
+use Rattle.agree_law.specs.Below.server_model.Work.{front_of}
+use Rattle.agree_law.specs.Below.heap_law.Names.{some}
+use Rattle.agree_law.specs.Below.heap_law.Sight.{Sight}
+use Rattle.agree_law.specs.Below.heap_law.Walking.{sum_threads}
+use Rattle.agree_law.specs.Below.type_law.Names.{NameTypes, fits_some}
+use Rattle.agree_law.specs.Below.type_law.ClusterTypes.{has_form, slot_form, slots_wrong, temps_wrong, forms_of, unseen, unseen_slots, unseen_temps, parent_sees}
+use Rattle.state_law.proofs.Below.path_law.Shown.{none_else, at_behind, behind_is}
+use Rattle.state_law.proofs.Below.path_law.Sole.{some_is}
+use Rattle.agree_law.proofs.Below.event_law.Values.{last_split}
+use Rattle.state_law.proofs.Below.result_law.Operands.{top_of}
 use Rattle.sorts_law.proofs.Parts.{shared_any, view_seen, seen_look, a_nothing, look_of, suits, suits_named, suits_slot, suits_at}
 use Rattle.sorts_law.proofs.Suited.{unsuited_of, from_none, to_other, top_suits, Suited, Topped, by_last}
 

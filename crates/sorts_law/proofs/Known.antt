@@ -2,49 +2,49 @@
 use Rattle.std.proofs.Common.{◌≡◌, ◌≢◌, ℕ, zero, suc, ◌+◌, ◌<◌, not, ◌||◌, Bool, true, false, if◌then◌else◌, List, [], ◌∷◌, reverse, length, Option, Some, None, is_some, refl, sym, ap, subst, ◌∙◌, arith}
 use Rattle.std.specs.Prelude.{slice_get}
 use Rattle.std.proofs.lemmas.List.{length-reverse}
-use Rattle.fr_base.specs.Lists.{last_of}
-use Rattle.fr_base.specs.declared.name.ObjNo.{ObjNo}
-use Rattle.fr_base.specs.declared.place.Lval.{Lval}
-use Rattle.fr_base.specs.declared.instruction.Instr.{Instr}
-use Rattle.fr_base.specs.declared.instruction.Instr.TheVariants as instr
-use Rattle.fr_typing.specs.Kinds.{Owned as OwnedType, Kind, own, shared, mutable, view, Piece, whole, gone, boxed, copies}
-use Rattle.fr_typing.specs.Places.{Slot, Env, Found, found, undefined, no_target, then_found, star, type_at, alike, on_path, is_lent, is_mutable, is_own_path, IsNested}
-use Rattle.fr_typing.proofs.PlaceLemmas.{eq_cases, type_at-star}
-use Rattle.fr_store.specs.Keys.{slot_k}
-use Rattle.fr_store.specs.Store.{at_key, Store, below_key, Place as StorePlace}
-use Rattle.fr_store.specs.Typed.{Exact, owns, refers, KeyTypes, exact_under}
-use Rattle.fr_store.specs.Below.{ExactOf}
-use Rattle.fr_store.proofs.Chains.{unique}
-use Rattle.fr_store.proofs.Rows.{found_place}
-use Rattle.fr_store.proofs.Sound.{res_part}
-use Rattle.fr_sound.specs.States.{env_at, owned_kind, IsThread, hand_key, hand_kind}
-use Rattle.fr_code.specs.CodeTypes.{Entry, HasType, is_variable, InstrTypes, i_copy}
-use Rattle.plain_types.proofs.Envs.{part_type}
-use Rattle.heap_partition.specs.declared.value.Cell.{Cell}
-use Rattle.mut_borrow.specs.declared.shared.SharedRef.{SharedRef}
-use Rattle.thread_state.specs.View.{ThreadState, is_over}
-use Rattle.thread_state.specs.declared.value.Value.{Value}
-use Rattle.thread_state.specs.declared.value.Value.TheVariants as value
-use Rattle.server_model.specs.Servers.{Server, Cluster}
-use Rattle.server_model.specs.Work.{Hand}
-use Rattle.server_model.specs.Places.{Spot, in_slot, value_at, second_of, value_in as value_in_cell}
-use Rattle.server_model.specs.Prepare.{ready, ReadTo, read_or_taken, access_of, prepare, read_stars}
-use Rattle.heap_law.specs.Names.{if_so}
-use Rattle.heap_law.specs.Things.{Location, at_slot}
-use Rattle.heap_law.specs.Follow.{Standing, locate}
-use Rattle.heap_law.specs.Sight.{sight}
-use Rattle.type_law.specs.Names.{NameTypes, names_of, fits}
-use Rattle.type_law.specs.ClusterTypes.{IsCoherent, is_mark, slot_form, slots_wrong, temps_wrong, entry_wrong, forms_of}
-use Rattle.path_law.specs.HeapStore.{HasPaths, heap_store, store_place, GoesOn}
-use Rattle.path_law.proofs.Alike.{leads_in_heap, leads_in_cluster}
-use Rattle.path_law.proofs.Forms.{running_typed, none_of, slot_part, slots_below, names as names_at}
-use Rattle.path_law.proofs.Sole.{some_is}
-use Rattle.still_law.proofs.Readied.{Readied}
-use Rattle.typed_law.proofs.Forms.{exact_at}
-use Rattle.result_law.proofs.Known.{Steps, hand, standing, paths, goes, types, entry, typed}
-use Rattle.result_law.proofs.Followed.{Place}
-use Rattle.result_law.proofs.Starred.{At, a_slot, a_cell, a_copy, Fine}
-use Rattle.result_law.proofs.Readers.{IsReadable, readable_place, stars_fine, never_taken, to_entry}
+use Rattle.agree_law.specs.Below.fr_base.Lists.{last_of}
+use Rattle.agree_law.specs.Below.fr_base.declared.name.ObjNo.{ObjNo}
+use Rattle.agree_law.specs.Below.fr_base.declared.place.Lval.{Lval}
+use Rattle.agree_law.specs.Below.fr_base.declared.instruction.Instr.{Instr}
+use Rattle.agree_law.specs.Below.fr_base.declared.instruction.Instr.TheVariants as instr
+use Rattle.agree_law.specs.Below.fr_typing.Kinds.{Owned as OwnedType, Kind, own, shared, mutable, view, Piece, whole, gone, boxed, copies}
+use Rattle.agree_law.specs.Below.fr_typing.Places.{Slot, Env, Found, found, undefined, no_target, then_found, star, type_at, alike, on_path, is_lent, is_mutable, is_own_path, IsNested}
+use Rattle.agree_law.proofs.Below.fr_typing.PlaceLemmas.{eq_cases, type_at-star}
+use Rattle.agree_law.specs.Below.fr_store.Keys.{slot_k}
+use Rattle.agree_law.specs.Below.fr_store.Store.{at_key, Store, below_key, Place as StorePlace}
+use Rattle.agree_law.specs.Below.fr_store.Typed.{Exact, owns, refers, KeyTypes, exact_under}
+use Rattle.agree_law.specs.Below.fr_store.Below.{ExactOf}
+use Rattle.agree_law.proofs.Below.fr_store.Chains.{unique}
+use Rattle.agree_law.proofs.Below.fr_store.Rows.{found_place}
+use Rattle.agree_law.proofs.Below.fr_store.Sound.{res_part}
+use Rattle.agree_law.specs.Below.fr_sound.States.{env_at, owned_kind, IsThread, hand_key, hand_kind}
+use Rattle.agree_law.specs.Below.fr_code.CodeTypes.{Entry, HasType, is_variable, InstrTypes, i_copy}
+use Rattle.state_law.proofs.Below.plain_types.Envs.{part_type}
+use Rattle.agree_law.specs.Below.heap_partition.declared.value.Cell.{Cell}
+use Rattle.agree_law.specs.Below.mut_borrow.declared.shared.SharedRef.{SharedRef}
+use Rattle.agree_law.specs.Below.thread_state.View.{ThreadState, is_over}
+use Rattle.agree_law.specs.Below.thread_state.declared.value.Value.{Value}
+use Rattle.agree_law.specs.Below.thread_state.declared.value.Value.TheVariants as value
+use Rattle.agree_law.specs.Below.server_model.Servers.{Server, Cluster}
+use Rattle.agree_law.specs.Below.server_model.Work.{Hand}
+use Rattle.agree_law.specs.Below.server_model.Places.{Spot, in_slot, value_at, second_of, value_in as value_in_cell}
+use Rattle.agree_law.specs.Below.server_model.Prepare.{ready, ReadTo, read_or_taken, access_of, prepare, read_stars}
+use Rattle.agree_law.specs.Below.heap_law.Names.{if_so}
+use Rattle.agree_law.specs.Below.heap_law.Things.{Location, at_slot}
+use Rattle.agree_law.specs.Below.heap_law.Follow.{Standing, locate}
+use Rattle.agree_law.specs.Below.heap_law.Sight.{sight}
+use Rattle.agree_law.specs.Below.type_law.Names.{NameTypes, names_of, fits}
+use Rattle.agree_law.specs.Below.type_law.ClusterTypes.{IsCoherent, is_mark, slot_form, slots_wrong, temps_wrong, entry_wrong, forms_of}
+use Rattle.state_law.specs.Below.path_law.HeapStore.{HasPaths, heap_store, store_place, GoesOn}
+use Rattle.state_law.proofs.Below.path_law.Alike.{leads_in_heap, leads_in_cluster}
+use Rattle.state_law.proofs.Below.path_law.Forms.{running_typed, none_of, slot_part, slots_below, names as names_at}
+use Rattle.state_law.proofs.Below.path_law.Sole.{some_is}
+use Rattle.agree_law.proofs.Below.still_law.Readied.{Readied}
+use Rattle.state_law.proofs.Below.typed_law.Forms.{exact_at}
+use Rattle.state_law.proofs.Below.result_law.Known.{Steps, hand, standing, paths, goes, types, entry, typed}
+use Rattle.state_law.proofs.Below.result_law.Followed.{Place}
+use Rattle.state_law.proofs.Below.result_law.Starred.{At, a_slot, a_cell, a_copy, Fine}
+use Rattle.state_law.proofs.Below.result_law.Readers.{IsReadable, readable_place, stars_fine, never_taken, to_entry}
 use Rattle.sorts_law.proofs.Parts.{seen_view, seen_look, a_nothing, another, look_of, suits, suits_named, suits_slot, suits_at, slot_other, IsOwned, star_owned}
 use Rattle.sorts_law.proofs.Suited.{unsuited_of, none_from, from_other, top_suits, Suited, Topped, alike_at, alike_suited, alike_topped, alike_last, alike_length}
 use Rattle.sorts_law.proofs.Drops.{ready_slots, ready_temps}

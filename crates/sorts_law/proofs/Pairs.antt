@@ -4,35 +4,35 @@ use Rattle.std.specs.Bool.{⊤}
 use Rattle.std.specs.Prelude.{slice_get, slice_set, option_map}
 use Rattle.std.specs.List.{AllByRecursion}
 use Rattle.std.proofs.lemmas.Bool.{eq-eqb}
-use Rattle.fr_base.specs.Rooms.{WithRoom}
-use Rattle.fr_base.specs.declared.name.ObjNo.{ObjNo}
-use Rattle.fr_base.specs.declared.step.Fresh.{Fresh}
-use Rattle.fr_base.specs.declared.instruction.Instr.TheVariants as instr
-use Rattle.heap_partition.specs.declared.value.Owned.{Owned}
-use Rattle.heap_partition.specs.declared.value.Owned.TheVariants as owned
-use Rattle.join_home.specs.Tasks.{can_begin_pair}
-use Rattle.migration.specs.Packing.{unpin_all}
-use Rattle.mut_borrow.specs.declared.shared.SharedRef.{SharedRef}
-use Rattle.read_cache.specs.Cache.{Copy}
-use Rattle.thread_state.specs.View.{ThreadState, new_thread}
-use Rattle.thread_state.specs.declared.phase.Phase.{Phase}
-use Rattle.thread_state.specs.declared.phase.Phase.TheVariants as phase
-use Rattle.thread_state.specs.declared.value.Value.{Value}
-use Rattle.thread_state.specs.declared.value.Value.TheVariants as value
-use Rattle.server_msgs.specs.declared.message.Message.{Message}
-use Rattle.server_msgs.specs.declared.message.Message.TheVariants as message
-use Rattle.server_model.specs.Servers.{Sent, Rest}
-use Rattle.server_model.specs.Work.{Work, Hand, with_cache, sent_from}
-use Rattle.server_model.specs.Places.{owns_nothing, second_of}
-use Rattle.server_model.specs.Start.{next_thread, server_for, start_thread, captured, left_after, capture_from, capture}
-use Rattle.server_model.specs.Commit.{Committed, done, waits, refused, done_where, pair_begun, par}
-use Rattle.server_model.specs.Events.{Stepped, done_step, committed, step, begin_work}
-use Rattle.heap_law.specs.Names.{one, some, same_object}
-use Rattle.type_law.specs.ClusterTypes.{refers_to}
-use Rattle.event_law.specs.Laws.{Gives}
-use Rattle.event_law.proofs.Results.{then_gives, over_gives, bind_gives, test_gives, weaker, both_give}
-use Rattle.event_law.proofs.Known.{all_append}
-use Rattle.local_law.proofs.Mail.{Mailed, mail_sent}
+use Rattle.agree_law.specs.Below.fr_base.Rooms.{WithRoom}
+use Rattle.agree_law.specs.Below.fr_base.declared.name.ObjNo.{ObjNo}
+use Rattle.agree_law.specs.Below.fr_base.declared.step.Fresh.{Fresh}
+use Rattle.agree_law.specs.Below.fr_base.declared.instruction.Instr.TheVariants as instr
+use Rattle.agree_law.specs.Below.heap_partition.declared.value.Owned.{Owned}
+use Rattle.agree_law.specs.Below.heap_partition.declared.value.Owned.TheVariants as owned
+use Rattle.agree_law.specs.Below.join_home.Tasks.{can_begin_pair}
+use Rattle.agree_law.specs.Below.migration.Packing.{unpin_all}
+use Rattle.agree_law.specs.Below.mut_borrow.declared.shared.SharedRef.{SharedRef}
+use Rattle.agree_law.specs.Below.read_cache.Cache.{Copy}
+use Rattle.agree_law.specs.Below.thread_state.View.{ThreadState, new_thread}
+use Rattle.agree_law.specs.Below.thread_state.declared.phase.Phase.{Phase}
+use Rattle.agree_law.specs.Below.thread_state.declared.phase.Phase.TheVariants as phase
+use Rattle.agree_law.specs.Below.thread_state.declared.value.Value.{Value}
+use Rattle.agree_law.specs.Below.thread_state.declared.value.Value.TheVariants as value
+use Rattle.agree_law.specs.Below.server_msgs.declared.message.Message.{Message}
+use Rattle.agree_law.specs.Below.server_msgs.declared.message.Message.TheVariants as message
+use Rattle.agree_law.specs.Below.server_model.Servers.{Sent, Rest}
+use Rattle.agree_law.specs.Below.server_model.Work.{Work, Hand, with_cache, sent_from}
+use Rattle.agree_law.specs.Below.server_model.Places.{owns_nothing, second_of}
+use Rattle.agree_law.specs.Below.server_model.Start.{next_thread, server_for, start_thread, captured, left_after, capture_from, capture}
+use Rattle.agree_law.specs.Below.server_model.Commit.{Committed, done, waits, refused, done_where, pair_begun, par}
+use Rattle.agree_law.specs.Below.server_model.Events.{Stepped, done_step, committed, step, begin_work}
+use Rattle.agree_law.specs.Below.heap_law.Names.{one, some, same_object}
+use Rattle.agree_law.specs.Below.type_law.ClusterTypes.{refers_to}
+use Rattle.agree_law.specs.Below.event_law.Laws.{Gives}
+use Rattle.agree_law.proofs.Below.event_law.Results.{then_gives, over_gives, bind_gives, test_gives, weaker, both_give}
+use Rattle.agree_law.proofs.Below.event_law.Known.{all_append}
+use Rattle.agree_law.proofs.Below.local_law.Mail.{Mailed, mail_sent}
 use Rattle.sorts_law.proofs.Parts.{look_of, seen_look}
 use Rattle.sorts_law.proofs.Starts.{is_light}
 use Rattle.sorts_law.proofs.Steps.{IsDone}

@@ -1,17 +1,17 @@
 -- How a value looks, as far as no typed one heap tells it, and the parts that it suits: where a part of an environment is written, and where environments join.
 use Rattle.std.proofs.Common.{◌≡◌, ◌≢◌, ℕ, zero, suc, ◌==◌, Bool, true, false, if◌then◌else◌, List, [], ◌∷◌, length, Option, Some, None, is_some, refl, sym, ap, subst, ◌∙◌}
-use Rattle.fr_base.specs.declared.name.ObjNo.{ObjNo}
-use Rattle.fr_base.specs.declared.place.Lval.{Lval}
-use Rattle.fr_typing.specs.Kinds.{Owned, unit, int, box, mutex, task, same_owned, Kind, own, shared, mutable, view, Piece, whole, gone, boxed, box_of, SetTest, union, join_kind, join_piece, map_some}
-use Rattle.fr_typing.specs.Places.{Slot, Env, Found, found, star, alike, put_under, put_at}
-use Rattle.fr_typing.proofs.PlaceLemmas.{eq_cases}
-use Rattle.fr_store.specs.JoinRows.{join_more, join_env}
-use Rattle.fr_store.proofs.PutAt.{length_put}
-use Rattle.fr_sound.specs.States.{env_at, owned_kind, owned_part}
-use Rattle.fr_code.specs.Joins.{have_names}
-use Rattle.heap_partition.specs.declared.value.Owned.TheVariants as owned
-use Rattle.thread_state.specs.declared.value.Value.{Value}
-use Rattle.thread_state.specs.declared.value.Value.TheVariants as value
+use Rattle.agree_law.specs.Below.fr_base.declared.name.ObjNo.{ObjNo}
+use Rattle.agree_law.specs.Below.fr_base.declared.place.Lval.{Lval}
+use Rattle.agree_law.specs.Below.fr_typing.Kinds.{Owned, unit, int, box, mutex, task, same_owned, Kind, own, shared, mutable, view, Piece, whole, gone, boxed, box_of, SetTest, union, join_kind, join_piece, map_some}
+use Rattle.agree_law.specs.Below.fr_typing.Places.{Slot, Env, Found, found, star, alike, put_under, put_at}
+use Rattle.agree_law.proofs.Below.fr_typing.PlaceLemmas.{eq_cases}
+use Rattle.agree_law.specs.Below.fr_store.JoinRows.{join_more, join_env}
+use Rattle.agree_law.proofs.Below.fr_store.PutAt.{length_put}
+use Rattle.agree_law.specs.Below.fr_sound.States.{env_at, owned_kind, owned_part}
+use Rattle.agree_law.specs.Below.fr_code.Joins.{have_names}
+use Rattle.agree_law.specs.Below.heap_partition.declared.value.Owned.TheVariants as owned
+use Rattle.agree_law.specs.Below.thread_state.declared.value.Value.{Value}
+use Rattle.agree_law.specs.Below.thread_state.declared.value.Value.TheVariants as value
 
 -- an owned value that is nothing; a shared reference to an object that is seen, or isn't; other references; anything else
 pub data Look : Type 0 where

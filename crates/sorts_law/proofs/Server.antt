@@ -1,28 +1,28 @@
 -- A step that is done leaves the values of its server's threads, and of those in messages, so that they suit their entries, whoever sees what of each thread.
 use Rattle.std.proofs.Common.{◌≡◌, ℕ, not, Bool, true, Option, Some, None, refl, sym, ap, subst, ◌∙◌}
 use Rattle.std.specs.Prelude.{slice_get, option_map}
-use Rattle.fr_base.specs.declared.name.ObjNo.{ObjNo}
-use Rattle.fr_base.specs.declared.instruction.Instr.{Instr}
-use Rattle.thread_state.specs.View.{ThreadState, is_over}
-use Rattle.journal.specs.View.{EntryView}
-use Rattle.server_model.specs.declared.event.What.{What}
-use Rattle.server_model.specs.declared.event.What.TheVariants.{Step, Deliver, Evict, Migrate}
-use Rattle.server_model.specs.Servers.{Server, Cluster, server_at}
-use Rattle.server_model.specs.Work.{Hand, Site, thread_in, then_some, beside_threads}
-use Rattle.server_model.specs.Moving.{migrate}
-use Rattle.server_model.specs.Events.{Stepped, enabled, begin_work, begin_at, left_by, deliver, evict_copy, step, step_in, stepped, does}
-use Rattle.heap_law.specs.Names.{tot, if_so}
-use Rattle.heap_law.specs.Things.{server_things}
-use Rattle.heap_law.specs.Follow.{Standing}
-use Rattle.type_law.specs.ClusterTypes.{IsCoherent, entry_wrong}
-use Rattle.event_law.specs.Laws.{Gives, FewEvents}
-use Rattle.event_law.proofs.Results.{map_gives, over_gives, both_give}
-use Rattle.event_law.proofs.KnownSound.{on_standing}
-use Rattle.local_law.proofs.Mail.{Mailed, Replies, Requests}
-use Rattle.local_law.proofs.Threads.{set_all, found_all, Parcel, Held}
-use Rattle.local_law.proofs.Handed.{Stood, InParcel, from_server, to_server}
-use Rattle.result_law.proofs.Known.{Steps, goes}
-use Rattle.fr_code.specs.CodeTypes.{Table}
+use Rattle.agree_law.specs.Below.fr_base.declared.name.ObjNo.{ObjNo}
+use Rattle.agree_law.specs.Below.fr_base.declared.instruction.Instr.{Instr}
+use Rattle.agree_law.specs.Below.thread_state.View.{ThreadState, is_over}
+use Rattle.agree_law.specs.Below.journal.View.{EntryView}
+use Rattle.agree_law.specs.Below.server_model.declared.event.What.{What}
+use Rattle.agree_law.specs.Below.server_model.declared.event.What.TheVariants.{Step, Deliver, Evict, Migrate}
+use Rattle.agree_law.specs.Below.server_model.Servers.{Server, Cluster, server_at}
+use Rattle.agree_law.specs.Below.server_model.Work.{Hand, Site, thread_in, then_some, beside_threads}
+use Rattle.agree_law.specs.Below.server_model.Moving.{migrate}
+use Rattle.agree_law.specs.Below.server_model.Events.{Stepped, enabled, begin_work, begin_at, left_by, deliver, evict_copy, step, step_in, stepped, does}
+use Rattle.agree_law.specs.Below.heap_law.Names.{tot, if_so}
+use Rattle.agree_law.specs.Below.heap_law.Things.{server_things}
+use Rattle.agree_law.specs.Below.heap_law.Follow.{Standing}
+use Rattle.agree_law.specs.Below.type_law.ClusterTypes.{IsCoherent, entry_wrong}
+use Rattle.agree_law.specs.Below.event_law.Laws.{Gives, FewEvents}
+use Rattle.agree_law.proofs.Below.event_law.Results.{map_gives, over_gives, both_give}
+use Rattle.agree_law.proofs.Below.event_law.KnownSound.{on_standing}
+use Rattle.agree_law.proofs.Below.local_law.Mail.{Mailed, Replies, Requests}
+use Rattle.agree_law.proofs.Below.local_law.Threads.{set_all, found_all, Parcel, Held}
+use Rattle.agree_law.proofs.Below.local_law.Handed.{Stood, InParcel, from_server, to_server}
+use Rattle.state_law.proofs.Below.result_law.Known.{Steps, goes}
+use Rattle.agree_law.specs.Below.fr_code.CodeTypes.{Table}
 use Rattle.sorts_law.proofs.Suited.{unsuited_of}
 use Rattle.sorts_law.proofs.Steps.{IsDone, step_suits, Done}
 

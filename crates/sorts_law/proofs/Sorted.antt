@@ -2,41 +2,41 @@
 use Rattle.std.proofs.Common.{◌≡◌, ℕ, suc, ◌+◌, ◌==◌, not, Bool, true, false, ◌&&◌, if◌then◌else◌, List, [], ◌∷◌, reverse, map, length, Some, is_some, refl, sym, ap, subst, ◌∙◌, arith}
 use Rattle.std.specs.Prelude.{slice_get}
 use Rattle.std.proofs.lemmas.List.{length-reverse, length-map}
-use Rattle.fr_base.specs.Lists.{last_of}
-use Rattle.fr_base.specs.declared.name.MutexNo.{MutexNo}
-use Rattle.fr_typing.specs.Kinds.{Owned as OwnedType, Kind, own, shared, mutable, view, Piece, whole, gone, boxed}
-use Rattle.fr_typing.specs.Places.{Slot, Env}
-use Rattle.fr_typing.specs.Checks.{is_int}
-use Rattle.fr_store.specs.Keys.{Key, slot_k, temp_k}
-use Rattle.fr_store.specs.Store.{at_key, Val, gone_v, ref_v, Store, Place as StorePlace}
-use Rattle.fr_store.specs.Typed.{hole, Exact, owns, refers, KeyTypes, Typed}
-use Rattle.fr_store.specs.Below.{ExactOf, SlotsBelow, Seen}
-use Rattle.fr_store.specs.Thread.{TempIs}
-use Rattle.fr_store.proofs.Sound.{ref_at}
-use Rattle.fr_store.proofs.Rows.{top_fits}
-use Rattle.fr_sound.specs.Seen.{Gives, owned_val}
-use Rattle.fr_sound.specs.States.{env_at, is_hidden, is_held, hand_key, hand_kind, IsThread}
-use Rattle.fr_code.specs.CodeTypes.{Entry, Table, wait}
-use Rattle.fr_code.specs.CodeTable.{IsTable}
-use Rattle.heap_partition.specs.Plain.{plain_of}
-use Rattle.heap_partition.specs.declared.value.Owned.TheVariants as owned
-use Rattle.thread_state.specs.View.{is_over}
-use Rattle.thread_state.specs.declared.value.Value.{Value}
-use Rattle.thread_state.specs.declared.value.Value.TheVariants as value
-use Rattle.server_model.specs.Servers.{Cluster}
-use Rattle.heap_law.specs.Names.{tot, other, if_so, Among}
-use Rattle.heap_law.specs.Things.{things_of}
-use Rattle.heap_law.specs.Follow.{Standing, threads_in}
-use Rattle.heap_law.specs.Sight.{sight}
-use Rattle.heap_law.specs.OneHeap.{plain_value}
-use Rattle.type_law.specs.ClusterTypes.{entry_wrong}
-use Rattle.path_law.specs.HeapStore.{GoesOn}
-use Rattle.path_law.proofs.Shown.{at_behind, behind_is}
-use Rattle.typed_law.specs.Counted.{has_sort, slot_sort, slots_unsorted, temps_unsorted, sorts_of, sorts_wrong}
-use Rattle.typed_law.proofs.Following.{HasHeap, heap_of}
-use Rattle.typed_law.proofs.Values.{seen_as, no_ref, slot_seen, temp_seen, running, held_shown}
-use Rattle.typed_law.proofs.Leads.{each_none, to_other}
-use Rattle.typed_law.proofs.Forms.{within_env, newest, older, exact_at}
+use Rattle.agree_law.specs.Below.fr_base.Lists.{last_of}
+use Rattle.agree_law.specs.Below.fr_base.declared.name.MutexNo.{MutexNo}
+use Rattle.agree_law.specs.Below.fr_typing.Kinds.{Owned as OwnedType, Kind, own, shared, mutable, view, Piece, whole, gone, boxed}
+use Rattle.agree_law.specs.Below.fr_typing.Places.{Slot, Env}
+use Rattle.agree_law.specs.Below.fr_typing.Checks.{is_int}
+use Rattle.agree_law.specs.Below.fr_store.Keys.{Key, slot_k, temp_k}
+use Rattle.agree_law.specs.Below.fr_store.Store.{at_key, Val, gone_v, ref_v, Store, Place as StorePlace}
+use Rattle.agree_law.specs.Below.fr_store.Typed.{hole, Exact, owns, refers, KeyTypes, Typed}
+use Rattle.agree_law.specs.Below.fr_store.Below.{ExactOf, SlotsBelow, Seen}
+use Rattle.agree_law.specs.Below.fr_store.Thread.{TempIs}
+use Rattle.agree_law.proofs.Below.fr_store.Sound.{ref_at}
+use Rattle.agree_law.proofs.Below.fr_store.Rows.{top_fits}
+use Rattle.agree_law.specs.Below.fr_sound.Seen.{Gives, owned_val}
+use Rattle.agree_law.specs.Below.fr_sound.States.{env_at, is_hidden, is_held, hand_key, hand_kind, IsThread}
+use Rattle.agree_law.specs.Below.fr_code.CodeTypes.{Entry, Table, wait}
+use Rattle.agree_law.specs.Below.fr_code.CodeTable.{IsTable}
+use Rattle.agree_law.specs.Below.heap_partition.Plain.{plain_of}
+use Rattle.agree_law.specs.Below.heap_partition.declared.value.Owned.TheVariants as owned
+use Rattle.agree_law.specs.Below.thread_state.View.{is_over}
+use Rattle.agree_law.specs.Below.thread_state.declared.value.Value.{Value}
+use Rattle.agree_law.specs.Below.thread_state.declared.value.Value.TheVariants as value
+use Rattle.agree_law.specs.Below.server_model.Servers.{Cluster}
+use Rattle.agree_law.specs.Below.heap_law.Names.{tot, other, if_so, Among}
+use Rattle.agree_law.specs.Below.heap_law.Things.{things_of}
+use Rattle.agree_law.specs.Below.heap_law.Follow.{Standing, threads_in}
+use Rattle.agree_law.specs.Below.heap_law.Sight.{sight}
+use Rattle.agree_law.specs.Below.heap_law.OneHeap.{plain_value}
+use Rattle.agree_law.specs.Below.type_law.ClusterTypes.{entry_wrong}
+use Rattle.state_law.specs.Below.path_law.HeapStore.{GoesOn}
+use Rattle.state_law.proofs.Below.path_law.Shown.{at_behind, behind_is}
+use Rattle.state_law.specs.Below.typed_law.Counted.{has_sort, slot_sort, slots_unsorted, temps_unsorted, sorts_of, sorts_wrong}
+use Rattle.state_law.proofs.Below.typed_law.Following.{HasHeap, heap_of}
+use Rattle.state_law.proofs.Below.typed_law.Values.{seen_as, no_ref, slot_seen, temp_seen, running, held_shown}
+use Rattle.state_law.proofs.Below.typed_law.Leads.{each_none, to_other}
+use Rattle.state_law.proofs.Below.typed_law.Forms.{within_env, newest, older, exact_at}
 use Rattle.sorts_law.proofs.Viewing.{views_lead}
 use Rattle.sorts_law.proofs.Tables.{LowInts, low_ints}
 use Rattle.sorts_law.proofs.Parts.{anyone, look_of, suits, suits_named, suits_slot, suits_at}

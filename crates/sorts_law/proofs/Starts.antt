@@ -2,27 +2,27 @@
 use Rattle.std.proofs.Common.{◌≡◌, inl, inr, ℕ, ◌+◌, Bool, true, false, if◌then◌else◌, List, [], ◌∷◌, ◌++◌, length, Option, Some, None, refl, ap, subst, ◌∙◌}
 use Rattle.std.specs.Prelude.{slice_get}
 use Rattle.std.specs.List.{AllByRecursion}
-use Rattle.fr_base.specs.declared.instruction.Instr.{Instr}
-use Rattle.fr_typing.specs.Kinds.{unit, Owned as OwnedType, Kind, own, shared, mutable, view, whole, map_some}
-use Rattle.fr_typing.specs.Places.{Env, heap_type}
-use Rattle.fr_typing.specs.Captures.{Capturer, by_spawn, by_par, captured_kind, captured_slot, Captures, captures_copy, captures_move}
-use Rattle.fr_typing.proofs.PlaceLemmas.{eq_cases}
-use Rattle.fr_sound.specs.States.{env_at}
-use Rattle.fr_code.specs.CodeTypes.{Entry, Table, going, SlotPasses, passes, SlotsPass, pass_none, pass_next, InstrTypes, i_spawn, i_par}
-use Rattle.heap_partition.specs.declared.value.Owned.{Owned}
-use Rattle.heap_partition.specs.declared.value.Owned.TheVariants as owned
-use Rattle.thread_state.specs.declared.value.Value.{Value}
-use Rattle.thread_state.specs.declared.value.Value.TheVariants as value
-use Rattle.server_model.specs.Places.{owns_nothing, second_of}
-use Rattle.server_model.specs.Start.{captured, left_after, capture_from, capture}
-use Rattle.event_law.specs.Laws.{Gives}
-use Rattle.event_law.proofs.Results.{then_gives, given_by}
-use Rattle.event_law.proofs.Known.{all_at, all_append}
-use Rattle.fr_base.specs.declared.name.ObjNo.{ObjNo}
-use Rattle.fr_base.specs.Rooms.{WithRoom}
-use Rattle.fr_base.specs.declared.instruction.Instr.TheVariants as instr
-use Rattle.fr_code.specs.CodeTable.{Leads, to_next, ends, Successors}
-use Rattle.local_law.proofs.Mail.{StartsAt, AreCaptured}
+use Rattle.agree_law.specs.Below.fr_base.declared.instruction.Instr.{Instr}
+use Rattle.agree_law.specs.Below.fr_typing.Kinds.{unit, Owned as OwnedType, Kind, own, shared, mutable, view, whole, map_some}
+use Rattle.agree_law.specs.Below.fr_typing.Places.{Env, heap_type}
+use Rattle.agree_law.specs.Below.fr_typing.Captures.{Capturer, by_spawn, by_par, captured_kind, captured_slot, Captures, captures_copy, captures_move}
+use Rattle.agree_law.proofs.Below.fr_typing.PlaceLemmas.{eq_cases}
+use Rattle.agree_law.specs.Below.fr_sound.States.{env_at}
+use Rattle.agree_law.specs.Below.fr_code.CodeTypes.{Entry, Table, going, SlotPasses, passes, SlotsPass, pass_none, pass_next, InstrTypes, i_spawn, i_par}
+use Rattle.agree_law.specs.Below.heap_partition.declared.value.Owned.{Owned}
+use Rattle.agree_law.specs.Below.heap_partition.declared.value.Owned.TheVariants as owned
+use Rattle.agree_law.specs.Below.thread_state.declared.value.Value.{Value}
+use Rattle.agree_law.specs.Below.thread_state.declared.value.Value.TheVariants as value
+use Rattle.agree_law.specs.Below.server_model.Places.{owns_nothing, second_of}
+use Rattle.agree_law.specs.Below.server_model.Start.{captured, left_after, capture_from, capture}
+use Rattle.agree_law.specs.Below.event_law.Laws.{Gives}
+use Rattle.agree_law.proofs.Below.event_law.Results.{then_gives, given_by}
+use Rattle.agree_law.proofs.Below.event_law.Known.{all_at, all_append}
+use Rattle.agree_law.specs.Below.fr_base.declared.name.ObjNo.{ObjNo}
+use Rattle.agree_law.specs.Below.fr_base.Rooms.{WithRoom}
+use Rattle.agree_law.specs.Below.fr_base.declared.instruction.Instr.TheVariants as instr
+use Rattle.agree_law.specs.Below.fr_code.CodeTable.{Leads, to_next, ends, Successors}
+use Rattle.agree_law.proofs.Below.local_law.Mail.{StartsAt, AreCaptured}
 use Rattle.sorts_law.proofs.Parts.{anyone, a_hidden, Look, a_nothing, a_shared, a_slot, a_mutable, another, look_of, suits, suits_slot, suits_at}
 use Rattle.sorts_law.proofs.Suited.{unsuited_from, from_none}
 

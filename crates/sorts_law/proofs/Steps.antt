@@ -2,41 +2,41 @@
 use Rattle.std.proofs.Common.{◌≡◌, ℕ, ◌+◌, ◌==◌, not, Bool, true, false, List, [], Option, Some, None, refl, sym, ap, subst, ◌∙◌, arith}
 use Rattle.std.specs.Bool.{⊤}
 use Rattle.std.specs.Prelude.{option_map}
-use Rattle.fr_base.specs.Lists.{last_of}
-use Rattle.fr_base.specs.declared.step.Fresh.{Fresh}
-use Rattle.fr_base.specs.declared.step.Fresh.TheVariants as fresh
-use Rattle.fr_base.specs.declared.instruction.Instr.{Instr}
-use Rattle.fr_base.specs.declared.instruction.Instr.TheVariants as instr
-use Rattle.fr_base.specs.declared.instruction.Operand.{Operand}
-use Rattle.fr_typing.specs.Places.{alike}
-use Rattle.fr_code.specs.CodeTypes.{Entry, Table, InstrTypes}
-use Rattle.fr_code.specs.CodeTable.{Leads, to_next, ends, Successors, AllEnter, Enters, Row}
-use Rattle.fr_code.specs.Joins.{JoinsTo, alone, first, second}
-use Rattle.migration.specs.Packing.{unpin_all}
-use Rattle.read_cache.specs.Cache.{Copy}
-use Rattle.thread_state.specs.View.{ThreadState, is_over}
-use Rattle.thread_state.specs.declared.phase.Phase.{Phase}
-use Rattle.thread_state.specs.declared.phase.Phase.TheVariants as phase
-use Rattle.server_model.specs.Servers.{Server, Cluster}
-use Rattle.server_model.specs.Work.{Hand, with_cache, with_phase, then_some, pop_owned}
-use Rattle.server_model.specs.Places.{Spot}
-use Rattle.server_model.specs.Prepare.{Prepared, ready, requested, nothing, access_of, prepare}
-use Rattle.server_model.specs.Commit.{Committed, done, waits, refused, done_where, end_with, commit}
-use Rattle.server_model.specs.Events.{Stepped, done_step, committed, prepared, step}
-use Rattle.heap_law.specs.Names.{other, if_so}
-use Rattle.heap_law.specs.Coherent.{IsSound}
-use Rattle.type_law.specs.ClusterTypes.{entry_wrong}
-use Rattle.event_law.specs.Laws.{Gives}
-use Rattle.event_law.proofs.Results.{both_give}
-use Rattle.still_law.proofs.Addresses.{in_place}
-use Rattle.still_law.proofs.Leaving.{others, placed_here}
-use Rattle.still_law.proofs.Readied.{IsPlaced}
-use Rattle.still_law.proofs.Prepares.{prepare_shows, Fine as Shows}
-use Rattle.local_law.proofs.Goes.{Goes, AsksHome, HasCell, on, waits_pair, is_over as goes_over, asks_cell, asks_home, gets_cell, gets_gift, goes_pair, thread_goes}
-use Rattle.path_law.proofs.Sole.{some_is}
-use Rattle.result_law.proofs.Known.{Steps, hand}
+use Rattle.agree_law.specs.Below.fr_base.Lists.{last_of}
+use Rattle.agree_law.specs.Below.fr_base.declared.step.Fresh.{Fresh}
+use Rattle.agree_law.specs.Below.fr_base.declared.step.Fresh.TheVariants as fresh
+use Rattle.agree_law.specs.Below.fr_base.declared.instruction.Instr.{Instr}
+use Rattle.agree_law.specs.Below.fr_base.declared.instruction.Instr.TheVariants as instr
+use Rattle.agree_law.specs.Below.fr_base.declared.instruction.Operand.{Operand}
+use Rattle.agree_law.specs.Below.fr_typing.Places.{alike}
+use Rattle.agree_law.specs.Below.fr_code.CodeTypes.{Entry, Table, InstrTypes}
+use Rattle.agree_law.specs.Below.fr_code.CodeTable.{Leads, to_next, ends, Successors, AllEnter, Enters, Row}
+use Rattle.agree_law.specs.Below.fr_code.Joins.{JoinsTo, alone, first, second}
+use Rattle.agree_law.specs.Below.migration.Packing.{unpin_all}
+use Rattle.agree_law.specs.Below.read_cache.Cache.{Copy}
+use Rattle.agree_law.specs.Below.thread_state.View.{ThreadState, is_over}
+use Rattle.agree_law.specs.Below.thread_state.declared.phase.Phase.{Phase}
+use Rattle.agree_law.specs.Below.thread_state.declared.phase.Phase.TheVariants as phase
+use Rattle.agree_law.specs.Below.server_model.Servers.{Server, Cluster}
+use Rattle.agree_law.specs.Below.server_model.Work.{Hand, with_cache, with_phase, then_some, pop_owned}
+use Rattle.agree_law.specs.Below.server_model.Places.{Spot}
+use Rattle.agree_law.specs.Below.server_model.Prepare.{Prepared, ready, requested, nothing, access_of, prepare}
+use Rattle.agree_law.specs.Below.server_model.Commit.{Committed, done, waits, refused, done_where, end_with, commit}
+use Rattle.agree_law.specs.Below.server_model.Events.{Stepped, done_step, committed, prepared, step}
+use Rattle.agree_law.specs.Below.heap_law.Names.{other, if_so}
+use Rattle.agree_law.specs.Below.heap_law.Coherent.{IsSound}
+use Rattle.agree_law.specs.Below.type_law.ClusterTypes.{entry_wrong}
+use Rattle.agree_law.specs.Below.event_law.Laws.{Gives}
+use Rattle.agree_law.proofs.Below.event_law.Results.{both_give}
+use Rattle.agree_law.proofs.Below.still_law.Addresses.{in_place}
+use Rattle.agree_law.proofs.Below.still_law.Leaving.{others, placed_here}
+use Rattle.agree_law.proofs.Below.still_law.Readied.{IsPlaced}
+use Rattle.agree_law.proofs.Below.still_law.Prepares.{prepare_shows, Fine as Shows}
+use Rattle.agree_law.proofs.Below.local_law.Goes.{Goes, AsksHome, HasCell, on, waits_pair, is_over as goes_over, asks_cell, asks_home, gets_cell, gets_gift, goes_pair, thread_goes}
+use Rattle.state_law.proofs.Below.path_law.Sole.{some_is}
+use Rattle.state_law.proofs.Below.result_law.Known.{Steps, hand}
 use Rattle.sorts_law.proofs.Parts.{look_of, suits_at, env_join}
-use Rattle.fr_base.specs.declared.name.ObjNo.{ObjNo}
+use Rattle.agree_law.specs.Below.fr_base.declared.name.ObjNo.{ObjNo}
 use Rattle.sorts_law.proofs.Suited.{unsuited_of, Suited, top_suits, Topped, to_suited, from_none, join_topped}
 use Rattle.sorts_law.proofs.Commits.{is_left, Ends, step_fits}
 use Rattle.sorts_law.proofs.Known.{its as its_entry, known, before, told}

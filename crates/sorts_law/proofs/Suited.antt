@@ -2,21 +2,21 @@
 use Rattle.std.proofs.Common.{◌≡◌, ◌≢◌, ◌⊎◌, inl, inr, ℕ, zero, suc, ◌+◌, ◌-◌, ◌<◌, Bool, true, false, if◌then◌else◌, List, [], ◌∷◌, ◌++◌, length, map, Option, Some, None, refl, sym, ap, subst, ◌∙◌, arith}
 use Rattle.std.specs.Prelude.{slice_get, slice_set}
 use Rattle.std.proofs.lemmas.List.{length-map}
-use Rattle.fr_base.specs.Lists.{last_of}
-use Rattle.fr_typing.specs.Kinds.{Kind, own, shared, mutable, view, whole, SetTest, join_kind}
-use Rattle.fr_typing.specs.Places.{Slot, Env}
-use Rattle.fr_typing.specs.Checks.{is_int, is_owned}
-use Rattle.fr_typing.proofs.PlaceLemmas.{eq_cases}
-use Rattle.fr_sound.specs.States.{env_at}
-use Rattle.fr_code.specs.Joins.{and_temp, join_temps}
-use Rattle.thread_state.specs.declared.value.Value.{Value}
-use Rattle.server_model.specs.Work.{front_of}
-use Rattle.heap_law.specs.Names.{other}
-use Rattle.event_law.proofs.Values.{last_split}
-use Rattle.fr_code.specs.CodeTypes.{Entry}
-use Rattle.thread_state.specs.View.{ThreadState}
+use Rattle.agree_law.specs.Below.fr_base.Lists.{last_of}
+use Rattle.agree_law.specs.Below.fr_typing.Kinds.{Kind, own, shared, mutable, view, whole, SetTest, join_kind}
+use Rattle.agree_law.specs.Below.fr_typing.Places.{Slot, Env}
+use Rattle.agree_law.specs.Below.fr_typing.Checks.{is_int, is_owned}
+use Rattle.agree_law.proofs.Below.fr_typing.PlaceLemmas.{eq_cases}
+use Rattle.agree_law.specs.Below.fr_sound.States.{env_at}
+use Rattle.agree_law.specs.Below.fr_code.Joins.{and_temp, join_temps}
+use Rattle.agree_law.specs.Below.thread_state.declared.value.Value.{Value}
+use Rattle.agree_law.specs.Below.server_model.Work.{front_of}
+use Rattle.agree_law.specs.Below.heap_law.Names.{other}
+use Rattle.agree_law.proofs.Below.event_law.Values.{last_split}
+use Rattle.agree_law.specs.Below.fr_code.CodeTypes.{Entry}
+use Rattle.agree_law.specs.Below.thread_state.View.{ThreadState}
 use Rattle.sorts_law.proofs.Parts.{Look, another, look_of, suits, suits_slot, suits_at, slot_other, kind_join}
-use Rattle.fr_base.specs.declared.name.ObjNo.{ObjNo}
+use Rattle.agree_law.specs.Below.fr_base.declared.name.ObjNo.{ObjNo}
 
 module _ (sees : ObjNo → Bool) where
   -- each slot's value suits it

@@ -2,14 +2,14 @@
 -- one leaves them as they are, and no code ends with such an instruction.
 use Rattle.std.proofs.Common.{◌≡◌, ℕ, zero, suc, ◌+◌, ◌≤◌, Bool, true, false, ◌&&◌, if◌then◌else◌, List, [], ◌∷◌, length, Option, Some, None, refl, sym, ap, ◌∙◌, arith}
 use Rattle.std.specs.Prelude.{slice_get}
-use Rattle.fr_base.specs.declared.instruction.Instr.{Instr}
-use Rattle.fr_base.specs.declared.instruction.Operand.{Operand}
-use Rattle.fr_typing.specs.Kinds.{Owned, unit, int, box, mutex, task, same_owned, Kind, own, shared, mutable, view, SetTest, union, join_kind}
-use Rattle.fr_typing.specs.Places.{alike}
-use Rattle.fr_typing.specs.Checks.{is_int}
-use Rattle.fr_code.specs.CodeTypes.{Entry, Table, wait, Takes, takes_const, takes_unit, takes_pop, InstrTypes, i_let, i_assign, i_copy, i_move, i_borrow, i_borrow_mut, i_box, i_arith, i_print, i_discard, i_drop, i_spawn, i_join, i_mutex, i_dup, i_lock, i_unlock, i_par, i_par_end}
-use Rattle.fr_code.specs.CodeTable.{Leads, to_next, ends, AllEnter, Successors, IsTable}
-use Rattle.fr_code.specs.Joins.{and_temp, join_temps, JoinsTo, alone, first, second}
+use Rattle.agree_law.specs.Below.fr_base.declared.instruction.Instr.{Instr}
+use Rattle.agree_law.specs.Below.fr_base.declared.instruction.Operand.{Operand}
+use Rattle.agree_law.specs.Below.fr_typing.Kinds.{Owned, unit, int, box, mutex, task, same_owned, Kind, own, shared, mutable, view, SetTest, union, join_kind}
+use Rattle.agree_law.specs.Below.fr_typing.Places.{alike}
+use Rattle.agree_law.specs.Below.fr_typing.Checks.{is_int}
+use Rattle.agree_law.specs.Below.fr_code.CodeTypes.{Entry, Table, wait, Takes, takes_const, takes_unit, takes_pop, InstrTypes, i_let, i_assign, i_copy, i_move, i_borrow, i_borrow_mut, i_box, i_arith, i_print, i_discard, i_drop, i_spawn, i_join, i_mutex, i_dup, i_lock, i_unlock, i_par, i_par_end}
+use Rattle.agree_law.specs.Below.fr_code.CodeTable.{Leads, to_next, ends, AllEnter, Successors, IsTable}
+use Rattle.agree_law.specs.Below.fr_code.Joins.{and_temp, join_temps, JoinsTo, alone, first, second}
 
 -- those below the top
 abbrev pub below_top : List Kind → List Kind

@@ -1,18 +1,18 @@
 -- A view leads to no slot of its own thread: its place starts at a slot of one that waits above the thread, and leads on to slots of those who wait above that one.
 use Rattle.std.proofs.Common.{◌≡◌, ◌⊎◌, inl, inr, ℕ, ◌<◌, Bool, Some, refl, sym, ap, subst, ◌∙◌, arith}
-use Rattle.fr_typing.specs.Kinds.{Owned as OwnedType}
-use Rattle.fr_store.specs.Keys.{Key, slot_k}
-use Rattle.fr_store.specs.Store.{at_key, ref_v, Store, Place}
-use Rattle.fr_store.specs.Typed.{Exact, refers, KeyTypes, Resolves, here, through}
-use Rattle.fr_store.specs.Below.{Seen}
-use Rattle.fr_store.proofs.Sound.{ref_at}
-use Rattle.fr_store.proofs.Chains.{unique}
-use Rattle.fr_sound.specs.States.{thread_of_key, IsNear, WaitsFor, WaitsAbove, directly, Typing}
-use Rattle.fr_sound.specs.States as states
-use Rattle.fr_code.specs.Machine.{CodeState}
-use Rattle.server_model.specs.Servers.{Cluster}
-use Rattle.heap_law.specs.OneHeap.{one_heap}
-use Rattle.typed_law.proofs.Following.{HasHeap, heap_of}
+use Rattle.agree_law.specs.Below.fr_typing.Kinds.{Owned as OwnedType}
+use Rattle.agree_law.specs.Below.fr_store.Keys.{Key, slot_k}
+use Rattle.agree_law.specs.Below.fr_store.Store.{at_key, ref_v, Store, Place}
+use Rattle.agree_law.specs.Below.fr_store.Typed.{Exact, refers, KeyTypes, Resolves, here, through}
+use Rattle.agree_law.specs.Below.fr_store.Below.{Seen}
+use Rattle.agree_law.proofs.Below.fr_store.Sound.{ref_at}
+use Rattle.agree_law.proofs.Below.fr_store.Chains.{unique}
+use Rattle.agree_law.specs.Below.fr_sound.States.{thread_of_key, IsNear, WaitsFor, WaitsAbove, directly, Typing}
+use Rattle.agree_law.specs.Below.fr_sound.States as states
+use Rattle.agree_law.specs.Below.fr_code.Machine.{CodeState}
+use Rattle.agree_law.specs.Below.server_model.Servers.{Cluster}
+use Rattle.agree_law.specs.Below.heap_law.OneHeap.{one_heap}
+use Rattle.state_law.proofs.Below.typed_law.Following.{HasHeap, heap_of}
 
 module _ (k : Cluster) (c : HasHeap k) where
   abbrev a : CodeState

@@ -3,63 +3,63 @@ use Rattle.std.proofs.Common.{◌≡◌, ◌≤◌, inl, inr, ℕ, zero, suc, �
 use Rattle.std.specs.Prelude.{slice_get, option_map}
 use Rattle.std.proofs.lemmas.List.{length-reverse, length-map}
 use Rattle.std.proofs.lemmas.Bool.{eq-eqb}
-use Rattle.fr_base.specs.Lists.{last_of}
-use Rattle.fr_base.specs.Rooms.{WithRoom}
-use Rattle.server_msgs.specs.declared.message.Message.{Message}
-use Rattle.fr_base.specs.declared.name.ObjNo.{ObjNo}
-use Rattle.fr_base.specs.declared.step.Fresh.{Fresh}
-use Rattle.fr_base.specs.declared.instruction.Instr.{Instr}
-use Rattle.fr_base.specs.declared.instruction.Instr.TheVariants as instr
-use Rattle.fr_typing.specs.Kinds.{Kind, own, shared, mutable, view, Piece, whole, gone, boxed}
-use Rattle.fr_typing.specs.Places.{Slot, Env}
-use Rattle.fr_typing.specs.Checks.{is_int}
-use Rattle.fr_sound.specs.States.{env_at, is_hidden, is_held}
-use Rattle.fr_code.specs.CodeTypes.{Entry, wait}
-use Rattle.fr_code.specs.CodeTable.{IsTable}
-use Rattle.thread_state.specs.View.{ThreadState, is_over, new_thread}
-use Rattle.thread_state.specs.declared.phase.Phase.{Phase}
-use Rattle.thread_state.specs.declared.phase.Phase.TheVariants as phase
-use Rattle.thread_state.specs.declared.value.Value.{Value}
-use Rattle.thread_state.specs.declared.value.Value.TheVariants as value
-use Rattle.journal.specs.View.{EntryView}
-use Rattle.server_model.specs.declared.event.Event.{Event}
-use Rattle.server_model.specs.declared.event.What.{What}
-use Rattle.server_model.specs.declared.event.What.TheVariants.{Step, Deliver, Evict, Migrate}
-use Rattle.server_model.specs.Servers.{Rest, Server, Cluster, server_at}
-use Rattle.server_model.specs.Work.{Hand, Site, thread_in, set_thread, then_some, beside_threads}
-use Rattle.server_model.specs.Start.{next_thread}
-use Rattle.server_model.specs.Moving.{migrate}
-use Rattle.server_model.specs.Events.{can_step, Stepped, enabled, begin_work, begin_at, left_by, deliver, evict_copy, step, step_in, stepped, does}
-use Rattle.server_model.specs.Clusters.{apply}
-use Rattle.heap_law.specs.Names.{tot, one, other, if_so, some, Among}
-use Rattle.heap_law.specs.Things.{things_of}
-use Rattle.heap_law.specs.Follow.{Standing, threads_in}
-use Rattle.heap_law.specs.Sight.{Sight, sight}
-use Rattle.heap_law.specs.OneHeap.{plain_value}
-use Rattle.type_law.specs.Names.{names_of}
-use Rattle.type_law.specs.ClusterTypes.{IsCoherent, entry_wrong, refers_to, parent_sees, unseen, unseen_slots, unseen_temps, views_wrong}
-use Rattle.path_law.specs.HeapStore.{GoesOn}
-use Rattle.path_law.proofs.Shown.{at_behind, behind_is}
-use Rattle.path_law.proofs.Sole.{some_is}
-use Rattle.event_law.specs.Laws.{Gives, FewEvents}
-use Rattle.event_law.proofs.Results.{map_gives, over_gives, both_give, weaker}
-use Rattle.event_law.proofs.Bags.{thread_number}
-use Rattle.event_law.proofs.KnownSound.{on_standing, sum_standing}
-use Rattle.local_law.proofs.Mail.{Mailed, StartsAt, BeginsBy, step_tells}
-use Rattle.local_law.proofs.Goes.{Goes, thread_goes}
-use Rattle.local_law.proofs.Threads.{Parcel}
-use Rattle.local_law.proofs.Handed.{InParcel}
+use Rattle.agree_law.specs.Below.fr_base.Lists.{last_of}
+use Rattle.agree_law.specs.Below.fr_base.Rooms.{WithRoom}
+use Rattle.agree_law.specs.Below.server_msgs.declared.message.Message.{Message}
+use Rattle.agree_law.specs.Below.fr_base.declared.name.ObjNo.{ObjNo}
+use Rattle.agree_law.specs.Below.fr_base.declared.step.Fresh.{Fresh}
+use Rattle.agree_law.specs.Below.fr_base.declared.instruction.Instr.{Instr}
+use Rattle.agree_law.specs.Below.fr_base.declared.instruction.Instr.TheVariants as instr
+use Rattle.agree_law.specs.Below.fr_typing.Kinds.{Kind, own, shared, mutable, view, Piece, whole, gone, boxed}
+use Rattle.agree_law.specs.Below.fr_typing.Places.{Slot, Env}
+use Rattle.agree_law.specs.Below.fr_typing.Checks.{is_int}
+use Rattle.agree_law.specs.Below.fr_sound.States.{env_at, is_hidden, is_held}
+use Rattle.agree_law.specs.Below.fr_code.CodeTypes.{Entry, wait}
+use Rattle.agree_law.specs.Below.fr_code.CodeTable.{IsTable}
+use Rattle.agree_law.specs.Below.thread_state.View.{ThreadState, is_over, new_thread}
+use Rattle.agree_law.specs.Below.thread_state.declared.phase.Phase.{Phase}
+use Rattle.agree_law.specs.Below.thread_state.declared.phase.Phase.TheVariants as phase
+use Rattle.agree_law.specs.Below.thread_state.declared.value.Value.{Value}
+use Rattle.agree_law.specs.Below.thread_state.declared.value.Value.TheVariants as value
+use Rattle.agree_law.specs.Below.journal.View.{EntryView}
+use Rattle.agree_law.specs.Below.server_model.declared.event.Event.{Event}
+use Rattle.agree_law.specs.Below.server_model.declared.event.What.{What}
+use Rattle.agree_law.specs.Below.server_model.declared.event.What.TheVariants.{Step, Deliver, Evict, Migrate}
+use Rattle.agree_law.specs.Below.server_model.Servers.{Rest, Server, Cluster, server_at}
+use Rattle.agree_law.specs.Below.server_model.Work.{Hand, Site, thread_in, set_thread, then_some, beside_threads}
+use Rattle.agree_law.specs.Below.server_model.Start.{next_thread}
+use Rattle.agree_law.specs.Below.server_model.Moving.{migrate}
+use Rattle.agree_law.specs.Below.server_model.Events.{can_step, Stepped, enabled, begin_work, begin_at, left_by, deliver, evict_copy, step, step_in, stepped, does}
+use Rattle.agree_law.specs.Below.server_model.Clusters.{apply}
+use Rattle.agree_law.specs.Below.heap_law.Names.{tot, one, other, if_so, some, Among}
+use Rattle.agree_law.specs.Below.heap_law.Things.{things_of}
+use Rattle.agree_law.specs.Below.heap_law.Follow.{Standing, threads_in}
+use Rattle.agree_law.specs.Below.heap_law.Sight.{Sight, sight}
+use Rattle.agree_law.specs.Below.heap_law.OneHeap.{plain_value}
+use Rattle.agree_law.specs.Below.type_law.Names.{names_of}
+use Rattle.agree_law.specs.Below.type_law.ClusterTypes.{IsCoherent, entry_wrong, refers_to, parent_sees, unseen, unseen_slots, unseen_temps, views_wrong}
+use Rattle.state_law.specs.Below.path_law.HeapStore.{GoesOn}
+use Rattle.state_law.proofs.Below.path_law.Shown.{at_behind, behind_is}
+use Rattle.state_law.proofs.Below.path_law.Sole.{some_is}
+use Rattle.agree_law.specs.Below.event_law.Laws.{Gives, FewEvents}
+use Rattle.agree_law.proofs.Below.event_law.Results.{map_gives, over_gives, both_give, weaker}
+use Rattle.agree_law.proofs.Below.event_law.Bags.{thread_number}
+use Rattle.agree_law.proofs.Below.event_law.KnownSound.{on_standing, sum_standing}
+use Rattle.agree_law.proofs.Below.local_law.Mail.{Mailed, StartsAt, BeginsBy, step_tells}
+use Rattle.agree_law.proofs.Below.local_law.Goes.{Goes, thread_goes}
+use Rattle.agree_law.proofs.Below.local_law.Threads.{Parcel}
+use Rattle.agree_law.proofs.Below.local_law.Handed.{InParcel}
 use Rattle.agree_law.proofs.Lifted.{lifted}
-use Rattle.frame_law.specs.Threads.{TypesThreads}
-use Rattle.frame_law.proofs.Undone.{undone_keep}
-use Rattle.typed_law.specs.Counted.{HasNumbers}
-use Rattle.typed_law.proofs.Following.{HasHeap}
-use Rattle.typed_law.proofs.Values.{running, held_shown}
-use Rattle.typed_law.proofs.Leads.{each_none, to_other}
-use Rattle.typed_law.proofs.Forms.{within_env, newest, older}
+use Rattle.agree_law.specs.Below.frame_law.Threads.{TypesThreads}
+use Rattle.agree_law.proofs.Below.frame_law.Undone.{undone_keep}
+use Rattle.state_law.specs.Below.typed_law.Counted.{HasNumbers}
+use Rattle.state_law.proofs.Below.typed_law.Following.{HasHeap}
+use Rattle.state_law.proofs.Below.typed_law.Values.{running, held_shown}
+use Rattle.state_law.proofs.Below.typed_law.Leads.{each_none, to_other}
+use Rattle.state_law.proofs.Below.typed_law.Forms.{within_env, newest, older}
 use Rattle.state_law.specs.States.{HeapTyped}
 use Rattle.state_law.proofs.States.{events_keep}
-use Rattle.result_law.proofs.Known.{Steps, able}
+use Rattle.state_law.proofs.Below.result_law.Known.{Steps, able}
 use Rattle.sorts_law.specs.Sorts.{EventsKeepViews}
 use Rattle.sorts_law.proofs.Tables.{LowInts, low_ints}
 use Rattle.sorts_law.proofs.Parts.{look_of, seen_view, suits, suits_named, suits_slot, suits_at}

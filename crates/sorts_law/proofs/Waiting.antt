@@ -1,32 +1,32 @@
 -- Who waits for a pair goes on to wait, with the slots that it has, where another thread steps.
 use Rattle.std.proofs.Common.{◌≡◌, ◌≤◌, ℕ, ◌+◌, ◌==◌, ◌||◌, Bool, true, false, List, [], ◌∷◌, length, take, drop, Some, refl, ap, ◌∙◌, arith}
-use Rattle.fr_base.specs.declared.name.ObjNo.{ObjNo}
-use Rattle.thread_state.specs.View.{ThreadState}
-use Rattle.thread_state.specs.declared.phase.Phase.{Phase}
-use Rattle.thread_state.specs.declared.phase.Phase.TheVariants as phase
-use Rattle.journal.specs.View.{EntryView}
-use Rattle.server_msgs.specs.declared.message.Message.{Message}
-use Rattle.server_msgs.specs.declared.message.Message.TheVariants as message
-use Rattle.server_model.specs.declared.event.Event.{Event}
-use Rattle.server_model.specs.Servers.{Sent, Server, Cluster, server_at}
-use Rattle.server_model.specs.Events.{is_ready, enabled, does}
-use Rattle.server_model.specs.Clusters.{with_server, done_at, apply}
-use Rattle.heap_law.specs.Names.{tot, other, if_so}
-use Rattle.heap_law.specs.Things.{Thing, stands, things_at, message_things, standing_things, waiting_things, leaving_things, server_things, things_of}
-use Rattle.heap_law.specs.Follow.{Standing}
-use Rattle.heap_law.specs.Sight.{sight}
-use Rattle.heap_law.specs.Walking.{busy_parcel}
-use Rattle.heap_law.specs.Coherent.{IsSound}
-use Rattle.heap_law.proofs.Sums.{tot-append}
-use Rattle.type_law.specs.ClusterTypes.{refers_to, parent_sees}
-use Rattle.event_law.specs.Laws.{Gives, GoTo, FewEvents}
-use Rattle.event_law.proofs.Results.{then_gives, over_gives, both_give, test_gives}
-use Rattle.event_law.proofs.Events.{tot-server}
-use Rattle.event_law.proofs.Applied.{go_with}
-use Rattle.event_law.proofs.Handing.{hand_over_newer_law}
-use Rattle.event_law.proofs.Sending.{each_event_sends}
-use Rattle.event_law.proofs.KnownSound.{on_standing, sum_standing}
-use Rattle.event_law.proofs.Unseen.{Unseen, Unnoted, thread_alone, seen_of}
+use Rattle.agree_law.specs.Below.fr_base.declared.name.ObjNo.{ObjNo}
+use Rattle.agree_law.specs.Below.thread_state.View.{ThreadState}
+use Rattle.agree_law.specs.Below.thread_state.declared.phase.Phase.{Phase}
+use Rattle.agree_law.specs.Below.thread_state.declared.phase.Phase.TheVariants as phase
+use Rattle.agree_law.specs.Below.journal.View.{EntryView}
+use Rattle.agree_law.specs.Below.server_msgs.declared.message.Message.{Message}
+use Rattle.agree_law.specs.Below.server_msgs.declared.message.Message.TheVariants as message
+use Rattle.agree_law.specs.Below.server_model.declared.event.Event.{Event}
+use Rattle.agree_law.specs.Below.server_model.Servers.{Sent, Server, Cluster, server_at}
+use Rattle.agree_law.specs.Below.server_model.Events.{is_ready, enabled, does}
+use Rattle.agree_law.specs.Below.server_model.Clusters.{with_server, done_at, apply}
+use Rattle.agree_law.specs.Below.heap_law.Names.{tot, other, if_so}
+use Rattle.agree_law.specs.Below.heap_law.Things.{Thing, stands, things_at, message_things, standing_things, waiting_things, leaving_things, server_things, things_of}
+use Rattle.agree_law.specs.Below.heap_law.Follow.{Standing}
+use Rattle.agree_law.specs.Below.heap_law.Sight.{sight}
+use Rattle.agree_law.specs.Below.heap_law.Walking.{busy_parcel}
+use Rattle.agree_law.specs.Below.heap_law.Coherent.{IsSound}
+use Rattle.agree_law.proofs.Below.heap_law.Sums.{tot-append}
+use Rattle.agree_law.specs.Below.type_law.ClusterTypes.{refers_to, parent_sees}
+use Rattle.agree_law.specs.Below.event_law.Laws.{Gives, GoTo, FewEvents}
+use Rattle.agree_law.proofs.Below.event_law.Results.{then_gives, over_gives, both_give, test_gives}
+use Rattle.agree_law.proofs.Below.event_law.Events.{tot-server}
+use Rattle.agree_law.proofs.Below.event_law.Applied.{go_with}
+use Rattle.agree_law.proofs.Below.event_law.Handing.{hand_over_newer_law}
+use Rattle.agree_law.proofs.Below.event_law.Sending.{each_event_sends}
+use Rattle.agree_law.proofs.Below.event_law.KnownSound.{on_standing, sum_standing}
+use Rattle.agree_law.proofs.Below.event_law.Unseen.{Unseen, Unnoted, thread_alone, seen_of}
 
 -- LIFTING
 

@@ -1,13 +1,13 @@
 -- SORTS of values, and VIEWS, after each event (this project's rule): what of types the one heap doesn't tell.
 use Rattle.std.specs.Prelude.{◌≡◌}
-use Rattle.journal.specs.View.{EntryView}
-use Rattle.server_model.specs.declared.event.Event.{Event}
-use Rattle.server_model.specs.Servers.{Cluster}
-use Rattle.server_model.specs.Clusters.{apply}
-use Rattle.heap_law.specs.Sight.{sight}
-use Rattle.event_law.specs.Laws.{Gives, FewEvents}
-use Rattle.type_law.specs.ClusterTypes.{IsCoherent, views_wrong}
-use Rattle.typed_law.specs.Counted.{sorts_wrong}
+use Rattle.agree_law.specs.Below.journal.View.{EntryView}
+use Rattle.agree_law.specs.Below.server_model.declared.event.Event.{Event}
+use Rattle.agree_law.specs.Below.server_model.Servers.{Cluster}
+use Rattle.agree_law.specs.Below.server_model.Clusters.{apply}
+use Rattle.agree_law.specs.Below.heap_law.Sight.{sight}
+use Rattle.agree_law.specs.Below.event_law.Laws.{Gives, FewEvents}
+use Rattle.agree_law.specs.Below.type_law.ClusterTypes.{IsCoherent, views_wrong}
+use Rattle.state_law.specs.Below.typed_law.Counted.{sorts_wrong}
 
 -- each event of a coherent cluster, in which few were done, leaves one in which each slot and temporary value of a thread that isn't over has the sort that the
 -- same table gives at its instruction

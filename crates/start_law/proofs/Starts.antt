@@ -1,41 +1,41 @@
 -- The start of a run is coherent: no server has anything but its counts, which are 0, and main at the first of them.
 use Rattle.std.proofs.Common.{◌≡◌, ℕ, zero, suc, ◌+◌, ◌*◌, ◌==◌, ◌&&◌, nat_lt, ◌≤◌, Bool, true, false, List, [], ◌∷◌, ◌++◌, length, Option, Some, None, refl, sym, ap, ap₂, ◌∙◌, arith, nat_le, slice_get}
-use Rattle.fr_base.specs.declared.instruction.Instr.{Instr}
-use Rattle.fr_base.specs.declared.settings.Options.{Options}
-use Rattle.server_model.specs.Servers.{Cluster, start_of, main_thread, with_main, empty_server, empty_servers}
-use Rattle.fr_base.specs.declared.instruction.Instr.TheVariants as instr
-use Rattle.fr_typing.specs.Kinds.{Owned}
-use Rattle.fr_code.specs.CodeTypes.{Entry, Table, going, InstrTypes, i_par_end}
-use Rattle.fr_code.specs.CodeTable.{IsTable, Leads, to_next, Successors}
-use Rattle.heap_law.specs.Names.{tot, one, other, some, if_so}
-use Rattle.heap_law.specs.Things.{Location, Thing, counts, stands, servers_things, things_of}
-use Rattle.heap_law.specs.Follow.{Standing, Ground, threads_in, cells_in, ground_of}
-use Rattle.heap_law.specs.Stale.{references, stale_rounds}
-use Rattle.heap_law.specs.Sight.{Sight, sight, issued, pointers_in, dirty_objects, fresh_ones, with_stale, with_ground}
-use Rattle.heap_law.specs.Naming.{options_out, between, above, not_made, threads, named_mutexes, uncounted_thread, uncounted_mutex, started_at, zeroth_thread, zeroth_mutex, events_of, many_names, large_counts, is_retired, server_wrong, servers_wrong, long_holder}
-use Rattle.fr_base.specs.declared.place.Lval.{Lval}
-use Rattle.thread_state.specs.declared.value.Value.{Value}
-use Rattle.global_addr.specs.Words.{colour_of}
-use Rattle.heap_law.specs.Paths.{written_place}
-use Rattle.heap_law.specs.Placing.{sum_over, words, next_colours, other_spot, other_first, shared_words, not_alone, first_again, standing_in, other_copy, unclean}
-use Rattle.heap_law.specs.Walking.{sum_threads, instr_of, path, over_place, away, copied_box, stale_hop, hop_count, too_far, is_join, walks_at_join, own_request}
-use Rattle.heap_law.specs.Ranks.{Step, steps_of, endless}
-use Rattle.heap_law.specs.Weights.{cells, owners, states, uses_of, users_of, is_home_of, shares_of, shares_at_home, tasks_of, is_thread}
-use Rattle.heap_law.specs.Requests.{halves_to, halves_needed, carries, misrouted, lost, other_asker, not_there, pair_notes, pair_places, same_truth, is_par_end, par_end}
-use Rattle.heap_law.specs.Sharing.{mutexes, there_at, elsewhere, contents, loose_mark, queued_inside, kept_for_none, going_notes, goes_on, noted_away, owed, results}
-use Rattle.heap_law.specs.Rooted.{ownings, ownings_of, parents, parents_of, other_result}
-use Rattle.heap_law.specs.OneHeap.{same_node}
-use Rattle.heap_law.specs.Coherent.{Sentence, are_issued, below_limit, same_word, lead_home, first_at_holder, different_words, dirty_alone, firsts_are_past, copies_agree, served_are_clean, passed_lie_here, passed_not_copied, passed_not_stale, passed_in_a_walk, passed_within, walk_empty, join_walks_nothing, parcels_ready, place_followed, waits_in_turn, asks_others, carry_what_is_asked, go_right, return_right, askers_stand, objects_there, phases_stand, par_ends, pairs_go_on, taken_stands, taken_is_new, gifts_got, gifts_fit, named_are_there, at_their_home, marks_in_slots, queue_while_out, content_without_shares, thread_homes, noted_at_home, pairs_unnamed, over_are_bare, branches_give_unit, objects_made, names_counted, counts_from_one, few_names, counts_bounded, parts_are_typed, holders_short, breaches_in, Holds, OneHome, OneOwner, Words, Copies, Walks, Users, Requests, MutexesAndTasks, Rooted, Names, Parts, IsSound}
+use Rattle.type_law.specs.Below.fr_base.declared.instruction.Instr.{Instr}
+use Rattle.type_law.specs.Below.fr_base.declared.settings.Options.{Options}
+use Rattle.type_law.specs.Below.server_model.Servers.{Cluster, start_of, main_thread, with_main, empty_server, empty_servers}
+use Rattle.type_law.specs.Below.fr_base.declared.instruction.Instr.TheVariants as instr
+use Rattle.type_law.specs.Below.fr_typing.Kinds.{Owned}
+use Rattle.type_law.specs.Below.fr_code.CodeTypes.{Entry, Table, going, InstrTypes, i_par_end}
+use Rattle.type_law.specs.Below.fr_code.CodeTable.{IsTable, Leads, to_next, Successors}
+use Rattle.type_law.specs.Below.heap_law.Names.{tot, one, other, some, if_so}
+use Rattle.type_law.specs.Below.heap_law.Things.{Location, Thing, counts, stands, servers_things, things_of}
+use Rattle.type_law.specs.Below.heap_law.Follow.{Standing, Ground, threads_in, cells_in, ground_of}
+use Rattle.type_law.specs.Below.heap_law.Stale.{references, stale_rounds}
+use Rattle.type_law.specs.Below.heap_law.Sight.{Sight, sight, issued, pointers_in, dirty_objects, fresh_ones, with_stale, with_ground}
+use Rattle.type_law.specs.Below.heap_law.Naming.{options_out, between, above, not_made, threads, named_mutexes, uncounted_thread, uncounted_mutex, started_at, zeroth_thread, zeroth_mutex, events_of, many_names, large_counts, is_retired, server_wrong, servers_wrong, long_holder}
+use Rattle.type_law.specs.Below.fr_base.declared.place.Lval.{Lval}
+use Rattle.type_law.specs.Below.thread_state.declared.value.Value.{Value}
+use Rattle.type_law.specs.Below.global_addr.Words.{colour_of}
+use Rattle.type_law.specs.Below.heap_law.Paths.{written_place}
+use Rattle.type_law.specs.Below.heap_law.Placing.{sum_over, words, next_colours, other_spot, other_first, shared_words, not_alone, first_again, standing_in, other_copy, unclean}
+use Rattle.type_law.specs.Below.heap_law.Walking.{sum_threads, instr_of, path, over_place, away, copied_box, stale_hop, hop_count, too_far, is_join, walks_at_join, own_request}
+use Rattle.type_law.specs.Below.heap_law.Ranks.{Step, steps_of, endless}
+use Rattle.type_law.specs.Below.heap_law.Weights.{cells, owners, states, uses_of, users_of, is_home_of, shares_of, shares_at_home, tasks_of, is_thread}
+use Rattle.type_law.specs.Below.heap_law.Requests.{halves_to, halves_needed, carries, misrouted, lost, other_asker, not_there, pair_notes, pair_places, same_truth, is_par_end, par_end}
+use Rattle.type_law.specs.Below.heap_law.Sharing.{mutexes, there_at, elsewhere, contents, loose_mark, queued_inside, kept_for_none, going_notes, goes_on, noted_away, owed, results}
+use Rattle.type_law.specs.Below.heap_law.Rooted.{ownings, ownings_of, parents, parents_of, other_result}
+use Rattle.type_law.specs.Below.heap_law.OneHeap.{same_node}
+use Rattle.type_law.specs.Below.heap_law.Coherent.{Sentence, are_issued, below_limit, same_word, lead_home, first_at_holder, different_words, dirty_alone, firsts_are_past, copies_agree, served_are_clean, passed_lie_here, passed_not_copied, passed_not_stale, passed_in_a_walk, passed_within, walk_empty, join_walks_nothing, parcels_ready, place_followed, waits_in_turn, asks_others, carry_what_is_asked, go_right, return_right, askers_stand, objects_there, phases_stand, par_ends, pairs_go_on, taken_stands, taken_is_new, gifts_got, gifts_fit, named_are_there, at_their_home, marks_in_slots, queue_while_out, content_without_shares, thread_homes, noted_at_home, pairs_unnamed, over_are_bare, branches_give_unit, objects_made, names_counted, counts_from_one, few_names, counts_bounded, parts_are_typed, holders_short, breaches_in, Holds, OneHome, OneOwner, Words, Copies, Walks, Users, Requests, MutexesAndTasks, Rooted, Names, Parts, IsSound}
 use Rattle.std.proofs.lemmas.Bool.{leb-true, eq-eqb}
 use Rattle.std.proofs.lemmas.Bool.Decides.{nat_tests}
-use Rattle.heap_law.proofs.Names.{and_left}
-use Rattle.heap_law.proofs.Words.{words_law}
-use Rattle.heap_law.proofs.Dirty.{dirty_law}
-use Rattle.heap_law.proofs.Past.{past_law}
-use Rattle.heap_law.proofs.Passing.{passed_law}
-use Rattle.heap_law.proofs.Followed.{followed_law}
-use Rattle.heap_law.proofs.Turn.{turn_law}
-use Rattle.heap_law.proofs.Ranks.{node_ends, number_ends}
+use Rattle.type_law.proofs.Below.heap_law.Names.{and_left}
+use Rattle.type_law.proofs.Below.heap_law.Words.{words_law}
+use Rattle.type_law.proofs.Below.heap_law.Dirty.{dirty_law}
+use Rattle.type_law.proofs.Below.heap_law.Past.{past_law}
+use Rattle.type_law.proofs.Below.heap_law.Passing.{passed_law}
+use Rattle.type_law.proofs.Below.heap_law.Followed.{followed_law}
+use Rattle.type_law.proofs.Below.heap_law.Turn.{turn_law}
+use Rattle.type_law.proofs.Below.heap_law.Ranks.{node_ends, number_ends}
 use Rattle.type_law.specs.Typed.{StartHasTypes}
 use Rattle.start_law.specs.Starts.{StartsAreCoherent}
 

@@ -1,11 +1,11 @@
 -- The start of a run is coherent.
 use Rattle.std.specs.Prelude.{◌≡◌, List}
-use Rattle.fr_base.specs.declared.instruction.Instr.{Instr}
-use Rattle.fr_base.specs.declared.settings.Options.{Options}
-use Rattle.server_model.specs.Servers.{start_of}
-use Rattle.fr_code.specs.CodeTypes.{Table}
-use Rattle.fr_code.specs.CodeTable.{IsTable}
-use Rattle.heap_law.specs.Naming.{options_out}
+use Rattle.type_law.specs.Below.fr_base.declared.instruction.Instr.{Instr}
+use Rattle.type_law.specs.Below.fr_base.declared.settings.Options.{Options}
+use Rattle.type_law.specs.Below.server_model.Servers.{start_of}
+use Rattle.type_law.specs.Below.fr_code.CodeTypes.{Table}
+use Rattle.type_law.specs.Below.fr_code.CodeTable.{IsTable}
+use Rattle.type_law.specs.Below.heap_law.Naming.{options_out}
 use Rattle.type_law.specs.ClusterTypes.{IsCoherent}
 
 -- that of each code that has a table, with options in their ranges

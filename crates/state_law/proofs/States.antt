@@ -1,27 +1,27 @@
 -- Each event leaves a cluster whose one heap is typed: one plain step keeps types, and else it is as it was.
 use Rattle.std.proofs.Common.{◌≡◌, ℕ, length, option_map, Option, Some, None, refl, sym, ap₂, subst, ◌∙◌}
 use Rattle.std.proofs.Math.Path.{fun_ext}
-use Rattle.fr_base.specs.declared.step.Fresh.{Fresh}
-use Rattle.fr_plain.specs.PlainState.{SameState, plain_state}
-use Rattle.fr_code.specs.CodeTable.{IsTable}
-use Rattle.fr_code.specs.Machine.{CodeState}
-use Rattle.fr_code.specs.TableStates.{CodeStateTypes}
-use Rattle.plain_types.proofs.Done.{names_stay}
+use Rattle.typed_law.specs.Below.fr_base.declared.step.Fresh.{Fresh}
+use Rattle.typed_law.specs.Below.fr_plain.PlainState.{SameState, plain_state}
+use Rattle.typed_law.specs.Below.fr_code.CodeTable.{IsTable}
+use Rattle.typed_law.specs.Below.fr_code.Machine.{CodeState}
+use Rattle.typed_law.specs.Below.fr_code.TableStates.{CodeStateTypes}
+use Rattle.typed_law.proofs.Below.plain_types.Done.{names_stay}
 use Rattle.step_types.proofs.CodeSteps.{shown_steps_keep_types}
-use Rattle.journal.specs.View.{EntryView}
-use Rattle.server_model.specs.declared.event.Event.{Event}
-use Rattle.server_model.specs.Servers.{Server, Cluster, server_at}
-use Rattle.server_model.specs.Work.{then_some}
-use Rattle.server_model.specs.Clusters.{hand_over_newer, done_at, apply}
-use Rattle.heap_law.specs.Coherent.{Holds, names_counted, counts_from_one, over_are_bare}
-use Rattle.heap_law.specs.OneHeap.{one_heap}
-use Rattle.type_law.specs.ClusterTypes.{IsCoherent}
-use Rattle.event_law.specs.Laws.{Gives, FewEvents, NumbersDiffer}
-use Rattle.event_law.proofs.Results.{map_gives, both_give, weaker}
-use Rattle.event_law.proofs.Sending.{applied_part}
-use Rattle.local_law.proofs.Bare.{bare_kept}
+use Rattle.typed_law.specs.Below.journal.View.{EntryView}
+use Rattle.typed_law.specs.Below.server_model.declared.event.Event.{Event}
+use Rattle.typed_law.specs.Below.server_model.Servers.{Server, Cluster, server_at}
+use Rattle.typed_law.specs.Below.server_model.Work.{then_some}
+use Rattle.typed_law.specs.Below.server_model.Clusters.{hand_over_newer, done_at, apply}
+use Rattle.typed_law.specs.Below.heap_law.Coherent.{Holds, names_counted, counts_from_one, over_are_bare}
+use Rattle.typed_law.specs.Below.heap_law.OneHeap.{one_heap}
+use Rattle.typed_law.specs.Below.type_law.ClusterTypes.{IsCoherent}
+use Rattle.value_law.specs.Below.event_law.Laws.{Gives, FewEvents, NumbersDiffer}
+use Rattle.value_law.proofs.Below.event_law.Results.{map_gives, both_give, weaker}
+use Rattle.value_law.proofs.Below.event_law.Sending.{applied_part}
+use Rattle.value_law.proofs.Below.local_law.Bare.{bare_kept}
 use Rattle.value_law.proofs.Sentences.{names_kept, counts_kept}
-use Rattle.turn_law.specs.Turns.{StepsTo}
+use Rattle.assign_law.specs.Below.turn_law.Turns.{StepsTo}
 use Rattle.assign_law.specs.Every.{IsStepOrStill}
 use Rattle.assign_law.proofs.Every.{each_is}
 use Rattle.typed_law.specs.Counted.{HasNumbers}

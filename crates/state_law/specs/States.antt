@@ -1,23 +1,23 @@
 -- THE TYPES OF THE ONE HEAP after each event (this project's rule).
 use Rattle.std.specs.Prelude.{◌≡◌, ℕ, Some, None}
-use Rattle.fr_base.specs.declared.step.Fresh.{Fresh}
-use Rattle.fr_store.specs.Typed.{KeyTypes}
-use Rattle.fr_plain.specs.PlainState.{SameState, plain_state}
-use Rattle.fr_sound.specs.States.{Typing}
-use Rattle.fr_code.specs.Steps.{code_moves}
-use Rattle.fr_code.specs.Machine.{CodeWhole}
-use Rattle.plain_types.specs.Keeps.{KeepsNames}
+use Rattle.typed_law.specs.Below.fr_base.declared.step.Fresh.{Fresh}
+use Rattle.typed_law.specs.Below.fr_store.Typed.{KeyTypes}
+use Rattle.typed_law.specs.Below.fr_plain.PlainState.{SameState, plain_state}
+use Rattle.typed_law.specs.Below.fr_sound.States.{Typing}
+use Rattle.typed_law.specs.Below.fr_code.Steps.{code_moves}
+use Rattle.typed_law.specs.Below.fr_code.Machine.{CodeWhole}
+use Rattle.typed_law.specs.Below.plain_types.Keeps.{KeepsNames}
 use Rattle.step_types.specs.Machines.{ReferencesKept}
-use Rattle.fr_code.specs.CodeTypes.{Table}
-use Rattle.fr_code.specs.CodeTable.{IsTable}
-use Rattle.fr_code.specs.TableStates.{CodeStateTypes}
-use Rattle.journal.specs.View.{EntryView}
-use Rattle.server_model.specs.declared.event.Event.{Event}
-use Rattle.server_model.specs.Servers.{Cluster}
-use Rattle.server_model.specs.Clusters.{apply}
-use Rattle.heap_law.specs.OneHeap.{one_heap}
-use Rattle.type_law.specs.ClusterTypes.{IsCoherent}
-use Rattle.event_law.specs.Laws.{Gives, FewEvents}
+use Rattle.typed_law.specs.Below.fr_code.CodeTypes.{Table}
+use Rattle.typed_law.specs.Below.fr_code.CodeTable.{IsTable}
+use Rattle.typed_law.specs.Below.fr_code.TableStates.{CodeStateTypes}
+use Rattle.typed_law.specs.Below.journal.View.{EntryView}
+use Rattle.typed_law.specs.Below.server_model.declared.event.Event.{Event}
+use Rattle.typed_law.specs.Below.server_model.Servers.{Cluster}
+use Rattle.typed_law.specs.Below.server_model.Clusters.{apply}
+use Rattle.typed_law.specs.Below.heap_law.OneHeap.{one_heap}
+use Rattle.typed_law.specs.Below.type_law.ClusterTypes.{IsCoherent}
+use Rattle.value_law.specs.Below.event_law.Laws.{Gives, FewEvents}
 use Rattle.typed_law.specs.Counted.{CountsFollow}
 
 -- the plain step of the entry's thread leaves mutable references the exact types that they had, as the act of its move takes them

@@ -1,15 +1,15 @@
 -- Lists of things in which words see the same: the same threads, cells and pointers, in whatever order.
 use Rattle.std.proofs.Common.{◌≡◌, inl, inr, ⊎_elim, ℕ, Bool, List, [], ◌∷◌, ◌++◌, Some, None, refl, subst, ◌∙◌}
 use Rattle.std.specs.Prelude.{slice_get}
-use Rattle.fr_base.specs.declared.instruction.Instr.{Instr}
-use Rattle.heap_partition.specs.declared.value.Cell.{Cell}
-use Rattle.thread_state.specs.View.{ThreadState}
-use Rattle.thread_state.specs.declared.value.Value.TheVariants as value
-use Rattle.heap_law.specs.Names.{Among}
-use Rattle.heap_law.specs.Things.{in_cell, Thing, lies, flies, stands}
-use Rattle.heap_law.specs.Sight.{Pointer, pointers_of}
-use Rattle.heap_law.specs.Placing.{standing_of, standing_in}
-use Rattle.heap_law.proofs.Bags.{among_split}
+use Rattle.event_law.specs.Below.fr_base.declared.instruction.Instr.{Instr}
+use Rattle.event_law.specs.Below.heap_partition.declared.value.Cell.{Cell}
+use Rattle.event_law.specs.Below.thread_state.View.{ThreadState}
+use Rattle.event_law.specs.Below.thread_state.declared.value.Value.TheVariants as value
+use Rattle.event_law.specs.Below.heap_law.Names.{Among}
+use Rattle.event_law.specs.Below.heap_law.Things.{in_cell, Thing, lies, flies, stands}
+use Rattle.event_law.specs.Below.heap_law.Sight.{Pointer, pointers_of}
+use Rattle.event_law.specs.Below.heap_law.Placing.{standing_of, standing_in}
+use Rattle.event_law.proofs.Below.heap_law.Bags.{among_split}
 use Rattle.word_law.proofs.Below.path_law.Origins.{among_first, among_second}
 use Rattle.word_law.specs.Unmoved.{pointing, owning, taking_by}
 use Rattle.word_law.proofs.Standing.{standing_among}

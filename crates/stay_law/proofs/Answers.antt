@@ -1,25 +1,25 @@
 -- What an answer changes of its thread, and that a thread comes or leaves, where words see nothing of it.
 use Rattle.std.proofs.Common.{◌≡◌, ℕ, Bool, true, false, List, [], ◌∷◌, ◌++◌, Option, Some, None, refl, sym, ap, subst}
-use Rattle.fr_base.specs.declared.instruction.Instr.{Instr}
-use Rattle.fr_base.specs.declared.name.MutexNo.{MutexNo}
-use Rattle.heap_partition.specs.declared.value.Cell.{Cell}
-use Rattle.heap_partition.specs.declared.value.Owned.{Owned}
-use Rattle.heap_partition.specs.declared.value.Owned.TheVariants as owned
-use Rattle.read_cache.specs.Cache.{Copy, can_evict, can_fill, can_pin, evict, fill, pin}
-use Rattle.journal.specs.declared.act.Act.TheVariants as act
-use Rattle.thread_state.specs.View.{ThreadState}
-use Rattle.thread_state.specs.declared.phase.Phase.TheVariants as phase
-use Rattle.migration.specs.Packing.{pack_thread, packed, unpin_all, used_words}
-use Rattle.server_msgs.specs.declared.message.Message.TheVariants as message
-use Rattle.server_model.specs.Servers.{Rest}
-use Rattle.server_model.specs.Work.{Work, Hand, Site, note, working, with_cache, with_phase, used_once, beside_threads, thread_in, without_thread}
-use Rattle.server_model.specs.Objects.{deliver_fetched, waits_for_cell, filled}
-use Rattle.server_model.specs.Sharing.{given, deliver_granted, deliver_dupped, waits_for_lock, waits_for_dup}
-use Rattle.server_model.specs.Joining.{deliver_joined, waits_for_join, arrive}
-use Rattle.server_model.specs.Moving.{migrate, depart}
-use Rattle.server_model.specs.Events.{evict_copy}
-use Rattle.heap_law.specs.Names.{is_in}
-use Rattle.heap_law.specs.Things.{in_hand, holds, sent, Thing, message_things, thread_things}
+use Rattle.event_law.specs.Below.fr_base.declared.instruction.Instr.{Instr}
+use Rattle.event_law.specs.Below.fr_base.declared.name.MutexNo.{MutexNo}
+use Rattle.event_law.specs.Below.heap_partition.declared.value.Cell.{Cell}
+use Rattle.event_law.specs.Below.heap_partition.declared.value.Owned.{Owned}
+use Rattle.event_law.specs.Below.heap_partition.declared.value.Owned.TheVariants as owned
+use Rattle.event_law.specs.Below.read_cache.Cache.{Copy, can_evict, can_fill, can_pin, evict, fill, pin}
+use Rattle.event_law.specs.Below.journal.declared.act.Act.TheVariants as act
+use Rattle.event_law.specs.Below.thread_state.View.{ThreadState}
+use Rattle.event_law.specs.Below.thread_state.declared.phase.Phase.TheVariants as phase
+use Rattle.event_law.specs.Below.migration.Packing.{pack_thread, packed, unpin_all, used_words}
+use Rattle.event_law.specs.Below.server_msgs.declared.message.Message.TheVariants as message
+use Rattle.event_law.specs.Below.server_model.Servers.{Rest}
+use Rattle.event_law.specs.Below.server_model.Work.{Work, Hand, Site, note, working, with_cache, with_phase, used_once, beside_threads, thread_in, without_thread}
+use Rattle.event_law.specs.Below.server_model.Objects.{deliver_fetched, waits_for_cell, filled}
+use Rattle.event_law.specs.Below.server_model.Sharing.{given, deliver_granted, deliver_dupped, waits_for_lock, waits_for_dup}
+use Rattle.event_law.specs.Below.server_model.Joining.{deliver_joined, waits_for_join, arrive}
+use Rattle.event_law.specs.Below.server_model.Moving.{migrate, depart}
+use Rattle.event_law.specs.Below.server_model.Events.{evict_copy}
+use Rattle.event_law.specs.Below.heap_law.Names.{is_in}
+use Rattle.event_law.specs.Below.heap_law.Things.{in_hand, holds, sent, Thing, message_things, thread_things}
 use Rattle.event_law.specs.Laws.{Gives}
 use Rattle.event_law.proofs.Results.{map_gives, test_gives, over_gives, then_gives, stand_gives}
 use Rattle.event_law.proofs.Bags.{body_things, all_standing, sent_number}

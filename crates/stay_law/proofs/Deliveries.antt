@@ -1,24 +1,24 @@
 -- What the delivery of each message changes, where words see nothing of it.
 use Rattle.std.proofs.Common.{◌≡◌, ℕ, ◌+◌, ◌==◌, ◌-◌, ◌^◌, Bool, true, false, ◌&&◌, if◌then◌else◌, List, [], ◌∷◌, ◌++◌, Option, Some, None, option_map, refl, sym, subst}
 use Rattle.std.specs.Prelude.{nat_lt}
-use Rattle.fr_base.specs.declared.instruction.Instr.{Instr}
-use Rattle.fr_base.specs.declared.name.MutexNo.{MutexNo}
-use Rattle.fr_base.specs.declared.name.ObjNo.{ObjNo}
-use Rattle.fr_base.specs.declared.release.Released.TheVariants as released
-use Rattle.heap_partition.specs.declared.value.Owned.{Owned}
-use Rattle.mutex_home.specs.Mutexes.{Mutex, Mutexes, mutex_in, put_mutex, end_mutex, asked_in, asked_of, back_in, back_out, back_to, more, more_in, less_in, less_of, last_less}
-use Rattle.mutex_home.specs.declared.answers.Back.{Back}
-use Rattle.mutex_home.specs.declared.answers.Back.TheVariants as back
-use Rattle.join_home.specs.Tasks.{Task, TaskState, going, let_go, kept, asked, in_pair, task_in, state_in, without_task, asked_from, let_go_from}
-use Rattle.server_msgs.specs.declared.message.Message.{Message}
-use Rattle.server_msgs.specs.declared.message.Message.TheVariants as message
-use Rattle.server_model.specs.Servers.{Rest}
-use Rattle.server_model.specs.Work.{Work, sent_from, with_mutexes, with_tasks, look_object}
-use Rattle.server_model.specs.Objects.{deliver_fetch}
-use Rattle.server_model.specs.Sharing.{deliver_lock, deliver_unlock, deliver_dup, answer_lock, answer_back, give_up_left, release_mutex}
-use Rattle.server_model.specs.Joining.{deliver_join, answer_join, release_task}
-use Rattle.server_model.specs.Events.{begin_work}
-use Rattle.heap_law.specs.Things.{sent, Thing, message_things}
+use Rattle.event_law.specs.Below.fr_base.declared.instruction.Instr.{Instr}
+use Rattle.event_law.specs.Below.fr_base.declared.name.MutexNo.{MutexNo}
+use Rattle.event_law.specs.Below.fr_base.declared.name.ObjNo.{ObjNo}
+use Rattle.event_law.specs.Below.fr_base.declared.release.Released.TheVariants as released
+use Rattle.event_law.specs.Below.heap_partition.declared.value.Owned.{Owned}
+use Rattle.event_law.specs.Below.mutex_home.Mutexes.{Mutex, Mutexes, mutex_in, put_mutex, end_mutex, asked_in, asked_of, back_in, back_out, back_to, more, more_in, less_in, less_of, last_less}
+use Rattle.event_law.specs.Below.mutex_home.declared.answers.Back.{Back}
+use Rattle.event_law.specs.Below.mutex_home.declared.answers.Back.TheVariants as back
+use Rattle.event_law.specs.Below.join_home.Tasks.{Task, TaskState, going, let_go, kept, asked, in_pair, task_in, state_in, without_task, asked_from, let_go_from}
+use Rattle.event_law.specs.Below.server_msgs.declared.message.Message.{Message}
+use Rattle.event_law.specs.Below.server_msgs.declared.message.Message.TheVariants as message
+use Rattle.event_law.specs.Below.server_model.Servers.{Rest}
+use Rattle.event_law.specs.Below.server_model.Work.{Work, sent_from, with_mutexes, with_tasks, look_object}
+use Rattle.event_law.specs.Below.server_model.Objects.{deliver_fetch}
+use Rattle.event_law.specs.Below.server_model.Sharing.{deliver_lock, deliver_unlock, deliver_dup, answer_lock, answer_back, give_up_left, release_mutex}
+use Rattle.event_law.specs.Below.server_model.Joining.{deliver_join, answer_join, release_task}
+use Rattle.event_law.specs.Below.server_model.Events.{begin_work}
+use Rattle.event_law.specs.Below.heap_law.Things.{sent, Thing, message_things}
 use Rattle.event_law.specs.Laws.{Gives}
 use Rattle.event_law.proofs.Results.{map_gives, test_gives, over_gives}
 use Rattle.event_law.proofs.Bags.{body_things}

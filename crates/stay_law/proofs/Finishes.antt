@@ -1,20 +1,20 @@
 -- A thread has ended: its result is kept, sent or dropped, or is a branch's, which is unit, and vanishes.
 use Rattle.std.proofs.Common.{◌≡◌, ℕ, ◌==◌, ◌||◌, Bool, true, false, if◌then◌else◌, List, [], ◌∷◌, ◌++◌, Option, Some, None, refl, sym, ap, subst, ◌∙◌}
-use Rattle.fr_base.specs.declared.instruction.Instr.{Instr}
-use Rattle.heap_partition.specs.declared.value.Owned.{Owned}
-use Rattle.heap_partition.specs.declared.value.Owned.TheVariants as owned
-use Rattle.join_home.specs.Tasks.{Task, TaskState, going, let_go, kept, asked, in_pair, task_in, state_in, without_task, over_of, over_in, pair_ended, ended_from, ended}
-use Rattle.join_home.specs.declared.answers.EndedAs.{EndedAs}
-use Rattle.join_home.specs.declared.answers.EndedAs.TheVariants as ended_as
-use Rattle.thread_state.specs.declared.phase.Phase.{Phase}
-use Rattle.thread_state.specs.declared.phase.Phase.TheVariants as phase
-use Rattle.server_msgs.specs.declared.message.Message.TheVariants as message
-use Rattle.server_model.specs.Servers.{Rest}
-use Rattle.server_model.specs.Work.{Hand, Site, with_tasks, with_phase}
-use Rattle.server_model.specs.Drop.{give_up}
-use Rattle.server_model.specs.Joining.{answer, got_par, pair_over, end_answer, deliver_finished}
-use Rattle.heap_law.specs.Rooted.{is_unit}
-use Rattle.heap_law.specs.Things.{Thing, in_hand, holds, sent, message_things}
+use Rattle.event_law.specs.Below.fr_base.declared.instruction.Instr.{Instr}
+use Rattle.event_law.specs.Below.heap_partition.declared.value.Owned.{Owned}
+use Rattle.event_law.specs.Below.heap_partition.declared.value.Owned.TheVariants as owned
+use Rattle.event_law.specs.Below.join_home.Tasks.{Task, TaskState, going, let_go, kept, asked, in_pair, task_in, state_in, without_task, over_of, over_in, pair_ended, ended_from, ended}
+use Rattle.event_law.specs.Below.join_home.declared.answers.EndedAs.{EndedAs}
+use Rattle.event_law.specs.Below.join_home.declared.answers.EndedAs.TheVariants as ended_as
+use Rattle.event_law.specs.Below.thread_state.declared.phase.Phase.{Phase}
+use Rattle.event_law.specs.Below.thread_state.declared.phase.Phase.TheVariants as phase
+use Rattle.event_law.specs.Below.server_msgs.declared.message.Message.TheVariants as message
+use Rattle.event_law.specs.Below.server_model.Servers.{Rest}
+use Rattle.event_law.specs.Below.server_model.Work.{Hand, Site, with_tasks, with_phase}
+use Rattle.event_law.specs.Below.server_model.Drop.{give_up}
+use Rattle.event_law.specs.Below.server_model.Joining.{answer, got_par, pair_over, end_answer, deliver_finished}
+use Rattle.event_law.specs.Below.heap_law.Rooted.{is_unit}
+use Rattle.event_law.specs.Below.heap_law.Things.{Thing, in_hand, holds, sent, message_things}
 use Rattle.event_law.specs.Laws.{Gives}
 use Rattle.event_law.proofs.Results.{bind_gives, map_gives, weaker}
 use Rattle.event_law.proofs.Bags.{body_things, all_standing}

@@ -1,14 +1,14 @@
 -- Lists out of which one item was taken, or into which one was put, and what words see of their things.
 use Rattle.std.proofs.Common.{◌≡◌, ℕ, zero, suc, ◌+◌, ◌==◌, Bool, true, false, if◌then◌else◌, List, [], ◌∷◌, ◌++◌, Some, sym, subst}
 use Rattle.std.specs.Prelude.{slice_get, remove, nat_lt}
-use Rattle.fr_base.specs.declared.instruction.Instr.{Instr}
-use Rattle.fr_base.specs.declared.name.MutexNo.{MutexNo}
-use Rattle.thread_state.specs.View.{ThreadState}
-use Rattle.mutex_home.specs.Mutexes.{Mutex, mutex_in, with_mutex, without_mutex}
-use Rattle.join_home.specs.Tasks.{Task, TaskState, task_in, with_state, without_task}
-use Rattle.server_model.specs.Work.{thread_in, set_thread, without_thread, with_thread}
-use Rattle.heap_law.specs.Names.{same_mutex}
-use Rattle.heap_law.specs.Things.{Thing, things_at}
+use Rattle.event_law.specs.Below.fr_base.declared.instruction.Instr.{Instr}
+use Rattle.event_law.specs.Below.fr_base.declared.name.MutexNo.{MutexNo}
+use Rattle.event_law.specs.Below.thread_state.View.{ThreadState}
+use Rattle.event_law.specs.Below.mutex_home.Mutexes.{Mutex, mutex_in, with_mutex, without_mutex}
+use Rattle.event_law.specs.Below.join_home.Tasks.{Task, TaskState, task_in, with_state, without_task}
+use Rattle.event_law.specs.Below.server_model.Work.{thread_in, set_thread, without_thread, with_thread}
+use Rattle.event_law.specs.Below.heap_law.Names.{same_mutex}
+use Rattle.event_law.specs.Below.heap_law.Things.{Thing, things_at}
 use Rattle.word_law.proofs.Below.path_law.Sole.{some_is}
 use Rattle.stay_law.proofs.Alike.{Alike, itself, chain, beside, in_front}
 

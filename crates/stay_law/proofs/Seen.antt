@@ -1,16 +1,16 @@
 -- Clusters whose things words see alike have the same pointers.
 use Rattle.std.proofs.Common.{◌≡◌, inl, inr, ℕ, Bool, List, [], ◌∷◌, Option, Some, None, refl, sym, ap, subst, ◌∙◌}
-use Rattle.fr_base.specs.declared.instruction.Instr.{Instr}
-use Rattle.fr_base.specs.declared.name.ObjNo.{ObjNo}
-use Rattle.heap_partition.specs.declared.value.Cell.{Cell}
-use Rattle.thread_state.specs.View.{ThreadState}
-use Rattle.thread_state.specs.declared.value.Value.{Value}
-use Rattle.thread_state.specs.declared.value.Value.TheVariants as value
-use Rattle.server_model.specs.Servers.{Cluster}
-use Rattle.heap_law.specs.Names.{Among}
-use Rattle.heap_law.specs.Things.{Location, at_slot, at_temp, in_cell, Thing, lies, flies, stands, things_of}
-use Rattle.heap_law.specs.Follow.{Standing, thread_at, threads_in, cells_in, cell_of, slot_of, temp_of, value_of, value_in}
-use Rattle.heap_law.specs.Sight.{Pointer, pointers_of, pointers_in, sight}
+use Rattle.event_law.specs.Below.fr_base.declared.instruction.Instr.{Instr}
+use Rattle.event_law.specs.Below.fr_base.declared.name.ObjNo.{ObjNo}
+use Rattle.event_law.specs.Below.heap_partition.declared.value.Cell.{Cell}
+use Rattle.event_law.specs.Below.thread_state.View.{ThreadState}
+use Rattle.event_law.specs.Below.thread_state.declared.value.Value.{Value}
+use Rattle.event_law.specs.Below.thread_state.declared.value.Value.TheVariants as value
+use Rattle.event_law.specs.Below.server_model.Servers.{Cluster}
+use Rattle.event_law.specs.Below.heap_law.Names.{Among}
+use Rattle.event_law.specs.Below.heap_law.Things.{Location, at_slot, at_temp, in_cell, Thing, lies, flies, stands, things_of}
+use Rattle.event_law.specs.Below.heap_law.Follow.{Standing, thread_at, threads_in, cells_in, cell_of, slot_of, temp_of, value_of, value_in}
+use Rattle.event_law.specs.Below.heap_law.Sight.{Pointer, pointers_of, pointers_in, sight}
 use Rattle.word_law.proofs.Below.type_law.Branches.{found}
 use Rattle.word_law.proofs.Below.path_law.Contained.{among_thread}
 use Rattle.word_law.specs.Reworded.{HasPlaces, LiesThere}

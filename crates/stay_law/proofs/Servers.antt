@@ -1,26 +1,26 @@
 -- What words see of the parts of a server.
 use Rattle.std.proofs.Common.{◌≡◌, inl, inr, ℕ, ◌+◌, ◌==◌, Bool, true, false, if◌then◌else◌, List, [], ◌∷◌, ◌++◌, Option, Some, None, refl, sym, ap, subst, ◌∙◌}
 use Rattle.std.specs.Prelude.{slice_get, remove}
-use Rattle.fr_base.specs.declared.instruction.Instr.{Instr}
-use Rattle.fr_base.specs.declared.name.MutexNo.{MutexNo}
-use Rattle.fr_base.specs.declared.release.Released.TheVariants as released
-use Rattle.fr_base.specs.Names.{home_of}
-use Rattle.global_addr.specs.Words.{server_of}
-use Rattle.heap_partition.specs.declared.value.BoxPtr.{BoxPtr}
-use Rattle.heap_partition.specs.declared.value.Owned.{Owned}
-use Rattle.heap_partition.specs.declared.value.Owned.TheVariants as owned
-use Rattle.read_cache.specs.Cache.{Copy}
-use Rattle.mutex_home.specs.Mutexes.{Mutex, Mutexes, mutex_in, put_mutex, end_mutex, without_mutex}
-use Rattle.join_home.specs.Tasks.{Task, TaskState, going, let_go, kept, asked, in_pair, task_in, with_state, without_task}
-use Rattle.server_msgs.specs.declared.message.Message.{Message}
-use Rattle.server_msgs.specs.declared.message.Message.TheVariants as message
-use Rattle.server_model.specs.Servers.{Sent, Rest, Server}
-use Rattle.server_model.specs.Work.{Work, sent_from, receive}
-use Rattle.server_model.specs.Drop.{give_up}
-use Rattle.heap_law.specs.Names.{Among, same_mutex}
-use Rattle.heap_law.specs.Things.{Spot, in_hand, as_gift, as_content, as_result, Thing, holds, at_home, noted, queued, copied, sent, things_at, partition_things, copy_things, mutex_things, content_things, queue_things, task_things, result_things, message_things, waiting_things, leaving_things, server_things}
-use Rattle.heap_law.specs.Sight.{pointer_in, location_of}
-use Rattle.heap_law.proofs.Names.{same_number, same_mutexes}
+use Rattle.event_law.specs.Below.fr_base.declared.instruction.Instr.{Instr}
+use Rattle.event_law.specs.Below.fr_base.declared.name.MutexNo.{MutexNo}
+use Rattle.event_law.specs.Below.fr_base.declared.release.Released.TheVariants as released
+use Rattle.event_law.specs.Below.fr_base.Names.{home_of}
+use Rattle.event_law.specs.Below.global_addr.Words.{server_of}
+use Rattle.event_law.specs.Below.heap_partition.declared.value.BoxPtr.{BoxPtr}
+use Rattle.event_law.specs.Below.heap_partition.declared.value.Owned.{Owned}
+use Rattle.event_law.specs.Below.heap_partition.declared.value.Owned.TheVariants as owned
+use Rattle.event_law.specs.Below.read_cache.Cache.{Copy}
+use Rattle.event_law.specs.Below.mutex_home.Mutexes.{Mutex, Mutexes, mutex_in, put_mutex, end_mutex, without_mutex}
+use Rattle.event_law.specs.Below.join_home.Tasks.{Task, TaskState, going, let_go, kept, asked, in_pair, task_in, with_state, without_task}
+use Rattle.event_law.specs.Below.server_msgs.declared.message.Message.{Message}
+use Rattle.event_law.specs.Below.server_msgs.declared.message.Message.TheVariants as message
+use Rattle.event_law.specs.Below.server_model.Servers.{Sent, Rest, Server}
+use Rattle.event_law.specs.Below.server_model.Work.{Work, sent_from, receive}
+use Rattle.event_law.specs.Below.server_model.Drop.{give_up}
+use Rattle.event_law.specs.Below.heap_law.Names.{Among, same_mutex}
+use Rattle.event_law.specs.Below.heap_law.Things.{Spot, in_hand, as_gift, as_content, as_result, Thing, holds, at_home, noted, queued, copied, sent, things_at, partition_things, copy_things, mutex_things, content_things, queue_things, task_things, result_things, message_things, waiting_things, leaving_things, server_things}
+use Rattle.event_law.specs.Below.heap_law.Sight.{pointer_in, location_of}
+use Rattle.event_law.proofs.Below.heap_law.Names.{same_number, same_mutexes}
 use Rattle.word_law.proofs.Below.path_law.Sole.{some_is}
 use Rattle.word_law.proofs.Below.path_law.Origins.{among_first}
 use Rattle.event_law.proofs.Bags.{counts_of, body_things, all_standing, sent_number}

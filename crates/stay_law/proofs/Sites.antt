@@ -1,19 +1,19 @@
 -- From what words see of a server in the middle of an event to what they see of its cluster.
 use Rattle.std.proofs.Common.{◌≡◌, ℕ, zero, suc, ◌+◌, ◌==◌, Bool, true, false, if◌then◌else◌, List, [], ◌∷◌, ◌++◌, Option, Some, None, IsSome, option_map, refl, sym, ap, subst}
 use Rattle.std.specs.Prelude.{slice_get, take, drop}
-use Rattle.fr_typing.proofs.PlaceLemmas.{eq_cases}
-use Rattle.fr_base.specs.declared.instruction.Instr.{Instr}
-use Rattle.fr_base.specs.declared.step.Fresh.{Fresh}
-use Rattle.journal.specs.View.{EntryView}
-use Rattle.thread_state.specs.View.{ThreadState}
-use Rattle.server_msgs.specs.declared.message.Message.{Message}
-use Rattle.server_model.specs.declared.event.What.TheVariants.{Deliver}
-use Rattle.server_model.specs.Servers.{Sent, Server, Cluster, server_at}
-use Rattle.server_model.specs.Work.{Work, Hand, Site, receive, thread_in, in_hand, put_back, at_thread, beside_threads, then_some, add_waiting}
-use Rattle.server_model.specs.Events.{does, begin_work, begin_at, left_by, deliver, deliver_message, received, Stepped, step, step_in, stepped}
-use Rattle.server_model.specs.Clusters.{with_server, accept, accept_at, accept_all, with_outbox, hand_over_newer}
-use Rattle.heap_law.specs.Things.{Thing, things_at, partition_things, copy_things, mutex_things, task_things, thread_things, message_things, waiting_things, leaving_things, server_things, servers_things}
-use Rattle.heap_law.proofs.Names.{same_number}
+use Rattle.event_law.proofs.Below.fr_typing.PlaceLemmas.{eq_cases}
+use Rattle.event_law.specs.Below.fr_base.declared.instruction.Instr.{Instr}
+use Rattle.event_law.specs.Below.fr_base.declared.step.Fresh.{Fresh}
+use Rattle.event_law.specs.Below.journal.View.{EntryView}
+use Rattle.event_law.specs.Below.thread_state.View.{ThreadState}
+use Rattle.event_law.specs.Below.server_msgs.declared.message.Message.{Message}
+use Rattle.event_law.specs.Below.server_model.declared.event.What.TheVariants.{Deliver}
+use Rattle.event_law.specs.Below.server_model.Servers.{Sent, Server, Cluster, server_at}
+use Rattle.event_law.specs.Below.server_model.Work.{Work, Hand, Site, receive, thread_in, in_hand, put_back, at_thread, beside_threads, then_some, add_waiting}
+use Rattle.event_law.specs.Below.server_model.Events.{does, begin_work, begin_at, left_by, deliver, deliver_message, received, Stepped, step, step_in, stepped}
+use Rattle.event_law.specs.Below.server_model.Clusters.{with_server, accept, accept_at, accept_all, with_outbox, hand_over_newer}
+use Rattle.event_law.specs.Below.heap_law.Things.{Thing, things_at, partition_things, copy_things, mutex_things, task_things, thread_things, message_things, waiting_things, leaving_things, server_things, servers_things}
+use Rattle.event_law.proofs.Below.heap_law.Names.{same_number}
 use Rattle.word_law.proofs.Below.path_law.Sole.{some_is}
 use Rattle.event_law.specs.Laws.{Gives, GoTo}
 use Rattle.event_law.proofs.Results.{then_gives, over_gives}

@@ -1,31 +1,31 @@
 -- Each kind of event that is proved to leave the words.
 use Rattle.std.proofs.Common.{◌≡◌, ℕ, ◌+◌, List, [], ◌++◌, Option, Some, None, option_map, refl, sym, ap, subst, ◌∙◌, arith}
 use Rattle.std.specs.Prelude.{⊤, slice_get, take, drop as drop_first, length}
-use Rattle.fr_base.specs.declared.instruction.Instr.{Instr}
-use Rattle.fr_base.specs.declared.instruction.Instr.TheVariants as instr
-use Rattle.fr_base.specs.declared.release.Released.TheVariants as release
-use Rattle.journal.specs.View.{EntryView}
-use Rattle.thread_state.specs.View.{ThreadState}
-use Rattle.thread_state.specs.declared.phase.Phase.TheVariants as phase
-use Rattle.server_msgs.specs.declared.message.Message.{Message}
-use Rattle.server_msgs.specs.declared.message.Message.TheVariants as message
-use Rattle.server_model.specs.declared.event.Event.{Event}
-use Rattle.server_model.specs.declared.event.What.{What}
-use Rattle.server_model.specs.declared.event.What.TheVariants.{Step, Deliver, Evict, Migrate}
-use Rattle.server_model.specs.Servers.{Server, Cluster, server_at}
-use Rattle.server_model.specs.Work.{Work, Hand, beside_threads, receive, then_some, thread_in}
-use Rattle.server_model.specs.Events.{enabled, does, begin_work, begin_at, left_by, received, evict_copy, Stepped, step}
-use Rattle.server_model.specs.Objects.{deliver_fetch, deliver_fetched}
-use Rattle.server_model.specs.Sharing.{deliver_lock, deliver_granted, deliver_unlock, deliver_dup, deliver_dupped, release_mutex}
-use Rattle.server_model.specs.Joining.{deliver_join, deliver_joined, release_task}
-use Rattle.server_model.specs.Moving.{migrate}
-use Rattle.server_model.specs.Clusters.{with_server, hand_over_newer, done_at, apply}
-use Rattle.heap_partition.specs.declared.value.Owned.{Owned}
-use Rattle.heap_law.specs.Things.{message_things, server_things, servers_things, things_of}
-use Rattle.heap_law.specs.Sight.{sight}
-use Rattle.heap_law.specs.Naming.{servers_wrong, pinned_parcel}
-use Rattle.heap_law.specs.Walking.{sum_threads}
-use Rattle.heap_law.specs.Coherent.{IsSound}
+use Rattle.event_law.specs.Below.fr_base.declared.instruction.Instr.{Instr}
+use Rattle.event_law.specs.Below.fr_base.declared.instruction.Instr.TheVariants as instr
+use Rattle.event_law.specs.Below.fr_base.declared.release.Released.TheVariants as release
+use Rattle.event_law.specs.Below.journal.View.{EntryView}
+use Rattle.event_law.specs.Below.thread_state.View.{ThreadState}
+use Rattle.event_law.specs.Below.thread_state.declared.phase.Phase.TheVariants as phase
+use Rattle.event_law.specs.Below.server_msgs.declared.message.Message.{Message}
+use Rattle.event_law.specs.Below.server_msgs.declared.message.Message.TheVariants as message
+use Rattle.event_law.specs.Below.server_model.declared.event.Event.{Event}
+use Rattle.event_law.specs.Below.server_model.declared.event.What.{What}
+use Rattle.event_law.specs.Below.server_model.declared.event.What.TheVariants.{Step, Deliver, Evict, Migrate}
+use Rattle.event_law.specs.Below.server_model.Servers.{Server, Cluster, server_at}
+use Rattle.event_law.specs.Below.server_model.Work.{Work, Hand, beside_threads, receive, then_some, thread_in}
+use Rattle.event_law.specs.Below.server_model.Events.{enabled, does, begin_work, begin_at, left_by, received, evict_copy, Stepped, step}
+use Rattle.event_law.specs.Below.server_model.Objects.{deliver_fetch, deliver_fetched}
+use Rattle.event_law.specs.Below.server_model.Sharing.{deliver_lock, deliver_granted, deliver_unlock, deliver_dup, deliver_dupped, release_mutex}
+use Rattle.event_law.specs.Below.server_model.Joining.{deliver_join, deliver_joined, release_task}
+use Rattle.event_law.specs.Below.server_model.Moving.{migrate}
+use Rattle.event_law.specs.Below.server_model.Clusters.{with_server, hand_over_newer, done_at, apply}
+use Rattle.event_law.specs.Below.heap_partition.declared.value.Owned.{Owned}
+use Rattle.event_law.specs.Below.heap_law.Things.{message_things, server_things, servers_things, things_of}
+use Rattle.event_law.specs.Below.heap_law.Sight.{sight}
+use Rattle.event_law.specs.Below.heap_law.Naming.{servers_wrong, pinned_parcel}
+use Rattle.event_law.specs.Below.heap_law.Walking.{sum_threads}
+use Rattle.event_law.specs.Below.heap_law.Coherent.{IsSound}
 use Rattle.word_law.proofs.Below.path_law.Sole.{some_is}
 use Rattle.word_law.specs.Reworded.{HasPlaces}
 use Rattle.word_law.specs.Unmoved.{LeavesWords}

@@ -1,31 +1,31 @@
 -- Steps that pop and leave what leads nowhere, and a join that asks.
 use Rattle.std.proofs.Common.{◌≡◌, ℕ, ℤ, zero, suc, ◌+◌, true, false, List, [], ◌∷◌, ◌++◌, Option, Some, None, option_map, refl, sym, subst, ◌∙◌}
 use Rattle.std.specs.Prelude.{slice_get}
-use Rattle.fr_base.specs.declared.step.Fresh.TheVariants as fresh
-use Rattle.fr_base.specs.declared.place.Lval.{Lval}
-use Rattle.fr_base.specs.declared.place.Op.{Op}
-use Rattle.fr_base.specs.declared.instruction.Operand.{Operand}
-use Rattle.fr_base.specs.declared.instruction.Operand.TheVariants as operand
-use Rattle.fr_base.specs.declared.instruction.Instr.{Instr}
-use Rattle.fr_base.specs.declared.instruction.Instr.TheVariants as instr
-use Rattle.fr_plain.specs.Acts.{result_of}
-use Rattle.heap_partition.specs.declared.value.Owned.{Owned}
-use Rattle.heap_partition.specs.declared.value.Owned.TheVariants as owned
-use Rattle.read_cache.specs.Cache.{Copy}
-use Rattle.migration.specs.Packing.{unpin_all}
-use Rattle.thread_state.specs.View.{ThreadState}
-use Rattle.thread_state.specs.declared.phase.Phase.{Phase}
-use Rattle.thread_state.specs.declared.phase.Phase.TheVariants as phase
-use Rattle.thread_state.specs.declared.value.Value.{Value}
-use Rattle.thread_state.specs.declared.value.Value.TheVariants as value
-use Rattle.server_msgs.specs.declared.message.Message.TheVariants as message
-use Rattle.server_model.specs.Places.{owns_nothing, in_slot}
-use Rattle.server_model.specs.Prepare.{read_pointer, lend_pointer}
-use Rattle.server_model.specs.Work.{Hand, Popped, last_of, front_of, with_temps, push_temp, int_of, task_of, taken_as, then_some, pop, pop_int}
-use Rattle.server_model.specs.Drop.{home_of}
-use Rattle.server_model.specs.Commit.{goes_on, go_on, waiting, ask_join, take_gift, join, arith, print, par_end, borrow_from, borrow_mut_from, settle}
-use Rattle.server_model.specs.Events.{Stepped, done_step, wait_step, committed, prepared, step}
-use Rattle.heap_law.specs.Things.{Spot, Location, in_temp, at_temp, Thing, holds, sent, things_at, value_things, temp_things, message_things}
+use Rattle.event_law.specs.Below.fr_base.declared.step.Fresh.TheVariants as fresh
+use Rattle.event_law.specs.Below.fr_base.declared.place.Lval.{Lval}
+use Rattle.event_law.specs.Below.fr_base.declared.place.Op.{Op}
+use Rattle.event_law.specs.Below.fr_base.declared.instruction.Operand.{Operand}
+use Rattle.event_law.specs.Below.fr_base.declared.instruction.Operand.TheVariants as operand
+use Rattle.event_law.specs.Below.fr_base.declared.instruction.Instr.{Instr}
+use Rattle.event_law.specs.Below.fr_base.declared.instruction.Instr.TheVariants as instr
+use Rattle.event_law.specs.Below.fr_plain.Acts.{result_of}
+use Rattle.event_law.specs.Below.heap_partition.declared.value.Owned.{Owned}
+use Rattle.event_law.specs.Below.heap_partition.declared.value.Owned.TheVariants as owned
+use Rattle.event_law.specs.Below.read_cache.Cache.{Copy}
+use Rattle.event_law.specs.Below.migration.Packing.{unpin_all}
+use Rattle.event_law.specs.Below.thread_state.View.{ThreadState}
+use Rattle.event_law.specs.Below.thread_state.declared.phase.Phase.{Phase}
+use Rattle.event_law.specs.Below.thread_state.declared.phase.Phase.TheVariants as phase
+use Rattle.event_law.specs.Below.thread_state.declared.value.Value.{Value}
+use Rattle.event_law.specs.Below.thread_state.declared.value.Value.TheVariants as value
+use Rattle.event_law.specs.Below.server_msgs.declared.message.Message.TheVariants as message
+use Rattle.event_law.specs.Below.server_model.Places.{owns_nothing, in_slot}
+use Rattle.event_law.specs.Below.server_model.Prepare.{read_pointer, lend_pointer}
+use Rattle.event_law.specs.Below.server_model.Work.{Hand, Popped, last_of, front_of, with_temps, push_temp, int_of, task_of, taken_as, then_some, pop, pop_int}
+use Rattle.event_law.specs.Below.server_model.Drop.{home_of}
+use Rattle.event_law.specs.Below.server_model.Commit.{goes_on, go_on, waiting, ask_join, take_gift, join, arith, print, par_end, borrow_from, borrow_mut_from, settle}
+use Rattle.event_law.specs.Below.server_model.Events.{Stepped, done_step, wait_step, committed, prepared, step}
+use Rattle.event_law.specs.Below.heap_law.Things.{Spot, Location, in_temp, at_temp, Thing, holds, sent, things_at, value_things, temp_things, message_things}
 use Rattle.word_law.specs.Unmoved.{owning, taking_by}
 use Rattle.event_law.specs.Laws.{Gives}
 use Rattle.event_law.proofs.Results.{map_gives, over_gives, bind_gives}

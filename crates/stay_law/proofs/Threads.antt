@@ -1,22 +1,22 @@
 -- What words see of a thread: where it stands, what it has taken, its slots and temporary values, and its gift.
 use Rattle.std.proofs.Common.{◌≡◌, inl, inr, ℕ, zero, suc, ◌+◌, Bool, true, false, if◌then◌else◌, List, [], ◌∷◌, ◌++◌, map, Option, Some, None, refl, sym, ap, subst, ◌∙◌}
 use Rattle.std.specs.Prelude.{slice_get}
-use Rattle.fr_base.specs.declared.instruction.Instr.{Instr}
-use Rattle.fr_base.specs.declared.name.MutexNo.{MutexNo}
-use Rattle.heap_partition.specs.declared.value.Owned.{Owned}
-use Rattle.mut_borrow.specs.declared.shared.SharedRef.{SharedRef}
-use Rattle.thread_state.specs.View.{ThreadState}
-use Rattle.thread_state.specs.declared.phase.Phase.{Phase}
-use Rattle.thread_state.specs.declared.phase.Phase.TheVariants as phase
-use Rattle.thread_state.specs.declared.value.Value.{Value}
-use Rattle.thread_state.specs.declared.value.Value.TheVariants as value
-use Rattle.migration.specs.Packing.{unpinned}
-use Rattle.server_model.specs.Work.{thread_in, set_thread, without_thread, with_thread}
-use Rattle.server_model.specs.Objects.{waits_for_cell}
-use Rattle.server_model.specs.Sharing.{waits_for_lock, waits_for_dup}
-use Rattle.server_model.specs.Joining.{waits_for_join}
-use Rattle.heap_law.specs.Names.{Among}
-use Rattle.heap_law.specs.Things.{Location, Spot, in_slot, in_temp, at_slot, at_temp, Thing, shares, uses, stands, things_at, pin_things, value_things, slot_things, temp_things, gift_things, walk_things, thread_things}
+use Rattle.event_law.specs.Below.fr_base.declared.instruction.Instr.{Instr}
+use Rattle.event_law.specs.Below.fr_base.declared.name.MutexNo.{MutexNo}
+use Rattle.event_law.specs.Below.heap_partition.declared.value.Owned.{Owned}
+use Rattle.event_law.specs.Below.mut_borrow.declared.shared.SharedRef.{SharedRef}
+use Rattle.event_law.specs.Below.thread_state.View.{ThreadState}
+use Rattle.event_law.specs.Below.thread_state.declared.phase.Phase.{Phase}
+use Rattle.event_law.specs.Below.thread_state.declared.phase.Phase.TheVariants as phase
+use Rattle.event_law.specs.Below.thread_state.declared.value.Value.{Value}
+use Rattle.event_law.specs.Below.thread_state.declared.value.Value.TheVariants as value
+use Rattle.event_law.specs.Below.migration.Packing.{unpinned}
+use Rattle.event_law.specs.Below.server_model.Work.{thread_in, set_thread, without_thread, with_thread}
+use Rattle.event_law.specs.Below.server_model.Objects.{waits_for_cell}
+use Rattle.event_law.specs.Below.server_model.Sharing.{waits_for_lock, waits_for_dup}
+use Rattle.event_law.specs.Below.server_model.Joining.{waits_for_join}
+use Rattle.event_law.specs.Below.heap_law.Names.{Among}
+use Rattle.event_law.specs.Below.heap_law.Things.{Location, Spot, in_slot, in_temp, at_slot, at_temp, Thing, shares, uses, stands, things_at, pin_things, value_things, slot_things, temp_things, gift_things, walk_things, thread_things}
 use Rattle.word_law.specs.Unmoved.{pointing, owning, taking_by}
 use Rattle.word_law.proofs.Takings.{owning_pointing}
 use Rattle.event_law.proofs.Bags.{all_standing, thread_number}

@@ -1,51 +1,51 @@
 -- Joins that ask for a result: a wish comes, and all else stays.
 use Rattle.std.proofs.Common.{◌≡◌, ℕ, ◌+◌, ◌≤◌, ◌==◌, ◌&&◌, ◌||◌, not, Bool, true, false, List, [], ◌∷◌, ◌++◌, Option, Some, None, is_some, refl, sym, ap, ap₂, subst, ◌∙◌, arith}
 use Rattle.std.specs.Prelude.{⊤, ◌%◌, ◌^◌, slice_get, option_map}
-use Rattle.fr_base.specs.declared.step.Fresh.TheVariants as fresh
-use Rattle.fr_base.specs.declared.settings.Options.{Options}
-use Rattle.fr_base.specs.declared.instruction.Operand.{Operand}
-use Rattle.fr_base.specs.declared.instruction.Operand.TheVariants as operand
-use Rattle.fr_base.specs.declared.instruction.Instr.{Instr}
-use Rattle.fr_base.specs.declared.instruction.Instr.TheVariants as instr
-use Rattle.heap_partition.specs.declared.value.Owned.{Owned}
-use Rattle.heap_partition.specs.declared.value.Owned.TheVariants as owned
-use Rattle.thread_state.specs.View.{ThreadState, is_over}
-use Rattle.thread_state.specs.declared.phase.Phase.TheVariants as phase
-use Rattle.thread_state.specs.declared.value.Value.{Value}
-use Rattle.thread_state.specs.declared.value.Value.TheVariants as value
-use Rattle.server_msgs.specs.declared.message.Message.{Message}
-use Rattle.server_msgs.specs.declared.message.Message.TheVariants as message
-use Rattle.journal.specs.View.{EntryView}
-use Rattle.journal.specs.declared.act.Act.TheVariants as act
-use Rattle.server_model.specs.declared.event.What.{What}
-use Rattle.server_model.specs.declared.event.What.TheVariants.{Step, Deliver, Evict, Migrate}
-use Rattle.server_model.specs.Servers.{Server, Cluster, server_at}
-use Rattle.server_model.specs.Work.{Work, Hand, Popped, last_of, front_of, task_of, taken_as, then_some, pop, push_temp, with_temps, note, thread_in, put_back}
-use Rattle.server_model.specs.Drop.{home_of as task_home}
-use Rattle.server_model.specs.Commit.{waiting, ask_join, take_gift, join, settle, go_on, goes_on}
-use Rattle.server_model.specs.Events.{can_step, has_phase, enabled, does, begin_work, begin_at, Stepped, wait_step, done_step, committed, step, step_in, stepped}
-use Rattle.server_model.specs.Clusters.{apply}
-use Rattle.coloured_heap.specs.Heap.{Coloured, Wish, ForResult, same_wish}
-use Rattle.coloured_heap.specs.Changes.{after_act}
-use Rattle.heap_law.specs.Names.{tot, one, other, some, if_so}
-use Rattle.heap_law.specs.Things.{Thing, stands, things_at, walk_things, slot_things, temp_things, gift_things, message_things, things_of}
-use Rattle.heap_law.specs.Sight.{sight}
-use Rattle.heap_law.specs.Requests.{home_of}
-use Rattle.heap_law.specs.Naming.{threads, named_mutexes, started_at, zeroth_thread, zeroth_mutex, uncounted_thread, uncounted_mutex}
-use Rattle.heap_law.specs.OneHeap.{is_given_thread}
-use Rattle.heap_law.specs.Colours.{StandsColoured}
-use Rattle.heap_law.specs.Coherent.{IsSound}
-use Rattle.event_law.specs.Kinds.{Kind, step_join, message_kind, instr_kind, kind_at}
-use Rattle.event_law.specs.Laws.{Gives}
-use Rattle.event_law.proofs.Trades.{tot-append}
-use Rattle.event_law.proofs.Results.{map_gives, over_gives, both_give, weaker}
-use Rattle.event_law.proofs.Bags.{all_standing, rest_things, server_same, tot-without}
-use Rattle.event_law.proofs.Values.{last_split}
-use Rattle.event_law.proofs.Events.{tot-server}
-use Rattle.stay_law.proofs.StayKinds.{joins_leave}
-use Rattle.still_law.proofs.Told.{told}
-use Rattle.still_law.proofs.Tests.{numbers}
-use Rattle.word_law.specs.Unmoved.{LeavesWords}
+use Rattle.entry_law.specs.Below.fr_base.declared.step.Fresh.TheVariants as fresh
+use Rattle.entry_law.specs.Below.fr_base.declared.settings.Options.{Options}
+use Rattle.entry_law.specs.Below.fr_base.declared.instruction.Operand.{Operand}
+use Rattle.entry_law.specs.Below.fr_base.declared.instruction.Operand.TheVariants as operand
+use Rattle.entry_law.specs.Below.fr_base.declared.instruction.Instr.{Instr}
+use Rattle.entry_law.specs.Below.fr_base.declared.instruction.Instr.TheVariants as instr
+use Rattle.entry_law.specs.Below.heap_partition.declared.value.Owned.{Owned}
+use Rattle.entry_law.specs.Below.heap_partition.declared.value.Owned.TheVariants as owned
+use Rattle.entry_law.specs.Below.thread_state.View.{ThreadState, is_over}
+use Rattle.entry_law.specs.Below.thread_state.declared.phase.Phase.TheVariants as phase
+use Rattle.entry_law.specs.Below.thread_state.declared.value.Value.{Value}
+use Rattle.entry_law.specs.Below.thread_state.declared.value.Value.TheVariants as value
+use Rattle.entry_law.specs.Below.server_msgs.declared.message.Message.{Message}
+use Rattle.entry_law.specs.Below.server_msgs.declared.message.Message.TheVariants as message
+use Rattle.entry_law.specs.Below.journal.View.{EntryView}
+use Rattle.entry_law.specs.Below.journal.declared.act.Act.TheVariants as act
+use Rattle.entry_law.specs.Below.server_model.declared.event.What.{What}
+use Rattle.entry_law.specs.Below.server_model.declared.event.What.TheVariants.{Step, Deliver, Evict, Migrate}
+use Rattle.entry_law.specs.Below.server_model.Servers.{Server, Cluster, server_at}
+use Rattle.entry_law.specs.Below.server_model.Work.{Work, Hand, Popped, last_of, front_of, task_of, taken_as, then_some, pop, push_temp, with_temps, note, thread_in, put_back}
+use Rattle.entry_law.specs.Below.server_model.Drop.{home_of as task_home}
+use Rattle.entry_law.specs.Below.server_model.Commit.{waiting, ask_join, take_gift, join, settle, go_on, goes_on}
+use Rattle.entry_law.specs.Below.server_model.Events.{can_step, has_phase, enabled, does, begin_work, begin_at, Stepped, wait_step, done_step, committed, step, step_in, stepped}
+use Rattle.entry_law.specs.Below.server_model.Clusters.{apply}
+use Rattle.entry_law.specs.Below.coloured_heap.Heap.{Coloured, Wish, ForResult, same_wish}
+use Rattle.entry_law.specs.Below.coloured_heap.Changes.{after_act}
+use Rattle.entry_law.specs.Below.heap_law.Names.{tot, one, other, some, if_so}
+use Rattle.entry_law.specs.Below.heap_law.Things.{Thing, stands, things_at, walk_things, slot_things, temp_things, gift_things, message_things, things_of}
+use Rattle.entry_law.specs.Below.heap_law.Sight.{sight}
+use Rattle.entry_law.specs.Below.heap_law.Requests.{home_of}
+use Rattle.entry_law.specs.Below.heap_law.Naming.{threads, named_mutexes, started_at, zeroth_thread, zeroth_mutex, uncounted_thread, uncounted_mutex}
+use Rattle.entry_law.specs.Below.heap_law.OneHeap.{is_given_thread}
+use Rattle.entry_law.specs.Below.heap_law.Colours.{StandsColoured}
+use Rattle.entry_law.specs.Below.heap_law.Coherent.{IsSound}
+use Rattle.entry_law.specs.Below.event_law.Kinds.{Kind, step_join, message_kind, instr_kind, kind_at}
+use Rattle.entry_law.specs.Below.event_law.Laws.{Gives}
+use Rattle.entry_law.proofs.Below.event_law.Trades.{tot-append}
+use Rattle.entry_law.proofs.Below.event_law.Results.{map_gives, over_gives, both_give, weaker}
+use Rattle.entry_law.proofs.Below.event_law.Bags.{all_standing, rest_things, server_same, tot-without}
+use Rattle.entry_law.proofs.Below.event_law.Values.{last_split}
+use Rattle.entry_law.proofs.Below.event_law.Events.{tot-server}
+use Rattle.entry_law.proofs.Below.stay_law.StayKinds.{joins_leave}
+use Rattle.entry_law.proofs.Below.still_law.Told.{told}
+use Rattle.entry_law.proofs.Below.still_law.Tests.{numbers}
+use Rattle.entry_law.specs.Below.word_law.Unmoved.{LeavesWords}
 use Rattle.entry_law.specs.Entries.{LeadsOn}
 use Rattle.entry_law.proofs.Answers.{Answers, answers_of, Fits, fits, Allowed}
 use Rattle.entry_law.proofs.Weighed.{SiteTurns, sends, thread_turns, server_turns}

@@ -1,27 +1,27 @@
 -- Borrows of variables: a reference to a slot is pushed, and nothing is noted.
 use Rattle.std.proofs.Common.{◌≡◌, ℕ, true, Some, None, refl, sym, subst, ◌∙◌}
 use Rattle.std.specs.Prelude.{option_map}
-use Rattle.fr_base.specs.declared.place.Lval.{Lval}
-use Rattle.fr_base.specs.declared.instruction.Instr.{Instr}
-use Rattle.fr_base.specs.declared.instruction.Instr.TheVariants as instr
-use Rattle.thread_state.specs.View.{ThreadState}
-use Rattle.thread_state.specs.declared.value.Value.TheVariants as value
-use Rattle.journal.specs.View.{EntryView}
-use Rattle.server_model.specs.declared.event.What.TheVariants.{Step}
-use Rattle.server_model.specs.Servers.{Server, Cluster}
-use Rattle.server_model.specs.Places.{in_slot}
-use Rattle.server_model.specs.Work.{Hand, push_temp, then_some}
-use Rattle.server_model.specs.Prepare.{read_pointer, lend_pointer}
-use Rattle.server_model.specs.Commit.{goes_on, borrow_from, borrow_mut_from}
-use Rattle.server_model.specs.Events.{can_step, has_phase, enabled, does, begin_work, committed, prepared, step, step_in, stepped}
-use Rattle.server_model.specs.Clusters.{apply}
-use Rattle.event_law.specs.Laws.{Gives}
-use Rattle.event_law.proofs.Results.{over_gives, both_give}
-use Rattle.event_law.proofs.GiftsTaken.{gift_fits}
-use Rattle.event_law.proofs.QuietSteps.{GiftFits}
-use Rattle.stay_law.specs.Laws.{BorrowsVariable, shared, mutable}
-use Rattle.stay_law.proofs.StayKinds.{borrows_leave}
-use Rattle.word_law.specs.Unmoved.{LeavesWords}
+use Rattle.entry_law.specs.Below.fr_base.declared.place.Lval.{Lval}
+use Rattle.entry_law.specs.Below.fr_base.declared.instruction.Instr.{Instr}
+use Rattle.entry_law.specs.Below.fr_base.declared.instruction.Instr.TheVariants as instr
+use Rattle.entry_law.specs.Below.thread_state.View.{ThreadState}
+use Rattle.entry_law.specs.Below.thread_state.declared.value.Value.TheVariants as value
+use Rattle.entry_law.specs.Below.journal.View.{EntryView}
+use Rattle.entry_law.specs.Below.server_model.declared.event.What.TheVariants.{Step}
+use Rattle.entry_law.specs.Below.server_model.Servers.{Server, Cluster}
+use Rattle.entry_law.specs.Below.server_model.Places.{in_slot}
+use Rattle.entry_law.specs.Below.server_model.Work.{Hand, push_temp, then_some}
+use Rattle.entry_law.specs.Below.server_model.Prepare.{read_pointer, lend_pointer}
+use Rattle.entry_law.specs.Below.server_model.Commit.{goes_on, borrow_from, borrow_mut_from}
+use Rattle.entry_law.specs.Below.server_model.Events.{can_step, has_phase, enabled, does, begin_work, committed, prepared, step, step_in, stepped}
+use Rattle.entry_law.specs.Below.server_model.Clusters.{apply}
+use Rattle.entry_law.specs.Below.event_law.Laws.{Gives}
+use Rattle.entry_law.proofs.Below.event_law.Results.{over_gives, both_give}
+use Rattle.entry_law.proofs.Below.event_law.GiftsTaken.{gift_fits}
+use Rattle.entry_law.proofs.Below.event_law.QuietSteps.{GiftFits}
+use Rattle.entry_law.specs.Below.stay_law.Laws.{BorrowsVariable, shared, mutable}
+use Rattle.entry_law.proofs.Below.stay_law.StayKinds.{borrows_leave}
+use Rattle.entry_law.specs.Below.word_law.Unmoved.{LeavesWords}
 use Rattle.entry_law.specs.Entries.{LeadsOn}
 use Rattle.entry_law.proofs.Applied.{applied_by}
 use Rattle.step_entry_law.specs.Borrows.{VariableBorrowsLegal}

@@ -1,36 +1,36 @@
 -- Gifts stay the contents that they were where slots and objects show what they showed, whatever temporary values, phases and instructions of threads are.
 use Rattle.std.proofs.Common.{◌≡◌, ℕ, zero, suc, ◌≤◌, ◌==◌, Bool, true, false, List, [], ◌∷◌, Option, Some, None, is_some, option_map, refl, sym, ap, ap₂, ◌∙◌, arith}
 use Rattle.std.specs.Prelude.{⊤, slice_get, map}
-use Rattle.fr_base.specs.declared.name.MutexNo.{MutexNo}
-use Rattle.fr_base.specs.declared.name.ObjNo.{ObjNo}
-use Rattle.fr_base.specs.declared.label.Plain.{Plain}
-use Rattle.fr_base.specs.declared.instruction.Instr.{Instr}
-use Rattle.fr_base.specs.declared.instruction.Instr.TheVariants as instr
-use Rattle.fr_base.specs.declared.place.Lval.{Lval}
-use Rattle.fr_base.specs.Names.{same_plain}
-use Rattle.heap_partition.specs.Plain.{plain_of}
-use Rattle.heap_partition.specs.declared.value.Owned.TheVariants as owned
-use Rattle.thread_state.specs.View.{ThreadState}
-use Rattle.thread_state.specs.declared.value.Value.{Value}
-use Rattle.thread_state.specs.declared.value.Value.TheVariants as value
-use Rattle.server_msgs.specs.declared.message.Message.{Message}
-use Rattle.server_msgs.specs.declared.message.Message.TheVariants as message
-use Rattle.server_model.specs.Servers.{Cluster}
-use Rattle.coloured_heap.specs.Heap.{Place, Lies, Flies}
-use Rattle.heap_law.specs.Names.{tot, one, if_so, same_object}
-use Rattle.heap_law.specs.Things.{Location, at_slot, at_temp, in_cell, Thing, lies, flies, sent, stands, message_things, things_of}
-use Rattle.heap_law.specs.Follow.{Standing, Ground, ground_of, threads_in, thread_at, cells_in, cell_of, value_behind, leads, locate, value_at}
-use Rattle.heap_law.specs.Sight.{sight}
-use Rattle.heap_law.specs.Weights.{is_thread}
-use Rattle.heap_law.specs.Requests.{mutex_of, is_mutex, locked_mutex}
-use Rattle.heap_law.specs.Sharing.{gift_content}
-use Rattle.heap_law.specs.OneHeap.{first_shown, if_in, cell_value, plain_value}
-use Rattle.heap_law.specs.Coherent.{IsSound}
-use Rattle.still_law.specs.Shows.{ShownThread, frame_of}
-use Rattle.still_law.proofs.Tests.{plains, same_part, threads as thread_test}
-use Rattle.still_law.proofs.Told.{told, ones, same_told, first_told, at_thread, thread_told}
-use Rattle.still_law.proofs.PlainValues.{told_map, plain_leads, plain_mutex, leads_plain, mutex_plain, cell_found, shown_of, slot_from, slot_shown, owned_from, value_shown}
-use Rattle.still_law.proofs.Once.{shown_once}
+use Rattle.entry_law.specs.Below.fr_base.declared.name.MutexNo.{MutexNo}
+use Rattle.entry_law.specs.Below.fr_base.declared.name.ObjNo.{ObjNo}
+use Rattle.entry_law.specs.Below.fr_base.declared.label.Plain.{Plain}
+use Rattle.entry_law.specs.Below.fr_base.declared.instruction.Instr.{Instr}
+use Rattle.entry_law.specs.Below.fr_base.declared.instruction.Instr.TheVariants as instr
+use Rattle.entry_law.specs.Below.fr_base.declared.place.Lval.{Lval}
+use Rattle.entry_law.specs.Below.fr_base.Names.{same_plain}
+use Rattle.entry_law.specs.Below.heap_partition.Plain.{plain_of}
+use Rattle.entry_law.specs.Below.heap_partition.declared.value.Owned.TheVariants as owned
+use Rattle.entry_law.specs.Below.thread_state.View.{ThreadState}
+use Rattle.entry_law.specs.Below.thread_state.declared.value.Value.{Value}
+use Rattle.entry_law.specs.Below.thread_state.declared.value.Value.TheVariants as value
+use Rattle.entry_law.specs.Below.server_msgs.declared.message.Message.{Message}
+use Rattle.entry_law.specs.Below.server_msgs.declared.message.Message.TheVariants as message
+use Rattle.entry_law.specs.Below.server_model.Servers.{Cluster}
+use Rattle.entry_law.specs.Below.coloured_heap.Heap.{Place, Lies, Flies}
+use Rattle.entry_law.specs.Below.heap_law.Names.{tot, one, if_so, same_object}
+use Rattle.entry_law.specs.Below.heap_law.Things.{Location, at_slot, at_temp, in_cell, Thing, lies, flies, sent, stands, message_things, things_of}
+use Rattle.entry_law.specs.Below.heap_law.Follow.{Standing, Ground, ground_of, threads_in, thread_at, cells_in, cell_of, value_behind, leads, locate, value_at}
+use Rattle.entry_law.specs.Below.heap_law.Sight.{sight}
+use Rattle.entry_law.specs.Below.heap_law.Weights.{is_thread}
+use Rattle.entry_law.specs.Below.heap_law.Requests.{mutex_of, is_mutex, locked_mutex}
+use Rattle.entry_law.specs.Below.heap_law.Sharing.{gift_content}
+use Rattle.entry_law.specs.Below.heap_law.OneHeap.{first_shown, if_in, cell_value, plain_value}
+use Rattle.entry_law.specs.Below.heap_law.Coherent.{IsSound}
+use Rattle.entry_law.specs.Below.still_law.Shows.{ShownThread, frame_of}
+use Rattle.entry_law.proofs.Below.still_law.Tests.{plains, same_part, threads as thread_test}
+use Rattle.entry_law.proofs.Below.still_law.Told.{told, ones, same_told, first_told, at_thread, thread_told}
+use Rattle.entry_law.proofs.Below.still_law.PlainValues.{told_map, plain_leads, plain_mutex, leads_plain, mutex_plain, cell_found, shown_of, slot_from, slot_shown, owned_from, value_shown}
+use Rattle.entry_law.proofs.Below.still_law.Once.{shown_once}
 use Rattle.entry_law.proofs.Weighed.{Seen, Bare}
 use Rattle.entry_law.proofs.Carried.{cluster_less, is_sent}
 use Rattle.entry_law.proofs.Shown.{if_some, placed_in}

@@ -1,41 +1,41 @@
 -- Steps that note no act: prints, arithmetic, and ends of pairs.
 use Rattle.std.proofs.Common.{◌≡◌, ℕ, ℤ, true, false, List, [], ◌∷◌, ◌++◌, Option, Some, None, refl, ap, subst, ◌∙◌, ◌&&◌}
 use Rattle.std.specs.Prelude.{⊤, slice_get, option_map}
-use Rattle.fr_base.specs.declared.label.Label.{Label}
-use Rattle.fr_base.specs.declared.label.Label.TheVariants as label
-use Rattle.fr_base.specs.declared.place.Op.{Op}
-use Rattle.fr_base.specs.declared.instruction.Operand.{Operand}
-use Rattle.fr_base.specs.declared.instruction.Operand.TheVariants as operand
-use Rattle.fr_base.specs.declared.instruction.Instr.{Instr}
-use Rattle.fr_base.specs.declared.instruction.Instr.TheVariants as instr
-use Rattle.thread_state.specs.View.{ThreadState, is_over}
-use Rattle.thread_state.specs.declared.phase.Phase.{Phase}
-use Rattle.thread_state.specs.declared.phase.Phase.TheVariants as phase
-use Rattle.thread_state.specs.declared.value.Value.{Value}
-use Rattle.server_msgs.specs.declared.message.Message.{Message}
-use Rattle.server_msgs.specs.declared.message.Message.TheVariants as message
-use Rattle.journal.specs.View.{EntryView}
-use Rattle.server_model.specs.declared.event.What.{What}
-use Rattle.server_model.specs.declared.event.What.TheVariants.{Step, Deliver, Evict, Migrate}
-use Rattle.server_model.specs.Servers.{Server, Cluster, server_at}
-use Rattle.server_model.specs.Work.{Hand, Popped, last_of, front_of, with_temps, int_of, taken_as, then_some, pop_int, thread_in}
-use Rattle.server_model.specs.Commit.{arith, print, par_end}
-use Rattle.server_model.specs.Events.{can_step, has_phase, enabled, does, begin_work, step, step_in, stepped}
-use Rattle.server_model.specs.Clusters.{apply}
-use Rattle.coloured_heap.specs.Heap.{Coloured, object_at}
-use Rattle.coloured_heap.specs.Lists.{holds}
-use Rattle.coloured_heap.specs.Rules.{is_here}
-use Rattle.coloured_heap.specs.Reach.{is_loaded, reaches}
-use Rattle.coloured_heap.specs.Changes.{stored, with_value}
-use Rattle.heap_law.specs.Colours.{StandsColoured}
-use Rattle.heap_law.specs.Coherent.{IsSound}
-use Rattle.event_law.specs.Kinds.{Kind, step_print, step_arith, step_par_end, message_kind, instr_kind, kind_at}
-use Rattle.event_law.specs.Laws.{Gives}
-use Rattle.event_law.proofs.Results.{map_gives, over_gives, bind_gives, both_give}
-use Rattle.event_law.proofs.QuietSteps.{GiftFits}
-use Rattle.event_law.proofs.GiftsTaken.{gift_fits}
-use Rattle.stay_law.proofs.StayKinds.{Stays, kind_stays}
-use Rattle.word_law.specs.Unmoved.{LeavesWords}
+use Rattle.entry_law.specs.Below.fr_base.declared.label.Label.{Label}
+use Rattle.entry_law.specs.Below.fr_base.declared.label.Label.TheVariants as label
+use Rattle.entry_law.specs.Below.fr_base.declared.place.Op.{Op}
+use Rattle.entry_law.specs.Below.fr_base.declared.instruction.Operand.{Operand}
+use Rattle.entry_law.specs.Below.fr_base.declared.instruction.Operand.TheVariants as operand
+use Rattle.entry_law.specs.Below.fr_base.declared.instruction.Instr.{Instr}
+use Rattle.entry_law.specs.Below.fr_base.declared.instruction.Instr.TheVariants as instr
+use Rattle.entry_law.specs.Below.thread_state.View.{ThreadState, is_over}
+use Rattle.entry_law.specs.Below.thread_state.declared.phase.Phase.{Phase}
+use Rattle.entry_law.specs.Below.thread_state.declared.phase.Phase.TheVariants as phase
+use Rattle.entry_law.specs.Below.thread_state.declared.value.Value.{Value}
+use Rattle.entry_law.specs.Below.server_msgs.declared.message.Message.{Message}
+use Rattle.entry_law.specs.Below.server_msgs.declared.message.Message.TheVariants as message
+use Rattle.entry_law.specs.Below.journal.View.{EntryView}
+use Rattle.entry_law.specs.Below.server_model.declared.event.What.{What}
+use Rattle.entry_law.specs.Below.server_model.declared.event.What.TheVariants.{Step, Deliver, Evict, Migrate}
+use Rattle.entry_law.specs.Below.server_model.Servers.{Server, Cluster, server_at}
+use Rattle.entry_law.specs.Below.server_model.Work.{Hand, Popped, last_of, front_of, with_temps, int_of, taken_as, then_some, pop_int, thread_in}
+use Rattle.entry_law.specs.Below.server_model.Commit.{arith, print, par_end}
+use Rattle.entry_law.specs.Below.server_model.Events.{can_step, has_phase, enabled, does, begin_work, step, step_in, stepped}
+use Rattle.entry_law.specs.Below.server_model.Clusters.{apply}
+use Rattle.entry_law.specs.Below.coloured_heap.Heap.{Coloured, object_at}
+use Rattle.entry_law.specs.Below.coloured_heap.Lists.{holds}
+use Rattle.entry_law.specs.Below.coloured_heap.Rules.{is_here}
+use Rattle.entry_law.specs.Below.coloured_heap.Reach.{is_loaded, reaches}
+use Rattle.entry_law.specs.Below.coloured_heap.Changes.{stored, with_value}
+use Rattle.entry_law.specs.Below.heap_law.Colours.{StandsColoured}
+use Rattle.entry_law.specs.Below.heap_law.Coherent.{IsSound}
+use Rattle.entry_law.specs.Below.event_law.Kinds.{Kind, step_print, step_arith, step_par_end, message_kind, instr_kind, kind_at}
+use Rattle.entry_law.specs.Below.event_law.Laws.{Gives}
+use Rattle.entry_law.proofs.Below.event_law.Results.{map_gives, over_gives, bind_gives, both_give}
+use Rattle.entry_law.proofs.Below.event_law.QuietSteps.{GiftFits}
+use Rattle.entry_law.proofs.Below.event_law.GiftsTaken.{gift_fits}
+use Rattle.entry_law.proofs.Below.stay_law.StayKinds.{Stays, kind_stays}
+use Rattle.entry_law.specs.Below.word_law.Unmoved.{LeavesWords}
 use Rattle.entry_law.specs.Entries.{LeadsOn, EntriesLegal}
 use Rattle.entry_law.proofs.Applied.{applied_by}
 use Rattle.step_entry_law.proofs.Settled.{Keeping, Settles, goes_over, StepLed, settled_led}

@@ -1,40 +1,40 @@
 -- A step that notes no act leads on: its thread keeps its slots and runs on, its uses of copies end, and its labels store nothing.
 use Rattle.std.proofs.Common.{◌≡◌, ℕ, ◌+◌, ◌-◌, ◌==◌, ◌&&◌, not, Bool, true, false, if◌then◌else◌, List, [], ◌∷◌, Option, Some, None, is_some, refl, sym, ap, ap₂, subst, ◌∙◌, arith}
 use Rattle.std.specs.Prelude.{option_map}
-use Rattle.fr_base.specs.declared.name.MutexNo.{MutexNo}
-use Rattle.fr_base.specs.declared.label.Label.{Label}
-use Rattle.fr_base.specs.declared.step.Fresh.{Fresh}
-use Rattle.fr_base.specs.declared.step.Fresh.TheVariants as fresh
-use Rattle.read_cache.specs.Cache.{Copy, users, with_users, can_unpin, unpin}
-use Rattle.thread_state.specs.View.{ThreadState, is_over}
-use Rattle.migration.specs.Packing.{unpin_all}
-use Rattle.journal.specs.View.{EntryView}
-use Rattle.journal.specs.declared.act.Act.{Act}
-use Rattle.server_model.specs.Servers.{Rest, Server, Cluster, server_at}
-use Rattle.server_model.specs.Work.{Work, Hand, thread_in, set_thread}
-use Rattle.server_model.specs.Commit.{goes_on, go_on}
-use Rattle.server_model.specs.Events.{begin_work, begin_at, entry_of, Stepped, done_step, committed, stepped}
-use Rattle.coloured_heap.specs.Lists.{holds}
-use Rattle.coloured_heap.specs.Heap.{Running, Coloured, thread_at as runner_at}
-use Rattle.coloured_heap.specs.Rules.{of_run}
-use Rattle.coloured_heap.specs.Changes.{stored}
-use Rattle.coloured_heap.specs.Reach.{reaches, is_reached}
-use Rattle.coloured_heap.specs.Legal.{is_placed, entry_after, settled}
-use Rattle.heap_law.specs.Names.{tot, one, some, if_so}
-use Rattle.heap_law.specs.Things.{Thing, stands, things_at, copy_things, things_of}
-use Rattle.heap_law.specs.Follow.{Standing, threads_in, thread_at}
-use Rattle.heap_law.specs.Sight.{sight}
-use Rattle.heap_law.specs.Requests.{is_mutex, locked_mutex}
-use Rattle.heap_law.specs.Walking.{instr_of}
-use Rattle.heap_law.specs.Colours.{StandsColoured, running_of}
-use Rattle.heap_law.specs.Coherent.{IsSound}
-use Rattle.event_law.specs.Laws.{Gives}
-use Rattle.event_law.proofs.Trades.{trade_whole}
-use Rattle.event_law.proofs.Bags.{rest_things, of_cache, thread_number}
-use Rattle.event_law.proofs.ThreadThere.{thread_there}
-use Rattle.still_law.proofs.Told.{told}
-use Rattle.still_law.proofs.Tests.{numbers}
-use Rattle.word_law.specs.Unmoved.{LeavesWords}
+use Rattle.entry_law.specs.Below.fr_base.declared.name.MutexNo.{MutexNo}
+use Rattle.entry_law.specs.Below.fr_base.declared.label.Label.{Label}
+use Rattle.entry_law.specs.Below.fr_base.declared.step.Fresh.{Fresh}
+use Rattle.entry_law.specs.Below.fr_base.declared.step.Fresh.TheVariants as fresh
+use Rattle.entry_law.specs.Below.read_cache.Cache.{Copy, users, with_users, can_unpin, unpin}
+use Rattle.entry_law.specs.Below.thread_state.View.{ThreadState, is_over}
+use Rattle.entry_law.specs.Below.migration.Packing.{unpin_all}
+use Rattle.entry_law.specs.Below.journal.View.{EntryView}
+use Rattle.entry_law.specs.Below.journal.declared.act.Act.{Act}
+use Rattle.entry_law.specs.Below.server_model.Servers.{Rest, Server, Cluster, server_at}
+use Rattle.entry_law.specs.Below.server_model.Work.{Work, Hand, thread_in, set_thread}
+use Rattle.entry_law.specs.Below.server_model.Commit.{goes_on, go_on}
+use Rattle.entry_law.specs.Below.server_model.Events.{begin_work, begin_at, entry_of, Stepped, done_step, committed, stepped}
+use Rattle.entry_law.specs.Below.coloured_heap.Lists.{holds}
+use Rattle.entry_law.specs.Below.coloured_heap.Heap.{Running, Coloured, thread_at as runner_at}
+use Rattle.entry_law.specs.Below.coloured_heap.Rules.{of_run}
+use Rattle.entry_law.specs.Below.coloured_heap.Changes.{stored}
+use Rattle.entry_law.specs.Below.coloured_heap.Reach.{reaches, is_reached}
+use Rattle.entry_law.specs.Below.coloured_heap.Legal.{is_placed, entry_after, settled}
+use Rattle.entry_law.specs.Below.heap_law.Names.{tot, one, some, if_so}
+use Rattle.entry_law.specs.Below.heap_law.Things.{Thing, stands, things_at, copy_things, things_of}
+use Rattle.entry_law.specs.Below.heap_law.Follow.{Standing, threads_in, thread_at}
+use Rattle.entry_law.specs.Below.heap_law.Sight.{sight}
+use Rattle.entry_law.specs.Below.heap_law.Requests.{is_mutex, locked_mutex}
+use Rattle.entry_law.specs.Below.heap_law.Walking.{instr_of}
+use Rattle.entry_law.specs.Below.heap_law.Colours.{StandsColoured, running_of}
+use Rattle.entry_law.specs.Below.heap_law.Coherent.{IsSound}
+use Rattle.entry_law.specs.Below.event_law.Laws.{Gives}
+use Rattle.entry_law.proofs.Below.event_law.Trades.{trade_whole}
+use Rattle.entry_law.proofs.Below.event_law.Bags.{rest_things, of_cache, thread_number}
+use Rattle.entry_law.proofs.Below.event_law.ThreadThere.{thread_there}
+use Rattle.entry_law.proofs.Below.still_law.Told.{told}
+use Rattle.entry_law.proofs.Below.still_law.Tests.{numbers}
+use Rattle.entry_law.specs.Below.word_law.Unmoved.{LeavesWords}
 use Rattle.entry_law.specs.Entries.{LeadsOn}
 use Rattle.entry_law.proofs.Answers.{Answers, answers_of, Fits, fits, coloured_by}
 use Rattle.entry_law.proofs.Weighed.{Seen, WorkTurns, SiteTurns, thread_turns, server_turns}

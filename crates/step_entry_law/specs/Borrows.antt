@@ -1,14 +1,14 @@
 -- ENTRIES OF BORROWS OF VARIABLES ARE LEGAL (in the manner of DRust; the state is this project's).
 use Rattle.std.specs.Prelude.{◌≡◌, ℕ, Some, slice_get}
-use Rattle.fr_base.specs.declared.instruction.Instr.{Instr}
-use Rattle.thread_state.specs.View.{ThreadState}
-use Rattle.thread_state.specs.declared.phase.Phase.TheVariants as phase
-use Rattle.server_model.specs.declared.event.What.TheVariants.{Step}
-use Rattle.server_model.specs.Servers.{Server, Cluster, server_at}
-use Rattle.server_model.specs.Work.{thread_in}
-use Rattle.heap_law.specs.Coherent.{IsSound}
-use Rattle.event_law.specs.Laws.{FewEvents}
-use Rattle.stay_law.specs.Laws.{BorrowsVariable}
+use Rattle.entry_law.specs.Below.fr_base.declared.instruction.Instr.{Instr}
+use Rattle.entry_law.specs.Below.thread_state.View.{ThreadState}
+use Rattle.entry_law.specs.Below.thread_state.declared.phase.Phase.TheVariants as phase
+use Rattle.entry_law.specs.Below.server_model.declared.event.What.TheVariants.{Step}
+use Rattle.entry_law.specs.Below.server_model.Servers.{Server, Cluster, server_at}
+use Rattle.entry_law.specs.Below.server_model.Work.{thread_in}
+use Rattle.entry_law.specs.Below.heap_law.Coherent.{IsSound}
+use Rattle.entry_law.specs.Below.event_law.Laws.{FewEvents}
+use Rattle.entry_law.specs.Below.stay_law.Laws.{BorrowsVariable}
 use Rattle.entry_law.specs.Entries.{EntryLegal}
 
 -- a step at the borrow of a variable, of a thread that hasn't taken an object, has a legal entry, from a sound cluster in which few events were done

@@ -1,6 +1,6 @@
 //! Laws of the entries of steps.
 
-ghost use Rattle.event_law.specs.Kinds.{step_arith, step_join, step_par_end, step_print};
+ghost use Rattle.entry_law.specs.Below.event_law.Kinds.{step_arith, step_join, step_par_end, step_print};
 ghost use Rattle.entry_law.specs.Entries.{EntriesLegal};
 ghost use Rattle.step_entry_law.specs.Borrows.{VariableBorrowsLegal};
 ghost use Rattle.step_entry_law.specs.Undone.{UndoneLegal};

@@ -5,19 +5,19 @@ use Rattle.std.proofs.lemmas.Bool.{eq-eqb}
 use Rattle.std.proofs.lemmas.Bool.Decides.{nat_tests}
 use Rattle.std.proofs.lemmas.List.{length-append}
 use Rattle.std.proofs.lemmas.Option.{slice_get-get_or, slice_get_within}
-use Rattle.fr_typing.proofs.PlaceLemmas.{eq_cases}
-use Rattle.global_addr.specs.Words.{colour_of, server_of, address_of}
-use Rattle.heap_partition.specs.declared.value.Cell.{Cell}
-use Rattle.heap_partition.specs.declared.value.Owned.{Owned}
-use Rattle.colour_retire.specs.Colours.{picked}
-use Rattle.owner_box.specs.View.{PartitionState}
-use Rattle.owner_box.specs.Partition.{put_cell, with_value, cell_of, stored, freed, made, made_again, renewed}
-use Rattle.server_model.specs.Servers.{Rest}
-use Rattle.server_model.specs.Work.{look, leads_here}
-use Rattle.heap_law.specs.Names.{tot, one}
-use Rattle.heap_law.specs.Things.{Thing, vacant, retired, counts, is_free, partition_things, cell_things, free_things, things_at}
-use Rattle.heap_law.specs.Weights.{states, below}
-use Rattle.heap_law.proofs.Names.{and_left, and_right}
+use Rattle.event_law.proofs.Below.fr_typing.PlaceLemmas.{eq_cases}
+use Rattle.event_law.specs.Below.global_addr.Words.{colour_of, server_of, address_of}
+use Rattle.event_law.specs.Below.heap_partition.declared.value.Cell.{Cell}
+use Rattle.event_law.specs.Below.heap_partition.declared.value.Owned.{Owned}
+use Rattle.event_law.specs.Below.colour_retire.Colours.{picked}
+use Rattle.event_law.specs.Below.owner_box.View.{PartitionState}
+use Rattle.event_law.specs.Below.owner_box.Partition.{put_cell, with_value, cell_of, stored, freed, made, made_again, renewed}
+use Rattle.event_law.specs.Below.server_model.Servers.{Rest}
+use Rattle.event_law.specs.Below.server_model.Work.{look, leads_here}
+use Rattle.event_law.specs.Below.heap_law.Names.{tot, one}
+use Rattle.event_law.specs.Below.heap_law.Things.{Thing, vacant, retired, counts, is_free, partition_things, cell_things, free_things, things_at}
+use Rattle.event_law.specs.Below.heap_law.Weights.{states, below}
+use Rattle.event_law.proofs.Below.heap_law.Names.{and_left, and_right}
 use Rattle.event_law.specs.Sums.{is_server}
 use Rattle.event_law.proofs.Trades.{tot-append, trade_whole}
 use Rattle.event_law.proofs.Rules.{Placed}

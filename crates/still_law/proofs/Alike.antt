@@ -1,42 +1,42 @@
 -- Clusters whose things show alike stand for the same one heap, where each object, content and result is shown once and no two threads have one number.
 use Rattle.std.proofs.Common.{◌≡◌, ℕ, zero, ◌<◌, suc, ◌+◌, ◌≤◌, ◌==◌, ◌&&◌, ◌||◌, not, Bool, true, false, if◌then◌else◌, List, [], ◌∷◌, length, Option, Some, None, option_map, map, refl, sym, ap, ap₂, subst, ◌∙◌, arith}
 use Rattle.std.specs.Bool.{⊤}
-use Rattle.fr_store.proofs.Keys.{object_cases}
+use Rattle.event_law.proofs.Below.fr_store.Keys.{object_cases}
 use Rattle.std.specs.Prelude.{◌%◌, ◌^◌, slice_get, nat_le}
-use Rattle.fr_base.specs.declared.name.MutexNo.{MutexNo}
-use Rattle.fr_base.specs.declared.name.ObjNo.{ObjNo}
-use Rattle.fr_base.specs.declared.label.Plain.{Plain}
-use Rattle.fr_base.specs.declared.label.Plain.TheVariants as plain
-use Rattle.fr_base.specs.declared.instruction.Instr.{Instr}
-use Rattle.fr_base.specs.declared.instruction.Instr.TheVariants as instr
-use Rattle.fr_base.specs.declared.instruction.Operand.{Operand}
-use Rattle.fr_base.specs.declared.place.Lval.{Lval}
-use Rattle.fr_base.specs.Names.{same_plain}
-use Rattle.fr_typing.proofs.PlaceLemmas.{eq_cases}
-use Rattle.fr_plain.specs.PlainState.{SameState}
-use Rattle.fr_code.specs.Machine.{CodeRunning}
-use Rattle.heap_partition.specs.Plain.{plain_of}
-use Rattle.heap_partition.specs.declared.value.Owned.{Owned}
-use Rattle.thread_state.specs.View.{is_over}
-use Rattle.join_home.specs.Tasks.{TaskState, going, let_go, kept, asked, in_pair}
-use Rattle.server_model.specs.Servers.{Cluster}
-use Rattle.heap_law.specs.Names.{tot, one, other, if_so, some, same_object, same_mutex}
-use Rattle.heap_law.specs.Things.{Location, at_slot, at_temp, in_cell, Spot, in_slot, in_temp, as_gift, as_content, as_result, in_hand, Thing, holds, lies, flies, stands, noted, things_of}
-use Rattle.heap_law.specs.Follow.{Standing, threads_in, thread_at, cells_in, cell_of, value_in, value_behind, leads, locate, value_at}
-use Rattle.heap_law.specs.Sight.{Sight, sight, with_things}
-use Rattle.heap_law.specs.Paths.{popped, task_in}
-use Rattle.heap_law.specs.Walking.{instr_of}
-use Rattle.heap_law.specs.Requests.{home_of, mutex_of}
-use Rattle.heap_law.specs.Sharing.{got_phase, has_ended}
-use Rattle.heap_law.specs.Naming.{started_at, made_at}
-use Rattle.heap_law.specs.Weights.{is_thread}
-use Rattle.heap_law.specs.OneHeap.{Node, object_n, mutex_n, task_n, Owner, inside, outside, content_owner, result_owner, gift_owner, gift_owner_of, spot_owner, owner_of, names, owner_in, named_in, any_named, in_state_by, is_in_state, if_in, cell_value, or_else, first_shown, object_value, is_content, content_value, share_in, if_there, plain_value, pair_note, pair_over, is_branch, branch_result, is_result, result_of, ended_with, going_on, running_at, life_of, life_at, made_of, pair_of, is_given_thread, is_given_mutex, if_given, one_heap, state_of}
-use Rattle.heap_law.proofs.Names.{if_not, same_number, same_mutexes}
+use Rattle.event_law.specs.Below.fr_base.declared.name.MutexNo.{MutexNo}
+use Rattle.event_law.specs.Below.fr_base.declared.name.ObjNo.{ObjNo}
+use Rattle.event_law.specs.Below.fr_base.declared.label.Plain.{Plain}
+use Rattle.event_law.specs.Below.fr_base.declared.label.Plain.TheVariants as plain
+use Rattle.event_law.specs.Below.fr_base.declared.instruction.Instr.{Instr}
+use Rattle.event_law.specs.Below.fr_base.declared.instruction.Instr.TheVariants as instr
+use Rattle.event_law.specs.Below.fr_base.declared.instruction.Operand.{Operand}
+use Rattle.event_law.specs.Below.fr_base.declared.place.Lval.{Lval}
+use Rattle.event_law.specs.Below.fr_base.Names.{same_plain}
+use Rattle.event_law.proofs.Below.fr_typing.PlaceLemmas.{eq_cases}
+use Rattle.event_law.specs.Below.fr_plain.PlainState.{SameState}
+use Rattle.event_law.specs.Below.fr_code.Machine.{CodeRunning}
+use Rattle.event_law.specs.Below.heap_partition.Plain.{plain_of}
+use Rattle.event_law.specs.Below.heap_partition.declared.value.Owned.{Owned}
+use Rattle.event_law.specs.Below.thread_state.View.{is_over}
+use Rattle.event_law.specs.Below.join_home.Tasks.{TaskState, going, let_go, kept, asked, in_pair}
+use Rattle.event_law.specs.Below.server_model.Servers.{Cluster}
+use Rattle.event_law.specs.Below.heap_law.Names.{tot, one, other, if_so, some, same_object, same_mutex}
+use Rattle.event_law.specs.Below.heap_law.Things.{Location, at_slot, at_temp, in_cell, Spot, in_slot, in_temp, as_gift, as_content, as_result, in_hand, Thing, holds, lies, flies, stands, noted, things_of}
+use Rattle.event_law.specs.Below.heap_law.Follow.{Standing, threads_in, thread_at, cells_in, cell_of, value_in, value_behind, leads, locate, value_at}
+use Rattle.event_law.specs.Below.heap_law.Sight.{Sight, sight, with_things}
+use Rattle.event_law.specs.Below.heap_law.Paths.{popped, task_in}
+use Rattle.event_law.specs.Below.heap_law.Walking.{instr_of}
+use Rattle.event_law.specs.Below.heap_law.Requests.{home_of, mutex_of}
+use Rattle.event_law.specs.Below.heap_law.Sharing.{got_phase, has_ended}
+use Rattle.event_law.specs.Below.heap_law.Naming.{started_at, made_at}
+use Rattle.event_law.specs.Below.heap_law.Weights.{is_thread}
+use Rattle.event_law.specs.Below.heap_law.OneHeap.{Node, object_n, mutex_n, task_n, Owner, inside, outside, content_owner, result_owner, gift_owner, gift_owner_of, spot_owner, owner_of, names, owner_in, named_in, any_named, in_state_by, is_in_state, if_in, cell_value, or_else, first_shown, object_value, is_content, content_value, share_in, if_there, plain_value, pair_note, pair_over, is_branch, branch_result, is_result, result_of, ended_with, going_on, running_at, life_of, life_at, made_of, pair_of, is_given_thread, is_given_mutex, if_given, one_heap, state_of}
+use Rattle.event_law.proofs.Below.heap_law.Names.{if_not, same_number, same_mutexes}
 use Rattle.still_law.specs.Shows.{plain_frame, ShownThread, Sign, nothing, a_value, an_object, a_thread as a_shown_thread, a_branch, a_count, note_sign, sign_of, gift_spot_at, gift_spot_of, gift_spot, counted_at, is_named, held_branch, is_held, Counts, CountAlike, ShowAlike}
 use Rattle.still_law.proofs.Tests.{plains, same_part, threads as thread_test}
 use Rattle.still_law.proofs.Rounds.{owner_same, named_alike, enough}
 use Rattle.still_law.proofs.Told.{at_most, tot_same, tot_but, told, ones, same_told, first_told, at_thread, thread_told, some_or}
-use Rattle.fr_plain.specs.MachineThreads.{loose, owing}
+use Rattle.event_law.specs.Below.fr_plain.MachineThreads.{loose, owing}
 use Rattle.still_law.proofs.PlainValues.{told_map, told_if, one_so, unnoted, plain_owns, owns_plain, unit_owns, plain_leads, plain_mutex, plain_task, leads_plain, mutex_plain, task_plain, popped_plain, pop_plain, cell_found, shown_of, all_framed, slot_from, temp_from, slot_shown, temp_shown, owned_from, value_shown, got_of, got_is, shown_running, running_shown}
 use Rattle.still_law.proofs.Counting.{shown_result, gifted, stray, no_stray, by_gift_spot, spot_owned, gift_owned, is_content_at, is_result_at, gift_is_content, gift_is_result, no_values, unnamed_out, none_some, got_at, got_held, held_branches, no_got, result_none, result_shown}
 

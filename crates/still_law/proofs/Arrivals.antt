@@ -1,22 +1,22 @@
 -- A thread that leaves as a parcel, or comes from one, shows what it showed.
 use Rattle.std.proofs.Common.{◌≡◌, ℕ, ◌+◌, Bool, true, false, if◌then◌else◌, List, [], ◌∷◌, ◌++◌, Some, None, refl, sym, ap, ap₂, ◌∙◌, arith}
 use Rattle.std.specs.Prelude.{slice_get, map, nat_lt}
-use Rattle.mut_borrow.specs.declared.shared.SharedRef.{SharedRef}
-use Rattle.read_cache.specs.Cache.{Copy}
-use Rattle.thread_state.specs.View.{ThreadState}
-use Rattle.thread_state.specs.declared.value.Value.{Value}
-use Rattle.thread_state.specs.declared.value.Value.TheVariants as value
-use Rattle.server_msgs.specs.declared.message.Message.{Message}
-use Rattle.server_msgs.specs.declared.message.Message.TheVariants as message
-use Rattle.migration.specs.Packing.{unpin_all, unpinned, used_words, packed, pack_thread}
-use Rattle.server_model.specs.declared.event.What.TheVariants.{Deliver, Migrate}
-use Rattle.server_model.specs.Servers.{Server, Cluster, Rest}
-use Rattle.server_model.specs.Work.{Site, with_cache, thread_in, with_thread, without_thread}
-use Rattle.server_model.specs.Moving.{depart, migrate}
-use Rattle.server_model.specs.Joining.{arrive}
-use Rattle.server_model.specs.Events.{begin_at, left_by, received, does}
-use Rattle.heap_law.specs.Names.{tot}
-use Rattle.heap_law.specs.Things.{Spot, Location, in_slot, in_temp, at_slot, at_temp, Thing, uses, stands, things_at, pin_things, gift_things, walk_things, value_things, slot_things, temp_things, thread_things, message_things, copy_things, sent}
+use Rattle.event_law.specs.Below.mut_borrow.declared.shared.SharedRef.{SharedRef}
+use Rattle.event_law.specs.Below.read_cache.Cache.{Copy}
+use Rattle.event_law.specs.Below.thread_state.View.{ThreadState}
+use Rattle.event_law.specs.Below.thread_state.declared.value.Value.{Value}
+use Rattle.event_law.specs.Below.thread_state.declared.value.Value.TheVariants as value
+use Rattle.event_law.specs.Below.server_msgs.declared.message.Message.{Message}
+use Rattle.event_law.specs.Below.server_msgs.declared.message.Message.TheVariants as message
+use Rattle.event_law.specs.Below.migration.Packing.{unpin_all, unpinned, used_words, packed, pack_thread}
+use Rattle.event_law.specs.Below.server_model.declared.event.What.TheVariants.{Deliver, Migrate}
+use Rattle.event_law.specs.Below.server_model.Servers.{Server, Cluster, Rest}
+use Rattle.event_law.specs.Below.server_model.Work.{Site, with_cache, thread_in, with_thread, without_thread}
+use Rattle.event_law.specs.Below.server_model.Moving.{depart, migrate}
+use Rattle.event_law.specs.Below.server_model.Joining.{arrive}
+use Rattle.event_law.specs.Below.server_model.Events.{begin_at, left_by, received, does}
+use Rattle.event_law.specs.Below.heap_law.Names.{tot}
+use Rattle.event_law.specs.Below.heap_law.Things.{Spot, Location, in_slot, in_temp, at_slot, at_temp, Thing, uses, stands, things_at, pin_things, gift_things, walk_things, value_things, slot_things, temp_things, thread_things, message_things, copy_things, sent}
 use Rattle.event_law.specs.Laws.{Gives}
 use Rattle.event_law.proofs.Trades.{tot-append, tot-front, trade_whole}
 use Rattle.event_law.proofs.Results.{then_gives, over_gives, map_gives, stand_gives}

@@ -1,18 +1,18 @@
 -- A join that asks for its result changes what its thread waits for, and nothing that is shown.
 use Rattle.std.proofs.Common.{◌≡◌, ℕ, Bool, true, false, [], Option, Some, None, refl, sym, subst, ◌∙◌}
 use Rattle.std.specs.Prelude.{slice_get, option_map}
-use Rattle.fr_base.specs.declared.instruction.Instr.TheVariants as instr
-use Rattle.fr_base.specs.declared.instruction.Operand.{Operand}
-use Rattle.thread_state.specs.View.{ThreadState}
-use Rattle.server_model.specs.declared.event.What.TheVariants.{Step}
-use Rattle.server_model.specs.Servers.{Server, Cluster, server_at}
-use Rattle.server_model.specs.Work.{Hand, then_some, pop, task_of, thread_in, put_back}
-use Rattle.server_model.specs.Commit.{waiting, ask_join, join}
-use Rattle.server_model.specs.Events.{can_step, has_phase, begin_work, begin_at, committed, wait_step, step, step_in, stepped, enabled, does}
-use Rattle.heap_law.specs.Names.{other}
-use Rattle.heap_law.specs.Sight.{sight}
-use Rattle.heap_law.specs.Requests.{is_par, is_par_end, same_truth, par_end}
-use Rattle.heap_law.specs.Coherent.{IsSound}
+use Rattle.event_law.specs.Below.fr_base.declared.instruction.Instr.TheVariants as instr
+use Rattle.event_law.specs.Below.fr_base.declared.instruction.Operand.{Operand}
+use Rattle.event_law.specs.Below.thread_state.View.{ThreadState}
+use Rattle.event_law.specs.Below.server_model.declared.event.What.TheVariants.{Step}
+use Rattle.event_law.specs.Below.server_model.Servers.{Server, Cluster, server_at}
+use Rattle.event_law.specs.Below.server_model.Work.{Hand, then_some, pop, task_of, thread_in, put_back}
+use Rattle.event_law.specs.Below.server_model.Commit.{waiting, ask_join, join}
+use Rattle.event_law.specs.Below.server_model.Events.{can_step, has_phase, begin_work, begin_at, committed, wait_step, step, step_in, stepped, enabled, does}
+use Rattle.event_law.specs.Below.heap_law.Names.{other}
+use Rattle.event_law.specs.Below.heap_law.Sight.{sight}
+use Rattle.event_law.specs.Below.heap_law.Requests.{is_par, is_par_end, same_truth, par_end}
+use Rattle.event_law.specs.Below.heap_law.Coherent.{IsSound}
 use Rattle.event_law.specs.Laws.{Gives}
 use Rattle.event_law.proofs.ThreadThere.{thread_there}
 use Rattle.event_law.proofs.StandsHere.{found_none}

@@ -2,27 +2,27 @@
 use Rattle.std.proofs.Common.{◌≡◌, ℕ, ◌+◌, ◌-◌, ◌==◌, Bool, true, false, nat_lt, if◌then◌else◌, List, [], ◌∷◌, Option, Some, None, refl, ap, ap₂, ◌∙◌, arith}
 use Rattle.std.specs.Prelude.{slice_get}
 use Rattle.std.proofs.lemmas.Bool.{eqb-true}
-use Rattle.fr_base.specs.declared.name.MutexNo.{MutexNo}
-use Rattle.fr_base.specs.declared.release.Released.TheVariants as released
-use Rattle.global_addr.specs.Words.{server_of}
-use Rattle.heap_partition.specs.Plain.{plain_of}
-use Rattle.heap_partition.specs.declared.value.Owned.{Owned}
-use Rattle.heap_partition.specs.declared.value.Owned.TheVariants as owned
-use Rattle.mutex_home.specs.Mutexes.{Mutex, Mutexes, mutex_in, put_mutex, end_mutex, back_to, back_out, back_in, give_back, last_less, less_of, less_in, less}
-use Rattle.mutex_home.specs.declared.answers.Back.{Back}
-use Rattle.mutex_home.specs.declared.answers.Back.TheVariants as back
-use Rattle.join_home.specs.Tasks.{Task, TaskState, going, let_go, kept, asked, in_pair, task_in, state_in, with_state, without_task, let_go_from, let_go_of}
-use Rattle.server_msgs.specs.declared.message.Message.{Message}
-use Rattle.server_msgs.specs.declared.message.Message.TheVariants as message
-use Rattle.journal.specs.declared.act.Act.TheVariants as act
-use Rattle.server_model.specs.declared.event.What.TheVariants.{Deliver}
-use Rattle.server_model.specs.Servers.{Rest, Server, Cluster, server_at}
-use Rattle.server_model.specs.Work.{Work, note, send, with_mutexes, with_tasks}
-use Rattle.server_model.specs.Drop.{home_of, give_up}
-use Rattle.server_model.specs.Sharing.{answer_back, deliver_unlock, give_up_left}
-use Rattle.server_model.specs.Events.{received, release, does}
-use Rattle.heap_law.specs.Things.{Thing, as_content, as_result, holds, sent, things_at, message_things, content_things, task_things}
-use Rattle.heap_law.specs.Coherent.{IsSound}
+use Rattle.event_law.specs.Below.fr_base.declared.name.MutexNo.{MutexNo}
+use Rattle.event_law.specs.Below.fr_base.declared.release.Released.TheVariants as released
+use Rattle.event_law.specs.Below.global_addr.Words.{server_of}
+use Rattle.event_law.specs.Below.heap_partition.Plain.{plain_of}
+use Rattle.event_law.specs.Below.heap_partition.declared.value.Owned.{Owned}
+use Rattle.event_law.specs.Below.heap_partition.declared.value.Owned.TheVariants as owned
+use Rattle.event_law.specs.Below.mutex_home.Mutexes.{Mutex, Mutexes, mutex_in, put_mutex, end_mutex, back_to, back_out, back_in, give_back, last_less, less_of, less_in, less}
+use Rattle.event_law.specs.Below.mutex_home.declared.answers.Back.{Back}
+use Rattle.event_law.specs.Below.mutex_home.declared.answers.Back.TheVariants as back
+use Rattle.event_law.specs.Below.join_home.Tasks.{Task, TaskState, going, let_go, kept, asked, in_pair, task_in, state_in, with_state, without_task, let_go_from, let_go_of}
+use Rattle.event_law.specs.Below.server_msgs.declared.message.Message.{Message}
+use Rattle.event_law.specs.Below.server_msgs.declared.message.Message.TheVariants as message
+use Rattle.event_law.specs.Below.journal.declared.act.Act.TheVariants as act
+use Rattle.event_law.specs.Below.server_model.declared.event.What.TheVariants.{Deliver}
+use Rattle.event_law.specs.Below.server_model.Servers.{Rest, Server, Cluster, server_at}
+use Rattle.event_law.specs.Below.server_model.Work.{Work, note, send, with_mutexes, with_tasks}
+use Rattle.event_law.specs.Below.server_model.Drop.{home_of, give_up}
+use Rattle.event_law.specs.Below.server_model.Sharing.{answer_back, deliver_unlock, give_up_left}
+use Rattle.event_law.specs.Below.server_model.Events.{received, release, does}
+use Rattle.event_law.specs.Below.heap_law.Things.{Thing, as_content, as_result, holds, sent, things_at, message_things, content_things, task_things}
+use Rattle.event_law.specs.Below.heap_law.Coherent.{IsSound}
 use Rattle.event_law.specs.Laws.{Gives}
 use Rattle.event_law.proofs.Trades.{tot-append}
 use Rattle.event_law.proofs.Results.{over_gives, test_gives}

@@ -1,26 +1,26 @@
 -- What counts of a gift, of a result and of what nothing names.
 use Rattle.std.proofs.Common.{◌≡◌, inl, inr, ℕ, zero, suc, ◌+◌, ◌≤◌, ◌==◌, ◌&&◌, ◌||◌, Bool, true, false, if◌then◌else◌, List, [], ◌∷◌, Option, Some, None, is_some, option_map, refl, sym, ap, ap₂, ◌∙◌, arith}
-use Rattle.fr_base.specs.declared.name.MutexNo.{MutexNo}
-use Rattle.fr_base.specs.declared.label.Plain.{Plain}
-use Rattle.fr_base.specs.declared.label.Plain.TheVariants as plain
-use Rattle.fr_base.specs.declared.instruction.Instr.{Instr}
-use Rattle.fr_base.specs.declared.instruction.Instr.TheVariants as instr
-use Rattle.fr_typing.proofs.PlaceLemmas.{eq_cases}
-use Rattle.heap_partition.specs.declared.value.Owned.{Owned}
-use Rattle.join_home.specs.Tasks.{TaskState, going, let_go, kept, asked, in_pair}
-use Rattle.server_msgs.specs.declared.message.Message.{Message}
-use Rattle.server_msgs.specs.declared.message.Message.TheVariants as message
-use Rattle.server_model.specs.Servers.{Cluster}
-use Rattle.heap_law.specs.Names.{tot, one, other, if_so, some, same_mutex, Among}
-use Rattle.heap_law.specs.Things.{Spot, in_slot, in_temp, as_gift, as_content, as_result, in_hand, Thing, holds, sent, stands, noted, things_of}
-use Rattle.heap_law.specs.Follow.{Standing, threads_in, thread_at}
-use Rattle.heap_law.specs.Sight.{Sight, sight, with_things}
-use Rattle.heap_law.specs.Paths.{joined_thread}
-use Rattle.heap_law.specs.Walking.{instr_of}
-use Rattle.heap_law.specs.Requests.{locked_mutex, is_mutex, is_task}
-use Rattle.heap_law.specs.Sharing.{got_phase}
-use Rattle.heap_law.specs.Weights.{is_thread}
-use Rattle.heap_law.specs.OneHeap.{Node, task_n, Owner, outside, content_owner, result_owner, gift_owner, gift_owner_of, spot_owner, owner_of, names, named_in, any_named, in_state_by, is_in_state, if_in, or_else, first_shown, is_gift_of, pair_note, pair_over, in_pair_of, is_branch, branch_result, is_joined_by, result_value, result_of}
+use Rattle.event_law.specs.Below.fr_base.declared.name.MutexNo.{MutexNo}
+use Rattle.event_law.specs.Below.fr_base.declared.label.Plain.{Plain}
+use Rattle.event_law.specs.Below.fr_base.declared.label.Plain.TheVariants as plain
+use Rattle.event_law.specs.Below.fr_base.declared.instruction.Instr.{Instr}
+use Rattle.event_law.specs.Below.fr_base.declared.instruction.Instr.TheVariants as instr
+use Rattle.event_law.proofs.Below.fr_typing.PlaceLemmas.{eq_cases}
+use Rattle.event_law.specs.Below.heap_partition.declared.value.Owned.{Owned}
+use Rattle.event_law.specs.Below.join_home.Tasks.{TaskState, going, let_go, kept, asked, in_pair}
+use Rattle.event_law.specs.Below.server_msgs.declared.message.Message.{Message}
+use Rattle.event_law.specs.Below.server_msgs.declared.message.Message.TheVariants as message
+use Rattle.event_law.specs.Below.server_model.Servers.{Cluster}
+use Rattle.event_law.specs.Below.heap_law.Names.{tot, one, other, if_so, some, same_mutex, Among}
+use Rattle.event_law.specs.Below.heap_law.Things.{Spot, in_slot, in_temp, as_gift, as_content, as_result, in_hand, Thing, holds, sent, stands, noted, things_of}
+use Rattle.event_law.specs.Below.heap_law.Follow.{Standing, threads_in, thread_at}
+use Rattle.event_law.specs.Below.heap_law.Sight.{Sight, sight, with_things}
+use Rattle.event_law.specs.Below.heap_law.Paths.{joined_thread}
+use Rattle.event_law.specs.Below.heap_law.Walking.{instr_of}
+use Rattle.event_law.specs.Below.heap_law.Requests.{locked_mutex, is_mutex, is_task}
+use Rattle.event_law.specs.Below.heap_law.Sharing.{got_phase}
+use Rattle.event_law.specs.Below.heap_law.Weights.{is_thread}
+use Rattle.event_law.specs.Below.heap_law.OneHeap.{Node, task_n, Owner, outside, content_owner, result_owner, gift_owner, gift_owner_of, spot_owner, owner_of, names, named_in, any_named, in_state_by, is_in_state, if_in, or_else, first_shown, is_gift_of, pair_note, pair_over, in_pair_of, is_branch, branch_result, is_joined_by, result_value, result_of}
 use Rattle.still_law.specs.Shows.{ShownThread, Sign, a_value, a_thread as a_shown_thread, a_branch, gift_spot_at, gift_spot_of, gift_spot, counted_at, is_named, held_branch, is_held, Counts}
 use Rattle.still_law.proofs.Told.{at_most, tot_same, told, ones, some_or, found}
 use Rattle.still_law.proofs.Gifts.{placed, telling, places_told}

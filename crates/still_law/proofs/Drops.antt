@@ -1,26 +1,26 @@
 -- An object that goes is one that nothing names: its one owner is the message. Where the places of locks pass named objects alone it leaves the one heap as it was.
 use Rattle.std.proofs.Common.{◌≡◌, ℕ, ◌+◌, ◌≤◌, Bool, false, List, [], ◌∷◌, Some, refl, ap, ◌∙◌, arith}
 use Rattle.std.specs.Prelude.{slice_get}
-use Rattle.fr_base.specs.declared.name.ObjNo.{ObjNo}
-use Rattle.fr_store.proofs.Keys.{object_cases}
-use Rattle.global_addr.specs.Words.{address_of}
-use Rattle.heap_partition.specs.Plain.{plain_of}
-use Rattle.heap_partition.specs.declared.value.Owned.{Owned}
-use Rattle.heap_partition.specs.declared.value.Owned.TheVariants as owned
-use Rattle.owner_box.specs.Partition.{freed}
-use Rattle.server_msgs.specs.declared.message.Message.TheVariants as message
-use Rattle.journal.specs.declared.act.Act.TheVariants as act
-use Rattle.server_model.specs.declared.event.What.TheVariants.{Deliver}
-use Rattle.server_model.specs.Servers.{Rest, Server, Cluster, server_at}
-use Rattle.server_model.specs.Work.{Work, note, with_partition, look_object}
-use Rattle.server_model.specs.Objects.{deliver_drop}
-use Rattle.server_model.specs.Events.{received, does}
-use Rattle.heap_law.specs.Names.{tot, one, some, boxes}
-use Rattle.heap_law.specs.Things.{Thing, holds, lies, flies, sent, message_things, server_things, things_of}
-use Rattle.heap_law.specs.Weights.{drops, owners}
-use Rattle.heap_law.specs.Sight.{sight}
-use Rattle.heap_law.specs.OneHeap.{object_n, owns, names}
-use Rattle.heap_law.specs.Coherent.{IsSound}
+use Rattle.event_law.specs.Below.fr_base.declared.name.ObjNo.{ObjNo}
+use Rattle.event_law.proofs.Below.fr_store.Keys.{object_cases}
+use Rattle.event_law.specs.Below.global_addr.Words.{address_of}
+use Rattle.event_law.specs.Below.heap_partition.Plain.{plain_of}
+use Rattle.event_law.specs.Below.heap_partition.declared.value.Owned.{Owned}
+use Rattle.event_law.specs.Below.heap_partition.declared.value.Owned.TheVariants as owned
+use Rattle.event_law.specs.Below.owner_box.Partition.{freed}
+use Rattle.event_law.specs.Below.server_msgs.declared.message.Message.TheVariants as message
+use Rattle.event_law.specs.Below.journal.declared.act.Act.TheVariants as act
+use Rattle.event_law.specs.Below.server_model.declared.event.What.TheVariants.{Deliver}
+use Rattle.event_law.specs.Below.server_model.Servers.{Rest, Server, Cluster, server_at}
+use Rattle.event_law.specs.Below.server_model.Work.{Work, note, with_partition, look_object}
+use Rattle.event_law.specs.Below.server_model.Objects.{deliver_drop}
+use Rattle.event_law.specs.Below.server_model.Events.{received, does}
+use Rattle.event_law.specs.Below.heap_law.Names.{tot, one, some, boxes}
+use Rattle.event_law.specs.Below.heap_law.Things.{Thing, holds, lies, flies, sent, message_things, server_things, things_of}
+use Rattle.event_law.specs.Below.heap_law.Weights.{drops, owners}
+use Rattle.event_law.specs.Below.heap_law.Sight.{sight}
+use Rattle.event_law.specs.Below.heap_law.OneHeap.{object_n, owns, names}
+use Rattle.event_law.specs.Below.heap_law.Coherent.{IsSound}
 use Rattle.event_law.specs.Laws.{Gives}
 use Rattle.event_law.proofs.Results.{map_gives, over_gives}
 use Rattle.event_law.proofs.Bags.{of_partition}

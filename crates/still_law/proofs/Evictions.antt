@@ -1,12 +1,12 @@
 -- A copy that goes shows nothing.
 use Rattle.std.proofs.Common.{◌≡◌, ℕ, ◌==◌, Bool, true, false, if◌then◌else◌, [], Option, Some, None, is_some, refl, sym, ap, ◌∙◌, arith}
-use Rattle.read_cache.specs.Cache.{Copy, copy_of, users, is_cached, can_evict, without_copy}
-use Rattle.journal.specs.declared.act.Act.TheVariants as act
-use Rattle.server_model.specs.declared.event.What.TheVariants.{Evict}
-use Rattle.server_model.specs.Servers.{Server, Cluster}
-use Rattle.server_model.specs.Work.{Work, note, with_cache, beside_threads}
-use Rattle.server_model.specs.Events.{begin_at, left_by, evict_copy, does}
-use Rattle.heap_law.proofs.Names.{and_left}
+use Rattle.event_law.specs.Below.read_cache.Cache.{Copy, copy_of, users, is_cached, can_evict, without_copy}
+use Rattle.event_law.specs.Below.journal.declared.act.Act.TheVariants as act
+use Rattle.event_law.specs.Below.server_model.declared.event.What.TheVariants.{Evict}
+use Rattle.event_law.specs.Below.server_model.Servers.{Server, Cluster}
+use Rattle.event_law.specs.Below.server_model.Work.{Work, note, with_cache, beside_threads}
+use Rattle.event_law.specs.Below.server_model.Events.{begin_at, left_by, evict_copy, does}
+use Rattle.event_law.proofs.Below.heap_law.Names.{and_left}
 use Rattle.event_law.specs.Laws.{Gives}
 use Rattle.event_law.proofs.Results.{over_gives}
 use Rattle.event_law.proofs.Bags.{of_cache}

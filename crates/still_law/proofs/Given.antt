@@ -2,32 +2,32 @@
 -- nowhere yet.
 use Rattle.std.proofs.Common.{◌≡◌, ℕ, ◌+◌, Bool, true, false, if◌then◌else◌, List, [], ◌∷◌, Option, Some, None, refl, sym, ap, subst, ◌∙◌, arith}
 use Rattle.std.specs.Prelude.{slice_get, option_map}
-use Rattle.fr_base.specs.declared.instruction.Instr.{Instr}
-use Rattle.fr_base.specs.declared.instruction.Instr.TheVariants as instr
-use Rattle.fr_base.specs.declared.name.MutexNo.{MutexNo}
-use Rattle.heap_partition.specs.Plain.{plain_of}
-use Rattle.heap_partition.specs.declared.value.Owned.{Owned}
-use Rattle.heap_partition.specs.declared.value.Owned.TheVariants as owned
-use Rattle.thread_state.specs.View.{ThreadState}
-use Rattle.thread_state.specs.declared.phase.Phase.{Phase}
-use Rattle.thread_state.specs.declared.phase.Phase.TheVariants as phase
-use Rattle.server_msgs.specs.declared.message.Message.{Message}
-use Rattle.server_msgs.specs.declared.message.Message.TheVariants as message
-use Rattle.server_model.specs.declared.event.What.TheVariants.{Deliver}
-use Rattle.server_model.specs.Servers.{Server, Cluster, server_at}
-use Rattle.server_model.specs.Work.{Hand, thread_in, at_thread}
-use Rattle.server_model.specs.Sharing.{given, waits_for_lock, deliver_granted, waits_for_dup, deliver_dupped}
-use Rattle.server_model.specs.Joining.{waits_for_join, deliver_joined}
-use Rattle.server_model.specs.Events.{received, does}
-use Rattle.heap_law.specs.Names.{other}
-use Rattle.heap_law.specs.Things.{Spot, as_gift, as_content, as_result, Thing, holds, thread_things, message_things}
-use Rattle.heap_law.specs.Follow.{Standing, thread_at}
-use Rattle.heap_law.specs.Sight.{Sight, sight}
-use Rattle.heap_law.specs.Paths.{joined_thread}
-use Rattle.heap_law.specs.Walking.{instr_of}
-use Rattle.heap_law.specs.Requests.{locked_mutex, dupped_mutex, is_mutex, is_task, stands_wrong}
-use Rattle.heap_law.specs.Coherent.{IsSound}
-use Rattle.heap_law.proofs.Names.{same_mutexes, same_number}
+use Rattle.event_law.specs.Below.fr_base.declared.instruction.Instr.{Instr}
+use Rattle.event_law.specs.Below.fr_base.declared.instruction.Instr.TheVariants as instr
+use Rattle.event_law.specs.Below.fr_base.declared.name.MutexNo.{MutexNo}
+use Rattle.event_law.specs.Below.heap_partition.Plain.{plain_of}
+use Rattle.event_law.specs.Below.heap_partition.declared.value.Owned.{Owned}
+use Rattle.event_law.specs.Below.heap_partition.declared.value.Owned.TheVariants as owned
+use Rattle.event_law.specs.Below.thread_state.View.{ThreadState}
+use Rattle.event_law.specs.Below.thread_state.declared.phase.Phase.{Phase}
+use Rattle.event_law.specs.Below.thread_state.declared.phase.Phase.TheVariants as phase
+use Rattle.event_law.specs.Below.server_msgs.declared.message.Message.{Message}
+use Rattle.event_law.specs.Below.server_msgs.declared.message.Message.TheVariants as message
+use Rattle.event_law.specs.Below.server_model.declared.event.What.TheVariants.{Deliver}
+use Rattle.event_law.specs.Below.server_model.Servers.{Server, Cluster, server_at}
+use Rattle.event_law.specs.Below.server_model.Work.{Hand, thread_in, at_thread}
+use Rattle.event_law.specs.Below.server_model.Sharing.{given, waits_for_lock, deliver_granted, waits_for_dup, deliver_dupped}
+use Rattle.event_law.specs.Below.server_model.Joining.{waits_for_join, deliver_joined}
+use Rattle.event_law.specs.Below.server_model.Events.{received, does}
+use Rattle.event_law.specs.Below.heap_law.Names.{other}
+use Rattle.event_law.specs.Below.heap_law.Things.{Spot, as_gift, as_content, as_result, Thing, holds, thread_things, message_things}
+use Rattle.event_law.specs.Below.heap_law.Follow.{Standing, thread_at}
+use Rattle.event_law.specs.Below.heap_law.Sight.{Sight, sight}
+use Rattle.event_law.specs.Below.heap_law.Paths.{joined_thread}
+use Rattle.event_law.specs.Below.heap_law.Walking.{instr_of}
+use Rattle.event_law.specs.Below.heap_law.Requests.{locked_mutex, dupped_mutex, is_mutex, is_task, stands_wrong}
+use Rattle.event_law.specs.Below.heap_law.Coherent.{IsSound}
+use Rattle.event_law.proofs.Below.heap_law.Names.{same_mutexes, same_number}
 use Rattle.event_law.specs.Laws.{Gives}
 use Rattle.event_law.proofs.Trades.{tot-append}
 use Rattle.event_law.proofs.Results.{test_gives, weaker}

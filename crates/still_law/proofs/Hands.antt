@@ -2,21 +2,21 @@
 use Rattle.std.proofs.Common.{◌≡◌, ℕ, Bool, true, false, List, [], ◌∷◌, ◌++◌, Option, Some, None, refl, sym, ap, subst, ◌∙◌, arith}
 use Rattle.std.specs.Bool.{⊤}
 use Rattle.std.specs.Prelude.{slice_get, option_map}
-use Rattle.fr_base.specs.Lists.{is_in}
-use Rattle.heap_partition.specs.declared.value.Cell.{Cell}
-use Rattle.read_cache.specs.Cache.{Copy, can_fill, fill, can_pin, pin}
-use Rattle.thread_state.specs.View.{ThreadState, is_over}
-use Rattle.thread_state.specs.declared.phase.Phase.{Phase}
-use Rattle.thread_state.specs.declared.phase.Phase.TheVariants as phase
-use Rattle.server_msgs.specs.declared.message.Message.TheVariants as message
-use Rattle.journal.specs.declared.act.Act.TheVariants as act
-use Rattle.server_model.specs.declared.event.What.TheVariants.{Deliver}
-use Rattle.server_model.specs.Servers.{Rest, Server, Cluster}
-use Rattle.server_model.specs.Work.{Hand, Site, note, with_cache, working, with_phase, thread_in, set_thread, put_back, at_thread, then_some, used_once}
-use Rattle.server_model.specs.Objects.{waits_for_cell, filled, deliver_fetched}
-use Rattle.server_model.specs.Events.{received, does}
-use Rattle.heap_law.specs.Things.{Thing, stands, sent, thread_things, message_things}
-use Rattle.heap_law.specs.OneHeap.{two_in}
+use Rattle.event_law.specs.Below.fr_base.Lists.{is_in}
+use Rattle.event_law.specs.Below.heap_partition.declared.value.Cell.{Cell}
+use Rattle.event_law.specs.Below.read_cache.Cache.{Copy, can_fill, fill, can_pin, pin}
+use Rattle.event_law.specs.Below.thread_state.View.{ThreadState, is_over}
+use Rattle.event_law.specs.Below.thread_state.declared.phase.Phase.{Phase}
+use Rattle.event_law.specs.Below.thread_state.declared.phase.Phase.TheVariants as phase
+use Rattle.event_law.specs.Below.server_msgs.declared.message.Message.TheVariants as message
+use Rattle.event_law.specs.Below.journal.declared.act.Act.TheVariants as act
+use Rattle.event_law.specs.Below.server_model.declared.event.What.TheVariants.{Deliver}
+use Rattle.event_law.specs.Below.server_model.Servers.{Rest, Server, Cluster}
+use Rattle.event_law.specs.Below.server_model.Work.{Hand, Site, note, with_cache, working, with_phase, thread_in, set_thread, put_back, at_thread, then_some, used_once}
+use Rattle.event_law.specs.Below.server_model.Objects.{waits_for_cell, filled, deliver_fetched}
+use Rattle.event_law.specs.Below.server_model.Events.{received, does}
+use Rattle.event_law.specs.Below.heap_law.Things.{Thing, stands, sent, thread_things, message_things}
+use Rattle.event_law.specs.Below.heap_law.OneHeap.{two_in}
 use Rattle.event_law.specs.Laws.{Gives}
 use Rattle.event_law.proofs.Trades.{tot-append}
 use Rattle.event_law.proofs.Results.{over_gives, map_gives, test_gives, given_by, weaker}

@@ -1,20 +1,20 @@
 -- An object that leaves its address for a message shows what it showed.
 use Rattle.std.proofs.Common.{◌≡◌, ℕ, List, [], ◌∷◌, ◌++◌, Some, ◌≤◌, refl, sym, subst, arith}
 use Rattle.std.specs.Prelude.{slice_get}
-use Rattle.fr_base.specs.declared.name.ObjNo.{ObjNo}
-use Rattle.global_addr.specs.Words.{address_of}
-use Rattle.owner_box.specs.Partition.{freed}
-use Rattle.server_msgs.specs.declared.message.Message.TheVariants as message
-use Rattle.journal.specs.declared.act.Act.TheVariants as act
-use Rattle.server_model.specs.declared.event.What.TheVariants.{Deliver}
-use Rattle.server_model.specs.Servers.{Rest, Server, Cluster, server_at}
-use Rattle.server_model.specs.Work.{Work, note, with_partition, look_object}
-use Rattle.server_model.specs.Objects.{deliver_move}
-use Rattle.server_model.specs.Events.{received, does}
-use Rattle.heap_law.specs.Names.{tot}
-use Rattle.heap_law.specs.Things.{Thing, lies, sent, partition_things, message_things, servers_things, things_of}
-use Rattle.heap_law.specs.Weights.{states, below}
-use Rattle.heap_law.specs.Coherent.{IsSound}
+use Rattle.event_law.specs.Below.fr_base.declared.name.ObjNo.{ObjNo}
+use Rattle.event_law.specs.Below.global_addr.Words.{address_of}
+use Rattle.event_law.specs.Below.owner_box.Partition.{freed}
+use Rattle.event_law.specs.Below.server_msgs.declared.message.Message.TheVariants as message
+use Rattle.event_law.specs.Below.journal.declared.act.Act.TheVariants as act
+use Rattle.event_law.specs.Below.server_model.declared.event.What.TheVariants.{Deliver}
+use Rattle.event_law.specs.Below.server_model.Servers.{Rest, Server, Cluster, server_at}
+use Rattle.event_law.specs.Below.server_model.Work.{Work, note, with_partition, look_object}
+use Rattle.event_law.specs.Below.server_model.Objects.{deliver_move}
+use Rattle.event_law.specs.Below.server_model.Events.{received, does}
+use Rattle.event_law.specs.Below.heap_law.Names.{tot}
+use Rattle.event_law.specs.Below.heap_law.Things.{Thing, lies, sent, partition_things, message_things, servers_things, things_of}
+use Rattle.event_law.specs.Below.heap_law.Weights.{states, below}
+use Rattle.event_law.specs.Below.heap_law.Coherent.{IsSound}
 use Rattle.event_law.specs.Sums.{is_server}
 use Rattle.event_law.specs.Laws.{Gives}
 use Rattle.event_law.proofs.Trades.{tot-append}

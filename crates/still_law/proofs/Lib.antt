@@ -1,3 +1,4 @@
+pub mod Below
 pub mod Tests
 pub mod Rounds
 pub mod Told

@@ -1,31 +1,31 @@
 -- In a sound cluster each object, each content and each result is shown once, and no two threads have one number.
 use Rattle.std.proofs.Common.{◌≡◌, inl, inr, ℕ, zero, suc, ◌+◌, ◌≤◌, ◌==◌, Bool, true, false, if◌then◌else◌, List, [], ◌∷◌, Option, Some, None, is_some, refl, sym, ap, subst, arith}
-use Rattle.fr_typing.proofs.PlaceLemmas.{eq_cases}
-use Rattle.fr_base.specs.declared.label.Plain.{Plain}
-use Rattle.fr_base.specs.declared.label.Plain.TheVariants as plain
-use Rattle.fr_base.specs.declared.name.MutexNo.{MutexNo}
-use Rattle.fr_base.specs.declared.name.ObjNo.{ObjNo}
-use Rattle.mutex_home.specs.Mutexes.{Mutex, mutex_in}
-use Rattle.join_home.specs.Tasks.{TaskState, going, let_go, kept, asked, in_pair}
-use Rattle.server_msgs.specs.declared.message.Message.{Message}
-use Rattle.server_msgs.specs.declared.message.Message.TheVariants as message
-use Rattle.server_model.specs.Servers.{Server, Cluster, server_at}
-use Rattle.heap_law.specs.Names.{tot, one, if_so, some, same_object, same_mutex, Among}
-use Rattle.heap_law.specs.Things.{Spot, in_slot, in_temp, as_gift, as_content, as_result, in_hand, Thing, holds, lies, flies, sent, stands, at_home, noted, server_things, servers_things, things_of}
-use Rattle.heap_law.specs.Follow.{Standing, threads_in, thread_at}
-use Rattle.heap_law.specs.Sight.{Sight, sight}
-use Rattle.heap_law.specs.Sharing.{is_content_of, gift_content, contents, finished_of, joined_of, got_phase, kept_note, gift_result, results, has_ended}
-use Rattle.heap_law.specs.Weights.{cells, is_home_of}
-use Rattle.heap_law.specs.OneHeap.{if_in, or_else, cell_value, is_gift_of, content_value, pair_over, branch_result, is_joined_by, result_value}
-use Rattle.heap_law.specs.Coherent.{IsSound}
-use Rattle.heap_law.proofs.Sums.{tot-append}
+use Rattle.event_law.proofs.Below.fr_typing.PlaceLemmas.{eq_cases}
+use Rattle.event_law.specs.Below.fr_base.declared.label.Plain.{Plain}
+use Rattle.event_law.specs.Below.fr_base.declared.label.Plain.TheVariants as plain
+use Rattle.event_law.specs.Below.fr_base.declared.name.MutexNo.{MutexNo}
+use Rattle.event_law.specs.Below.fr_base.declared.name.ObjNo.{ObjNo}
+use Rattle.event_law.specs.Below.mutex_home.Mutexes.{Mutex, mutex_in}
+use Rattle.event_law.specs.Below.join_home.Tasks.{TaskState, going, let_go, kept, asked, in_pair}
+use Rattle.event_law.specs.Below.server_msgs.declared.message.Message.{Message}
+use Rattle.event_law.specs.Below.server_msgs.declared.message.Message.TheVariants as message
+use Rattle.event_law.specs.Below.server_model.Servers.{Server, Cluster, server_at}
+use Rattle.event_law.specs.Below.heap_law.Names.{tot, one, if_so, some, same_object, same_mutex, Among}
+use Rattle.event_law.specs.Below.heap_law.Things.{Spot, in_slot, in_temp, as_gift, as_content, as_result, in_hand, Thing, holds, lies, flies, sent, stands, at_home, noted, server_things, servers_things, things_of}
+use Rattle.event_law.specs.Below.heap_law.Follow.{Standing, threads_in, thread_at}
+use Rattle.event_law.specs.Below.heap_law.Sight.{Sight, sight}
+use Rattle.event_law.specs.Below.heap_law.Sharing.{is_content_of, gift_content, contents, finished_of, joined_of, got_phase, kept_note, gift_result, results, has_ended}
+use Rattle.event_law.specs.Below.heap_law.Weights.{cells, is_home_of}
+use Rattle.event_law.specs.Below.heap_law.OneHeap.{if_in, or_else, cell_value, is_gift_of, content_value, pair_over, branch_result, is_joined_by, result_value}
+use Rattle.event_law.specs.Below.heap_law.Coherent.{IsSound}
+use Rattle.event_law.proofs.Below.heap_law.Sums.{tot-append}
 use Rattle.event_law.proofs.MutexResults.{weighed, here, Weight, mutex_weighs, all_at_home, no_server}
 use Rattle.still_law.proofs.Told.{at_most, found, told, ones}
 use Rattle.still_law.proofs.Counting.{shown_result}
 use Rattle.still_law.proofs.Alike.{Once}
 use Rattle.still_law.proofs.Gifts.{placed, telling, places_told}
-use Rattle.heap_partition.specs.Plain.{plain_of}
-use Rattle.heap_partition.specs.declared.value.Owned.{Owned}
+use Rattle.event_law.specs.Below.heap_partition.Plain.{plain_of}
+use Rattle.event_law.specs.Below.heap_partition.declared.value.Owned.{Owned}
 
 told_one : (q : Bool) (v : Plain) → told ones (if_in q (Some v)) ≡ one q
 told_one true v = refl

@@ -3,32 +3,32 @@ use Rattle.std.proofs.Common.{◌≡◌, ℕ, ◌+◌, ◌-◌, ◌==◌, Bool, 
 use Rattle.std.specs.Prelude.{slice_get}
 use Rattle.std.proofs.lemmas.Option.{slice_get-map}
 use Rattle.std.proofs.lemmas.List.{length-map}
-use Rattle.fr_base.specs.declared.name.MutexNo.{MutexNo}
-use Rattle.fr_base.specs.declared.name.ObjNo.{ObjNo}
-use Rattle.fr_base.specs.declared.label.Plain.{Plain}
-use Rattle.fr_base.specs.declared.label.Plain.TheVariants as plain
-use Rattle.fr_base.specs.declared.instruction.Operand.{Operand}
-use Rattle.fr_base.specs.declared.instruction.Operand.TheVariants as operand
-use Rattle.fr_base.specs.Lists.{last_of}
-use Rattle.fr_plain.specs.declared.value.Value.{Value as PlainValue}
-use Rattle.fr_plain.specs.declared.value.Value.TheVariants.{Own, ToSlot, ToObject}
-use Rattle.fr_code.specs.Machine.{CodeRunning}
-use Rattle.heap_partition.specs.Plain.{plain_of}
-use Rattle.heap_partition.specs.declared.value.Cell.{Cell}
-use Rattle.heap_partition.specs.declared.value.Owned.{Owned}
-use Rattle.heap_partition.specs.declared.value.Owned.TheVariants as owned
-use Rattle.thread_state.specs.declared.phase.Phase.{Phase}
-use Rattle.thread_state.specs.declared.phase.Phase.TheVariants as phase
-use Rattle.thread_state.specs.declared.value.Value.{Value}
-use Rattle.thread_state.specs.declared.value.Value.TheVariants as value
-use Rattle.join_home.specs.Tasks.{TaskState, going, let_go, kept, asked, in_pair}
-use Rattle.heap_law.specs.Names.{one, if_so, same_object, same_mutex}
-use Rattle.heap_law.specs.Things.{Location, at_slot, in_cell, Thing, lies, flies}
-use Rattle.heap_law.specs.Follow.{Standing, cells_in, cell_of, slot_of, temp_of, value_of, leads}
-use Rattle.heap_law.specs.Paths.{popped, task_in}
-use Rattle.heap_law.specs.Requests.{mutex_of}
-use Rattle.heap_law.specs.Sharing.{got_phase}
-use Rattle.heap_law.specs.OneHeap.{Node, object_n, mutex_n, task_n, owns, if_in, cell_value, or_else, first_shown, plain_value, running_at, two_in}
+use Rattle.event_law.specs.Below.fr_base.declared.name.MutexNo.{MutexNo}
+use Rattle.event_law.specs.Below.fr_base.declared.name.ObjNo.{ObjNo}
+use Rattle.event_law.specs.Below.fr_base.declared.label.Plain.{Plain}
+use Rattle.event_law.specs.Below.fr_base.declared.label.Plain.TheVariants as plain
+use Rattle.event_law.specs.Below.fr_base.declared.instruction.Operand.{Operand}
+use Rattle.event_law.specs.Below.fr_base.declared.instruction.Operand.TheVariants as operand
+use Rattle.event_law.specs.Below.fr_base.Lists.{last_of}
+use Rattle.event_law.specs.Below.fr_plain.declared.value.Value.{Value as PlainValue}
+use Rattle.event_law.specs.Below.fr_plain.declared.value.Value.TheVariants.{Own, ToSlot, ToObject}
+use Rattle.event_law.specs.Below.fr_code.Machine.{CodeRunning}
+use Rattle.event_law.specs.Below.heap_partition.Plain.{plain_of}
+use Rattle.event_law.specs.Below.heap_partition.declared.value.Cell.{Cell}
+use Rattle.event_law.specs.Below.heap_partition.declared.value.Owned.{Owned}
+use Rattle.event_law.specs.Below.heap_partition.declared.value.Owned.TheVariants as owned
+use Rattle.event_law.specs.Below.thread_state.declared.phase.Phase.{Phase}
+use Rattle.event_law.specs.Below.thread_state.declared.phase.Phase.TheVariants as phase
+use Rattle.event_law.specs.Below.thread_state.declared.value.Value.{Value}
+use Rattle.event_law.specs.Below.thread_state.declared.value.Value.TheVariants as value
+use Rattle.event_law.specs.Below.join_home.Tasks.{TaskState, going, let_go, kept, asked, in_pair}
+use Rattle.event_law.specs.Below.heap_law.Names.{one, if_so, same_object, same_mutex}
+use Rattle.event_law.specs.Below.heap_law.Things.{Location, at_slot, in_cell, Thing, lies, flies}
+use Rattle.event_law.specs.Below.heap_law.Follow.{Standing, cells_in, cell_of, slot_of, temp_of, value_of, leads}
+use Rattle.event_law.specs.Below.heap_law.Paths.{popped, task_in}
+use Rattle.event_law.specs.Below.heap_law.Requests.{mutex_of}
+use Rattle.event_law.specs.Below.heap_law.Sharing.{got_phase}
+use Rattle.event_law.specs.Below.heap_law.OneHeap.{Node, object_n, mutex_n, task_n, owns, if_in, cell_value, or_else, first_shown, plain_value, running_at, two_in}
 use Rattle.still_law.specs.Shows.{frame_of, plain_frame, ShownThread, Sign, nothing, a_branch, has_both, shown_thread, note_sign}
 use Rattle.still_law.proofs.Told.{told}
 

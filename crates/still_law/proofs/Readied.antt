@@ -1,25 +1,25 @@
 -- What making a place ready changes of the hand: words, marks and pins of its thread, copies and addresses of its server. All of it shows what it showed.
 use Rattle.std.proofs.Common.{◌≡◌, ℕ, zero, suc, ◌+◌, nat_lt, Bool, false, List, [], ◌∷◌, ◌++◌, length, map, Option, Some, None, refl, sym, ap, ap₂, subst, ◌∙◌, arith}
 use Rattle.std.specs.Prelude.{slice_get, slice_set}
-use Rattle.fr_base.specs.Lists.{last_of}
-use Rattle.heap_partition.specs.Plain.{plain_of}
-use Rattle.heap_partition.specs.declared.value.Cell.{Cell}
-use Rattle.heap_partition.specs.declared.value.Owned.{Owned}
-use Rattle.heap_partition.specs.declared.value.Owned.TheVariants as owned
-use Rattle.global_addr.specs.Words.{address_of}
-use Rattle.owner_box.specs.Partition.{stored}
-use Rattle.mut_borrow.specs.declared.shared.SharedRef.{SharedRef}
-use Rattle.read_cache.specs.Cache.{Copy}
-use Rattle.thread_state.specs.View.{ThreadState}
-use Rattle.thread_state.specs.declared.value.Value.{Value}
-use Rattle.thread_state.specs.declared.value.Value.TheVariants as value
-use Rattle.server_model.specs.Servers.{Rest}
-use Rattle.server_model.specs.Work.{Work, Hand, with_partition, with_cache, working, with_slots, with_temps, front_of, look, leads_here}
-use Rattle.server_model.specs.Places.{Spot, in_slot, on_top, in_cell, in_copy, nowhere, value_in, value_at, written, note_slot, note_write, put_cell, put_at, with_word, set_pointer}
-use Rattle.server_model.specs.Prepare.{passing}
-use Rattle.heap_law.specs.Things as things
-use Rattle.heap_law.specs.Things.{Thing, Location, at_slot, at_temp, stands, things_at, value_things, slot_things, temp_things, thread_things}
-use Rattle.heap_law.specs.OneHeap.{plain_value}
+use Rattle.event_law.specs.Below.fr_base.Lists.{last_of}
+use Rattle.event_law.specs.Below.heap_partition.Plain.{plain_of}
+use Rattle.event_law.specs.Below.heap_partition.declared.value.Cell.{Cell}
+use Rattle.event_law.specs.Below.heap_partition.declared.value.Owned.{Owned}
+use Rattle.event_law.specs.Below.heap_partition.declared.value.Owned.TheVariants as owned
+use Rattle.event_law.specs.Below.global_addr.Words.{address_of}
+use Rattle.event_law.specs.Below.owner_box.Partition.{stored}
+use Rattle.event_law.specs.Below.mut_borrow.declared.shared.SharedRef.{SharedRef}
+use Rattle.event_law.specs.Below.read_cache.Cache.{Copy}
+use Rattle.event_law.specs.Below.thread_state.View.{ThreadState}
+use Rattle.event_law.specs.Below.thread_state.declared.value.Value.{Value}
+use Rattle.event_law.specs.Below.thread_state.declared.value.Value.TheVariants as value
+use Rattle.event_law.specs.Below.server_model.Servers.{Rest}
+use Rattle.event_law.specs.Below.server_model.Work.{Work, Hand, with_partition, with_cache, working, with_slots, with_temps, front_of, look, leads_here}
+use Rattle.event_law.specs.Below.server_model.Places.{Spot, in_slot, on_top, in_cell, in_copy, nowhere, value_in, value_at, written, note_slot, note_write, put_cell, put_at, with_word, set_pointer}
+use Rattle.event_law.specs.Below.server_model.Prepare.{passing}
+use Rattle.event_law.specs.Below.heap_law.Things as things
+use Rattle.event_law.specs.Below.heap_law.Things.{Thing, Location, at_slot, at_temp, stands, things_at, value_things, slot_things, temp_things, thread_things}
+use Rattle.event_law.specs.Below.heap_law.OneHeap.{plain_value}
 use Rattle.event_law.specs.Laws.{Gives}
 use Rattle.event_law.proofs.Trades.{tot-append, tot-push, trade_at, trade_whole}
 use Rattle.event_law.proofs.Results.{then_gives, test_gives}

@@ -1,22 +1,22 @@
 -- Requests that a server answers or notes show nothing of it.
 use Rattle.std.proofs.Common.{◌≡◌, ℕ, ◌+◌, ◌-◌, ◌^◌, ◌&&◌, Bool, true, false, if◌then◌else◌, List, [], ◌∷◌, ◌++◌, Option, Some, None, option_map, refl, ap, ap₂, arith}
 use Rattle.std.specs.Prelude.{slice_get, nat_lt}
-use Rattle.fr_base.specs.declared.name.MutexNo.{MutexNo}
-use Rattle.fr_base.specs.declared.name.ObjNo.{ObjNo}
-use Rattle.heap_partition.specs.declared.value.Owned.{Owned}
-use Rattle.mutex_home.specs.Mutexes.{Mutex, mutex_in, put_mutex, asked_of, asked_in, more_in}
-use Rattle.join_home.specs.Tasks.{Task, TaskState, going, let_go, kept, asked, in_pair, task_in, state_in, with_state, without_task, asked_from}
-use Rattle.server_msgs.specs.declared.message.Message.TheVariants as message
-use Rattle.journal.specs.declared.act.Act.TheVariants as act
-use Rattle.server_msgs.specs.declared.message.Message.{Message}
-use Rattle.server_model.specs.declared.event.What.TheVariants.{Deliver}
-use Rattle.server_model.specs.Servers.{Rest, Server, Cluster}
-use Rattle.server_model.specs.Work.{Work, note, send, with_mutexes, with_tasks, look_object}
-use Rattle.server_model.specs.Objects.{deliver_fetch}
-use Rattle.server_model.specs.Sharing.{answer_lock, deliver_lock, deliver_dup}
-use Rattle.server_model.specs.Joining.{answer_join, deliver_join}
-use Rattle.server_model.specs.Events.{received, does}
-use Rattle.heap_law.specs.Things.{Thing, as_content, as_result, holds, sent, things_at, message_things, content_things, queue_things, mutex_things, task_things}
+use Rattle.event_law.specs.Below.fr_base.declared.name.MutexNo.{MutexNo}
+use Rattle.event_law.specs.Below.fr_base.declared.name.ObjNo.{ObjNo}
+use Rattle.event_law.specs.Below.heap_partition.declared.value.Owned.{Owned}
+use Rattle.event_law.specs.Below.mutex_home.Mutexes.{Mutex, mutex_in, put_mutex, asked_of, asked_in, more_in}
+use Rattle.event_law.specs.Below.join_home.Tasks.{Task, TaskState, going, let_go, kept, asked, in_pair, task_in, state_in, with_state, without_task, asked_from}
+use Rattle.event_law.specs.Below.server_msgs.declared.message.Message.TheVariants as message
+use Rattle.event_law.specs.Below.journal.declared.act.Act.TheVariants as act
+use Rattle.event_law.specs.Below.server_msgs.declared.message.Message.{Message}
+use Rattle.event_law.specs.Below.server_model.declared.event.What.TheVariants.{Deliver}
+use Rattle.event_law.specs.Below.server_model.Servers.{Rest, Server, Cluster}
+use Rattle.event_law.specs.Below.server_model.Work.{Work, note, send, with_mutexes, with_tasks, look_object}
+use Rattle.event_law.specs.Below.server_model.Objects.{deliver_fetch}
+use Rattle.event_law.specs.Below.server_model.Sharing.{answer_lock, deliver_lock, deliver_dup}
+use Rattle.event_law.specs.Below.server_model.Joining.{answer_join, deliver_join}
+use Rattle.event_law.specs.Below.server_model.Events.{received, does}
+use Rattle.event_law.specs.Below.heap_law.Things.{Thing, as_content, as_result, holds, sent, things_at, message_things, content_things, queue_things, mutex_things, task_things}
 use Rattle.event_law.specs.Laws.{Gives}
 use Rattle.event_law.proofs.Trades.{Trade, tot-append}
 use Rattle.event_law.proofs.Results.{map_gives}

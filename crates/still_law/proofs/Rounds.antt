@@ -2,10 +2,10 @@
 use Rattle.std.proofs.Common.{◌≡◌, ◌⊎◌, inl, inr, ⊎_elim, ℕ, zero, suc, ◌≤◌, Bool, true, false, ◌||◌, List, [], ◌∷◌, length, refl, sym, ap, ap₂, subst, ◌∙◌, arith}
 use Rattle.std.specs.Prelude.{nat_le}
 use Rattle.std.proofs.lemmas.Bool.Decides.{nat_tests}
-use Rattle.heap_law.specs.Names.{tot, one}
-use Rattle.heap_law.specs.Things.{Thing}
-use Rattle.heap_law.specs.Sight.{Sight}
-use Rattle.heap_law.specs.OneHeap.{Node, Owner, a_thread, inside, outside, names, owner_of, owner_in, named_in, any_named, in_state_by, is_in_state}
+use Rattle.event_law.specs.Below.heap_law.Names.{tot, one}
+use Rattle.event_law.specs.Below.heap_law.Things.{Thing}
+use Rattle.event_law.specs.Below.heap_law.Sight.{Sight}
+use Rattle.event_law.specs.Below.heap_law.OneHeap.{Node, Owner, a_thread, inside, outside, names, owner_of, owner_in, named_in, any_named, in_state_by, is_in_state}
 
 one_rises : (p q : Bool) → (p ≡ true → q ≡ true) → one p ≤ one q
 one_rises true true f = omega arith

@@ -2,21 +2,21 @@
 use Rattle.std.proofs.Common.{◌≡◌, true, ℕ, ◌+◌, List, [], ◌++◌, length, take, drop, Option, Some, None, refl, sym, ap, subst, ◌∙◌, arith}
 use Rattle.std.specs.Bool.{⊤}
 use Rattle.std.specs.Prelude.{slice_get}
-use Rattle.fr_base.specs.declared.step.Fresh.{Fresh}
-use Rattle.fr_plain.specs.PlainState.{SameState}
-use Rattle.journal.specs.View.{EntryView}
-use Rattle.server_msgs.specs.declared.message.Message.{Message}
-use Rattle.server_model.specs.declared.event.Event.{Event}
-use Rattle.server_model.specs.declared.event.What.TheVariants.{Deliver}
-use Rattle.server_model.specs.Servers.{Rest, Server, Cluster, server_at}
-use Rattle.server_model.specs.Work.{Work, Site, then_some, receive, send, beside_threads}
-use Rattle.server_model.specs.Events.{enabled, begin_at, left_by, received, deliver_message, deliver, does}
-use Rattle.server_model.specs.Clusters.{with_server, hand_over_newer, done_at, apply}
-use Rattle.heap_law.specs.Names.{tot}
-use Rattle.heap_law.specs.Things.{Thing, message_things, server_things, servers_things, things_of}
-use Rattle.heap_law.specs.Sight.{sight}
-use Rattle.heap_law.specs.OneHeap.{one_heap}
-use Rattle.heap_law.specs.Coherent.{IsSound}
+use Rattle.event_law.specs.Below.fr_base.declared.step.Fresh.{Fresh}
+use Rattle.event_law.specs.Below.fr_plain.PlainState.{SameState}
+use Rattle.event_law.specs.Below.journal.View.{EntryView}
+use Rattle.event_law.specs.Below.server_msgs.declared.message.Message.{Message}
+use Rattle.event_law.specs.Below.server_model.declared.event.Event.{Event}
+use Rattle.event_law.specs.Below.server_model.declared.event.What.TheVariants.{Deliver}
+use Rattle.event_law.specs.Below.server_model.Servers.{Rest, Server, Cluster, server_at}
+use Rattle.event_law.specs.Below.server_model.Work.{Work, Site, then_some, receive, send, beside_threads}
+use Rattle.event_law.specs.Below.server_model.Events.{enabled, begin_at, left_by, received, deliver_message, deliver, does}
+use Rattle.event_law.specs.Below.server_model.Clusters.{with_server, hand_over_newer, done_at, apply}
+use Rattle.event_law.specs.Below.heap_law.Names.{tot}
+use Rattle.event_law.specs.Below.heap_law.Things.{Thing, message_things, server_things, servers_things, things_of}
+use Rattle.event_law.specs.Below.heap_law.Sight.{sight}
+use Rattle.event_law.specs.Below.heap_law.OneHeap.{one_heap}
+use Rattle.event_law.specs.Below.heap_law.Coherent.{IsSound}
 use Rattle.event_law.specs.Laws.{Gives, GoTo, FewEvents}
 use Rattle.event_law.proofs.Trades.{Trade, tot-append}
 use Rattle.event_law.proofs.Results.{then_gives, over_gives, both_give, test_gives, weaker}

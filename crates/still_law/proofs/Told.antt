@@ -1,11 +1,11 @@
 -- What is found first is told by sums, where at most one thing shows it.
 use Rattle.std.proofs.Common.{◌≡◌, inl, inr, ℕ, suc, ◌+◌, ◌≤◌, ◌==◌, ◌||◌, Bool, true, false, if◌then◌else◌, List, [], ◌∷◌, Option, Some, None, refl, sym, ap, ap₂, ◌∙◌, subst, arith}
-use Rattle.fr_typing.proofs.PlaceLemmas.{eq_cases}
-use Rattle.heap_law.specs.Names.{tot, one, if_so, some, Among}
-use Rattle.heap_law.specs.Things.{Thing, stands}
-use Rattle.heap_law.specs.Follow.{Standing, threads_in, thread_at}
-use Rattle.heap_law.specs.Weights.{is_thread}
-use Rattle.heap_law.specs.OneHeap.{or_else, first_shown}
+use Rattle.event_law.proofs.Below.fr_typing.PlaceLemmas.{eq_cases}
+use Rattle.event_law.specs.Below.heap_law.Names.{tot, one, if_so, some, Among}
+use Rattle.event_law.specs.Below.heap_law.Things.{Thing, stands}
+use Rattle.event_law.specs.Below.heap_law.Follow.{Standing, threads_in, thread_at}
+use Rattle.event_law.specs.Below.heap_law.Weights.{is_thread}
+use Rattle.event_law.specs.Below.heap_law.OneHeap.{or_else, first_shown}
 use Rattle.still_law.proofs.Tests.{IsTest}
 
 pub tot_same : {A : Type 0} (f g : A → ℕ) → ((x : A) → f x ≡ g x) → (b : List A) → tot f b ≡ tot g b

@@ -2,23 +2,23 @@
 use Rattle.std.proofs.Common.{◌≡◌, ℕ, zero, suc, ◌+◌, ◌≤◌, ◌==◌, ◌&&◌, not, Bool, true, false, List, [], ◌∷◌, Some, refl, ap, ap₂, ◌∙◌, arith}
 use Rattle.std.specs.Prelude.{slice_get}
 use Rattle.std.proofs.lemmas.Bool.{eq-eqb}
-use Rattle.fr_base.specs.declared.name.MutexNo.{MutexNo}
-use Rattle.fr_base.specs.declared.release.Released.TheVariants as released
-use Rattle.heap_partition.specs.declared.value.Owned.{Owned}
-use Rattle.heap_partition.specs.declared.value.Owned.TheVariants as owned
-use Rattle.mutex_home.specs.Mutexes.{Mutex, mutex_in}
-use Rattle.join_home.specs.Tasks.{Task, TaskState, going, let_go, kept, asked, in_pair, task_in}
-use Rattle.thread_state.specs.View.{is_over}
-use Rattle.server_msgs.specs.declared.message.Message.TheVariants as message
-use Rattle.server_model.specs.Servers.{Server, Cluster, server_at}
-use Rattle.heap_law.specs.Names.{tot, one, if_so, some, mutex_values, task_values}
-use Rattle.heap_law.specs.Things.{Thing, holds, lies, flies, sent, stands, noted, things_of}
-use Rattle.heap_law.specs.Sight.{Sight, sight}
-use Rattle.heap_law.specs.Weights.{shares_sent, shares_of, tasks_sent, tasks_of, is_thread}
-use Rattle.heap_law.specs.Sharing.{got_phase, going_on, finished_of, going_notes, goes_on, owes, owed, kept_note, results, has_ended}
-use Rattle.heap_law.specs.OneHeap.{mutex_n, task_n, owns, names, pair_note}
-use Rattle.heap_law.specs.Coherent.{IsSound}
-use Rattle.heap_law.proofs.Sums.{server_parts}
+use Rattle.event_law.specs.Below.fr_base.declared.name.MutexNo.{MutexNo}
+use Rattle.event_law.specs.Below.fr_base.declared.release.Released.TheVariants as released
+use Rattle.event_law.specs.Below.heap_partition.declared.value.Owned.{Owned}
+use Rattle.event_law.specs.Below.heap_partition.declared.value.Owned.TheVariants as owned
+use Rattle.event_law.specs.Below.mutex_home.Mutexes.{Mutex, mutex_in}
+use Rattle.event_law.specs.Below.join_home.Tasks.{Task, TaskState, going, let_go, kept, asked, in_pair, task_in}
+use Rattle.event_law.specs.Below.thread_state.View.{is_over}
+use Rattle.event_law.specs.Below.server_msgs.declared.message.Message.TheVariants as message
+use Rattle.event_law.specs.Below.server_model.Servers.{Server, Cluster, server_at}
+use Rattle.event_law.specs.Below.heap_law.Names.{tot, one, if_so, some, mutex_values, task_values}
+use Rattle.event_law.specs.Below.heap_law.Things.{Thing, holds, lies, flies, sent, stands, noted, things_of}
+use Rattle.event_law.specs.Below.heap_law.Sight.{Sight, sight}
+use Rattle.event_law.specs.Below.heap_law.Weights.{shares_sent, shares_of, tasks_sent, tasks_of, is_thread}
+use Rattle.event_law.specs.Below.heap_law.Sharing.{got_phase, going_on, finished_of, going_notes, goes_on, owes, owed, kept_note, results, has_ended}
+use Rattle.event_law.specs.Below.heap_law.OneHeap.{mutex_n, task_n, owns, names, pair_note}
+use Rattle.event_law.specs.Below.heap_law.Coherent.{IsSound}
+use Rattle.event_law.proofs.Below.heap_law.Sums.{server_parts}
 use Rattle.event_law.proofs.Events.{tot-server}
 use Rattle.event_law.proofs.MutexResults.{Weight, mutex_self, mutex_weighs, has, home, same_shares}
 use Rattle.event_law.proofs.TaskMessages.{tot-gone}

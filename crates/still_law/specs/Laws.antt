@@ -1,19 +1,19 @@
 -- Laws of events without a plain step: the one heap stays as it was.
 use Rattle.std.specs.Prelude.{◌≡◌, ℕ, Some, None, slice_get}
-use Rattle.fr_base.specs.declared.instruction.Instr.TheVariants as instr
-use Rattle.fr_base.specs.declared.instruction.Operand.{Operand}
-use Rattle.fr_plain.specs.PlainState.{SameState}
-use Rattle.journal.specs.View.{EntryView}
-use Rattle.server_model.specs.declared.event.Event.{Event}
-use Rattle.server_model.specs.declared.event.What.TheVariants.{Step}
-use Rattle.server_model.specs.Servers.{Server, Cluster, server_at}
-use Rattle.server_model.specs.Work.{thread_in}
-use Rattle.thread_state.specs.View.{ThreadState}
-use Rattle.server_model.specs.Clusters.{apply}
-use Rattle.heap_law.specs.Things.{things_of}
-use Rattle.heap_law.specs.Sight.{sight}
-use Rattle.heap_law.specs.OneHeap.{one_heap}
-use Rattle.heap_law.specs.Coherent.{IsSound}
+use Rattle.event_law.specs.Below.fr_base.declared.instruction.Instr.TheVariants as instr
+use Rattle.event_law.specs.Below.fr_base.declared.instruction.Operand.{Operand}
+use Rattle.event_law.specs.Below.fr_plain.PlainState.{SameState}
+use Rattle.event_law.specs.Below.journal.View.{EntryView}
+use Rattle.event_law.specs.Below.server_model.declared.event.Event.{Event}
+use Rattle.event_law.specs.Below.server_model.declared.event.What.TheVariants.{Step}
+use Rattle.event_law.specs.Below.server_model.Servers.{Server, Cluster, server_at}
+use Rattle.event_law.specs.Below.server_model.Work.{thread_in}
+use Rattle.event_law.specs.Below.thread_state.View.{ThreadState}
+use Rattle.event_law.specs.Below.server_model.Clusters.{apply}
+use Rattle.event_law.specs.Below.heap_law.Things.{things_of}
+use Rattle.event_law.specs.Below.heap_law.Sight.{sight}
+use Rattle.event_law.specs.Below.heap_law.OneHeap.{one_heap}
+use Rattle.event_law.specs.Below.heap_law.Coherent.{IsSound}
 use Rattle.event_law.specs.Kinds.{Kind, kind_of}
 use Rattle.event_law.specs.Laws.{Gives, FewEvents}
 use Rattle.still_law.specs.Shows.{CountAlike}

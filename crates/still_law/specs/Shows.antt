@@ -1,31 +1,31 @@
 -- WHAT A THING SHOWS IN THE ONE HEAP: its part in the plain state that a cluster stands for (this project's rule). Words, copies, uses, addresses,
 -- messages, queues, pins and servers aren't seen, nor whether an object lies or flies, nor whether a content or a result is in a message or a gift.
 use Rattle.std.specs.Prelude.{◌≡◌, ℕ, ◌+◌, ◌==◌, Bool, true, false, List, map, Option, Some, None, option_map}
-use Rattle.fr_base.specs.declared.name.ObjNo.{ObjNo}
-use Rattle.fr_base.specs.declared.name.MutexNo.{MutexNo}
-use Rattle.fr_base.specs.declared.label.Plain.{Plain}
-use Rattle.fr_base.specs.declared.label.Plain.TheVariants as plain
-use Rattle.fr_base.specs.declared.instruction.Instr.{Instr}
-use Rattle.fr_base.specs.declared.instruction.Instr.TheVariants as instr
-use Rattle.fr_plain.specs.declared.value.Value.{Value as PlainValue}
-use Rattle.fr_plain.specs.declared.value.Value.TheVariants as shows
-use Rattle.fr_base.specs.declared.place.Lval.{Lval}
-use Rattle.heap_partition.specs.Plain.{plain_of}
-use Rattle.thread_state.specs.View.{ThreadState, is_over}
-use Rattle.thread_state.specs.declared.value.Value.{Value}
-use Rattle.thread_state.specs.declared.value.Value.TheVariants as value
-use Rattle.thread_state.specs.declared.phase.Phase.{Phase}
-use Rattle.thread_state.specs.declared.phase.Phase.TheVariants as phase
-use Rattle.join_home.specs.Tasks.{TaskState, in_pair}
-use Rattle.heap_law.specs.Names.{tot, one, if_so, some}
-use Rattle.heap_law.specs.Things.{Spot, as_gift, as_content, as_result, Thing, holds, lies, flies, stands, noted, counts}
-use Rattle.heap_law.specs.Follow.{Standing, thread_at}
-use Rattle.heap_law.specs.Sight.{Sight}
-use Rattle.heap_law.specs.Paths.{joined_thread}
-use Rattle.heap_law.specs.Walking.{instr_of}
-use Rattle.heap_law.specs.Requests.{locked_mutex}
-use Rattle.heap_law.specs.Sharing.{got_phase}
-use Rattle.heap_law.specs.OneHeap.{Node, mutex_n, task_n, names, pair_note, two_in}
+use Rattle.event_law.specs.Below.fr_base.declared.name.ObjNo.{ObjNo}
+use Rattle.event_law.specs.Below.fr_base.declared.name.MutexNo.{MutexNo}
+use Rattle.event_law.specs.Below.fr_base.declared.label.Plain.{Plain}
+use Rattle.event_law.specs.Below.fr_base.declared.label.Plain.TheVariants as plain
+use Rattle.event_law.specs.Below.fr_base.declared.instruction.Instr.{Instr}
+use Rattle.event_law.specs.Below.fr_base.declared.instruction.Instr.TheVariants as instr
+use Rattle.event_law.specs.Below.fr_plain.declared.value.Value.{Value as PlainValue}
+use Rattle.event_law.specs.Below.fr_plain.declared.value.Value.TheVariants as shows
+use Rattle.event_law.specs.Below.fr_base.declared.place.Lval.{Lval}
+use Rattle.event_law.specs.Below.heap_partition.Plain.{plain_of}
+use Rattle.event_law.specs.Below.thread_state.View.{ThreadState, is_over}
+use Rattle.event_law.specs.Below.thread_state.declared.value.Value.{Value}
+use Rattle.event_law.specs.Below.thread_state.declared.value.Value.TheVariants as value
+use Rattle.event_law.specs.Below.thread_state.declared.phase.Phase.{Phase}
+use Rattle.event_law.specs.Below.thread_state.declared.phase.Phase.TheVariants as phase
+use Rattle.event_law.specs.Below.join_home.Tasks.{TaskState, in_pair}
+use Rattle.event_law.specs.Below.heap_law.Names.{tot, one, if_so, some}
+use Rattle.event_law.specs.Below.heap_law.Things.{Spot, as_gift, as_content, as_result, Thing, holds, lies, flies, stands, noted, counts}
+use Rattle.event_law.specs.Below.heap_law.Follow.{Standing, thread_at}
+use Rattle.event_law.specs.Below.heap_law.Sight.{Sight}
+use Rattle.event_law.specs.Below.heap_law.Paths.{joined_thread}
+use Rattle.event_law.specs.Below.heap_law.Walking.{instr_of}
+use Rattle.event_law.specs.Below.heap_law.Requests.{locked_mutex}
+use Rattle.event_law.specs.Below.heap_law.Sharing.{got_phase}
+use Rattle.event_law.specs.Below.heap_law.OneHeap.{Node, mutex_n, task_n, names, pair_note, two_in}
 
 -- what a value of a slot or a temporary value is, whatever its word, its mark and its pin
 pub data Frame : Type 0 where

@@ -1,3 +1,4 @@
+pub mod Below
 pub mod Layout
 pub mod Tables
 pub mod Examples

@@ -1,27 +1,27 @@
 -- After the delivery of an object each other thread stands as it stood, and each cell on the way of a place has its value, or a box with the new word.
 use Rattle.std.proofs.Common.{◌≡◌, ◌⊎◌, inl, inr, ℕ, ◌+◌, ◌-◌, ◌≤◌, ◌==◌, ◌&&◌, ◌||◌, Bool, true, false, List, Option, Some, None, refl, sym, ap, subst, ◌∙◌, arith}
 use Rattle.std.proofs.lemmas.Bool.{eq-eqb}
-use Rattle.fr_typing.proofs.PlaceLemmas.{eq_cases}
-use Rattle.fr_base.specs.declared.name.ObjNo.{ObjNo}
-use Rattle.fr_base.specs.declared.instruction.Instr.{Instr}
-use Rattle.fr_base.specs.Names.{same_object}
-use Rattle.heap_partition.specs.Same.{same_owned}
-use Rattle.heap_partition.specs.declared.value.Cell.{Cell}
-use Rattle.heap_partition.specs.declared.value.Owned.{Owned}
-use Rattle.thread_state.specs.View.{ThreadState}
-use Rattle.thread_state.specs.declared.value.Value.TheVariants as value
-use Rattle.server_model.specs.Servers.{Server, Cluster}
-use Rattle.heap_law.specs.Names.{tot, one, if_so, Among}
-use Rattle.heap_law.specs.Things.{Thing, lies, flies, stands, sent, things_of}
-use Rattle.heap_law.specs.Follow.{Standing, Ground, thread_at, cell_of}
-use Rattle.heap_law.specs.Sight.{sight}
-use Rattle.heap_law.specs.Requests.{has_word}
-use Rattle.heap_law.proofs.Names.{and_left, and_right}
-use Rattle.word_law.specs.Reworded.{HasPlaces}
-use Rattle.word_law.proofs.Standing.{CellOf, lying, flying, cell_among, cell_found}
-use Rattle.still_law.proofs.Tests.{objects}
-use Rattle.still_law.proofs.Told.{told, at_thread, thread_told, tot_same}
-use Rattle.wait_law.proofs.Found.{weighing, among_weighs}
+use Rattle.regain_law.proofs.Below.fr_typing.PlaceLemmas.{eq_cases}
+use Rattle.regain_law.specs.Below.fr_base.declared.name.ObjNo.{ObjNo}
+use Rattle.regain_law.specs.Below.fr_base.declared.instruction.Instr.{Instr}
+use Rattle.regain_law.specs.Below.fr_base.Names.{same_object}
+use Rattle.regain_law.specs.Below.heap_partition.Same.{same_owned}
+use Rattle.regain_law.specs.Below.heap_partition.declared.value.Cell.{Cell}
+use Rattle.regain_law.specs.Below.heap_partition.declared.value.Owned.{Owned}
+use Rattle.regain_law.specs.Below.thread_state.View.{ThreadState}
+use Rattle.regain_law.specs.Below.thread_state.declared.value.Value.TheVariants as value
+use Rattle.regain_law.specs.Below.server_model.Servers.{Server, Cluster}
+use Rattle.regain_law.specs.Below.heap_law.Names.{tot, one, if_so, Among}
+use Rattle.regain_law.specs.Below.heap_law.Things.{Thing, lies, flies, stands, sent, things_of}
+use Rattle.regain_law.specs.Below.heap_law.Follow.{Standing, Ground, thread_at, cell_of}
+use Rattle.regain_law.specs.Below.heap_law.Sight.{sight}
+use Rattle.regain_law.specs.Below.heap_law.Requests.{has_word}
+use Rattle.regain_law.proofs.Below.heap_law.Names.{and_left, and_right}
+use Rattle.regain_law.specs.Below.word_law.Reworded.{HasPlaces}
+use Rattle.regain_law.proofs.Below.word_law.Standing.{CellOf, lying, flying, cell_among, cell_found}
+use Rattle.regain_law.proofs.Below.still_law.Tests.{objects}
+use Rattle.regain_law.proofs.Below.still_law.Told.{told, at_thread, thread_told, tot_same}
+use Rattle.walk_law.proofs.Below.wait_law.Found.{weighing, among_weighs}
 use Rattle.walk_law.proofs.Cells.{Seeing, cell_weight}
 use Rattle.walk_law.proofs.Tests.{owneds}
 use Rattle.taken_law.proofs.Landed.{new, Lands, Rewords, gain, loss, Ends, gets_there, takes_there, Comes}
@@ -186,8 +186,8 @@ module _ (k z : Cluster) (before : HasPlaces k) (after : HasPlaces z) (cs : List
   cell_then o d there =
       cell_by o d is_new there (weighs (things_of k) (things_of z) (cells_or o d.value is_new) (shows_or o d.value is_new) (cells_so o d.value is_new) (no_less (cells_or o d.value is_new) (record {
         base = record { own = λ u e. refl };
-        gets = λ q b. truth_cases (same_object q o) (λ e. one (e && (same_owned (Rattle.heap_partition.specs.declared.value.Owned.TheVariants.Box b) d.value || (b.word == w1))) ≤ one (e && (same_owned (Rattle.heap_partition.specs.declared.value.Owned.TheVariants.Box (record b { word = w1 })) d.value || (w1 == w1))))
-            (λ e. most (same_owned (Rattle.heap_partition.specs.declared.value.Owned.TheVariants.Box b) d.value || (b.word == w1)) (same_owned (Rattle.heap_partition.specs.declared.value.Owned.TheVariants.Box (record b { word = w1 })) d.value) (w1 == w1) (eq-eqb w1 w1 refl)) (λ e. omega arith);
+        gets = λ q b. truth_cases (same_object q o) (λ e. one (e && (same_owned (Rattle.regain_law.specs.Below.heap_partition.declared.value.Owned.TheVariants.Box b) d.value || (b.word == w1))) ≤ one (e && (same_owned (Rattle.regain_law.specs.Below.heap_partition.declared.value.Owned.TheVariants.Box (record b { word = w1 })) d.value || (w1 == w1))))
+            (λ e. most (same_owned (Rattle.regain_law.specs.Below.heap_partition.declared.value.Owned.TheVariants.Box b) d.value || (b.word == w1)) (same_owned (Rattle.regain_law.specs.Below.heap_partition.declared.value.Owned.TheVariants.Box (record b { word = w1 })) d.value) (w1 == w1) (eq-eqb w1 w1 refl)) (λ e. omega arith);
       }) (omega arith)))
     where
       most : (p q r : Bool) → r ≡ true → one p ≤ one (q || r)

@@ -2,64 +2,64 @@
 use Rattle.std.proofs.Common.{◌≡◌, ℕ, zero, suc, ◌+◌, ◌-◌, ◌≤◌, ◌==◌, ◌&&◌, Bool, true, false, List, Option, Some, None, refl, sym, ap, subst, ◌∙◌, arith}
 use Rattle.std.specs.Prelude.{slice_get, length}
 use Rattle.std.proofs.lemmas.Bool.{eq-eqb}
-use Rattle.fr_typing.proofs.PlaceLemmas.{eq_cases}
-use Rattle.fr_base.specs.Lists.{last_of}
-use Rattle.fr_base.specs.declared.name.ObjNo.{ObjNo}
-use Rattle.fr_base.specs.declared.place.Lval.{Lval}
-use Rattle.fr_base.specs.declared.instruction.Instr.{Instr}
-use Rattle.fr_base.specs.declared.instruction.Instr.TheVariants as instr
-use Rattle.heap_partition.specs.declared.value.Cell.{Cell}
-use Rattle.thread_state.specs.View.{ThreadState, is_over}
-use Rattle.thread_state.specs.declared.phase.Phase.{Phase}
-use Rattle.thread_state.specs.declared.phase.Phase.TheVariants as phase
-use Rattle.thread_state.specs.declared.value.Value.{Value}
-use Rattle.thread_state.specs.declared.value.Value.TheVariants as value
-use Rattle.server_msgs.specs.declared.message.Message.{Message}
-use Rattle.server_msgs.specs.declared.message.Message.TheVariants as message
-use Rattle.journal.specs.View.{EntryView}
-use Rattle.server_model.specs.declared.event.Event.{Event}
-use Rattle.server_model.specs.declared.event.What.TheVariants.{Step, Deliver}
-use Rattle.server_model.specs.Servers.{Server, Cluster, server_at}
-use Rattle.server_model.specs.Places.{Spot, in_slot, on_top}
-use Rattle.server_model.specs.Prepare.{LendTo, access_of, assigned, ending, is_taken, read_or_taken}
-use Rattle.server_model.specs.Clusters.{apply}
-use Rattle.heap_law.specs.Names.{tot, one, Among}
-use Rattle.heap_law.specs.Things.{Location, in_cell, Thing, sent, things_of}
-use Rattle.heap_law.specs.Follow.{Standing, threads_in, thread_at, place_at, value_behind, locate}
-use Rattle.heap_law.specs.Follow as follow
-use Rattle.heap_law.specs.Sight.{Sight, sight}
-use Rattle.heap_law.specs.Weights.{lies_at}
-use Rattle.heap_law.specs.Walking.{instr_of}
-use Rattle.heap_law.specs.Words.{HasWords}
-use Rattle.heap_law.specs.Requests.{taken_phase}
-use Rattle.heap_law.specs.Coherent.{Holds, IsSound, taken_stands}
-use Rattle.heap_law.proofs.Words.{itself, named, none_all}
-use Rattle.fr_base.specs.Names.{same_object}
-use Rattle.event_law.proofs.MutexResults.{has}
-use Rattle.walk_law.proofs.Below.free_law.Unled.{none_leads}
-use Rattle.wait_law.proofs.Found.{Weighing, weighing}
-use Rattle.type_law.specs.ClusterTypes.{IsCoherent}
-use Rattle.path_law.specs.HeapStore.{GoesOn, HasPaths}
-use Rattle.path_law.specs.Pointing.{lends}
-use Rattle.path_law.proofs.Alike.{coherent_has_paths}
-use Rattle.path_law.proofs.Contained.{among_thread}
-use Rattle.path_law.proofs.Sole.{some_is}
-use Rattle.word_law.specs.Reworded.{HasPlaces}
-use Rattle.word_law.specs.Unmoved.{Delivers}
-use Rattle.event_law.specs.Laws.{Gives, FewEvents}
-use Rattle.event_law.proofs.Results.{both_give}
-use Rattle.event_law.proofs.Sending.{applied_part}
-use Rattle.event_law.proofs.Bags.{thread_number}
-use Rattle.event_law.proofs.ThreadThere.{thread_there}
-use Rattle.still_law.proofs.Told.{found, tot_same}
-use Rattle.prepare_law.specs.Requests.{WordsHold}
-use Rattle.prepare_law.proofs.Asking.{found_number}
+use Rattle.regain_law.proofs.Below.fr_typing.PlaceLemmas.{eq_cases}
+use Rattle.regain_law.specs.Below.fr_base.Lists.{last_of}
+use Rattle.regain_law.specs.Below.fr_base.declared.name.ObjNo.{ObjNo}
+use Rattle.regain_law.specs.Below.fr_base.declared.place.Lval.{Lval}
+use Rattle.regain_law.specs.Below.fr_base.declared.instruction.Instr.{Instr}
+use Rattle.regain_law.specs.Below.fr_base.declared.instruction.Instr.TheVariants as instr
+use Rattle.regain_law.specs.Below.heap_partition.declared.value.Cell.{Cell}
+use Rattle.regain_law.specs.Below.thread_state.View.{ThreadState, is_over}
+use Rattle.regain_law.specs.Below.thread_state.declared.phase.Phase.{Phase}
+use Rattle.regain_law.specs.Below.thread_state.declared.phase.Phase.TheVariants as phase
+use Rattle.regain_law.specs.Below.thread_state.declared.value.Value.{Value}
+use Rattle.regain_law.specs.Below.thread_state.declared.value.Value.TheVariants as value
+use Rattle.regain_law.specs.Below.server_msgs.declared.message.Message.{Message}
+use Rattle.regain_law.specs.Below.server_msgs.declared.message.Message.TheVariants as message
+use Rattle.regain_law.specs.Below.journal.View.{EntryView}
+use Rattle.regain_law.specs.Below.server_model.declared.event.Event.{Event}
+use Rattle.regain_law.specs.Below.server_model.declared.event.What.TheVariants.{Step, Deliver}
+use Rattle.regain_law.specs.Below.server_model.Servers.{Server, Cluster, server_at}
+use Rattle.regain_law.specs.Below.server_model.Places.{Spot, in_slot, on_top}
+use Rattle.regain_law.specs.Below.server_model.Prepare.{LendTo, access_of, assigned, ending, is_taken, read_or_taken}
+use Rattle.regain_law.specs.Below.server_model.Clusters.{apply}
+use Rattle.regain_law.specs.Below.heap_law.Names.{tot, one, Among}
+use Rattle.regain_law.specs.Below.heap_law.Things.{Location, in_cell, Thing, sent, things_of}
+use Rattle.regain_law.specs.Below.heap_law.Follow.{Standing, threads_in, thread_at, place_at, value_behind, locate}
+use Rattle.regain_law.specs.Below.heap_law.Follow as follow
+use Rattle.regain_law.specs.Below.heap_law.Sight.{Sight, sight}
+use Rattle.regain_law.specs.Below.heap_law.Weights.{lies_at}
+use Rattle.regain_law.specs.Below.heap_law.Walking.{instr_of}
+use Rattle.regain_law.specs.Below.heap_law.Words.{HasWords}
+use Rattle.regain_law.specs.Below.heap_law.Requests.{taken_phase}
+use Rattle.regain_law.specs.Below.heap_law.Coherent.{Holds, IsSound, taken_stands}
+use Rattle.regain_law.proofs.Below.heap_law.Words.{itself, named, none_all}
+use Rattle.regain_law.specs.Below.fr_base.Names.{same_object}
+use Rattle.regain_law.proofs.Below.event_law.MutexResults.{has}
+use Rattle.regain_law.proofs.Below.free_law.Unled.{none_leads}
+use Rattle.walk_law.proofs.Below.wait_law.Found.{Weighing, weighing}
+use Rattle.regain_law.specs.Below.type_law.ClusterTypes.{IsCoherent}
+use Rattle.regain_law.specs.Below.path_law.HeapStore.{GoesOn, HasPaths}
+use Rattle.regain_law.specs.Below.path_law.Pointing.{lends}
+use Rattle.regain_law.proofs.Below.path_law.Alike.{coherent_has_paths}
+use Rattle.regain_law.proofs.Below.path_law.Contained.{among_thread}
+use Rattle.regain_law.proofs.Below.path_law.Sole.{some_is}
+use Rattle.regain_law.specs.Below.word_law.Reworded.{HasPlaces}
+use Rattle.regain_law.specs.Below.word_law.Unmoved.{Delivers}
+use Rattle.regain_law.specs.Below.event_law.Laws.{Gives, FewEvents}
+use Rattle.regain_law.proofs.Below.event_law.Results.{both_give}
+use Rattle.regain_law.proofs.Below.event_law.Sending.{applied_part}
+use Rattle.regain_law.proofs.Below.event_law.Bags.{thread_number}
+use Rattle.regain_law.proofs.Below.event_law.ThreadThere.{thread_there}
+use Rattle.regain_law.proofs.Below.still_law.Told.{found, tot_same}
+use Rattle.regain_law.specs.Below.prepare_law.Requests.{WordsHold}
+use Rattle.regain_law.proofs.Below.prepare_law.Asking.{found_number}
 use Rattle.regain_law.proofs.Each.{events_keep_words}
-use Rattle.local_law.specs.Laws.{EachCoherentEventKeeps}
-use Rattle.wait_law.specs.Places.{writes, LeadsAsItDid}
-use Rattle.wait_law.proofs.Stay.{others_leave}
-use Rattle.wait_law.proofs.Steady.{stands_steady}
-use Rattle.wait_law.proofs.Written.{Written}
+use Rattle.regain_law.specs.Below.local_law.Laws.{EachCoherentEventKeeps}
+use Rattle.walk_law.specs.Below.wait_law.Places.{writes, LeadsAsItDid}
+use Rattle.walk_law.proofs.Below.wait_law.Stay.{others_leave}
+use Rattle.walk_law.proofs.Below.wait_law.Steady.{stands_steady}
+use Rattle.walk_law.proofs.Below.wait_law.Written.{Written}
 use Rattle.walk_law.proofs.Clusters.{SeesOn}
 use Rattle.walk_law.proofs.Cells.{Seeing, cell_weight}
 use Rattle.walk_law.proofs.New.{newly}

@@ -2,50 +2,50 @@
 use Rattle.std.proofs.Common.{◌≡◌, ℕ, zero, suc, ◌+◌, ◌-◌, ◌≤◌, ◌==◌, nat_lt, is_some, Bool, true, false, if◌then◌else◌, List, ◌++◌, Option, Some, None, option_map, refl, sym, ap, subst, ◌∙◌, arith}
 use Rattle.std.specs.Prelude.{slice_get, length}
 use Rattle.std.proofs.lemmas.Bool.{eqb-true}
-use Rattle.fr_base.specs.declared.name.ObjNo.{ObjNo}
-use Rattle.fr_base.specs.declared.place.Lval.{Lval}
-use Rattle.fr_base.specs.declared.instruction.Instr.{Instr}
-use Rattle.heap_partition.specs.declared.value.BoxPtr.{BoxPtr}
-use Rattle.heap_partition.specs.declared.value.Cell.{Cell}
-use Rattle.heap_partition.specs.declared.value.Owned.{Owned}
-use Rattle.heap_partition.specs.declared.value.Owned.TheVariants as owned
-use Rattle.owner_box.specs.View.{PartitionState}
-use Rattle.owner_box.specs.Partition.{cell_of, made, new_word, stored}
-use Rattle.thread_state.specs.View.{ThreadState}
-use Rattle.thread_state.specs.declared.phase.Phase.{Phase}
-use Rattle.thread_state.specs.declared.phase.Phase.TheVariants as phase
-use Rattle.thread_state.specs.declared.value.Value.{Value}
-use Rattle.thread_state.specs.declared.value.Value.TheVariants as value
-use Rattle.server_msgs.specs.declared.message.Message.TheVariants as message
-use Rattle.journal.specs.View.{EntryView}
-use Rattle.journal.specs.declared.act.Act.TheVariants as act
-use Rattle.server_model.specs.declared.event.Event.{Event}
-use Rattle.server_model.specs.declared.event.What.{What}
-use Rattle.server_model.specs.declared.event.What.TheVariants.{Deliver}
-use Rattle.server_model.specs.Servers.{Rest, Server, Cluster, server_at}
-use Rattle.server_model.specs.Work.{Hand, Site, leads_here, look, note, put_back, receive, thread_in, without_thread, with_partition, with_phase, working, then_some}
-use Rattle.server_model.specs.NewWords.{NewWord, can_grow}
-use Rattle.server_model.specs.Places.{Spot, in_slot, on_top, in_cell, in_copy, nowhere, note_write, put_at, set_pointer, value_at, value_in, with_word}
-use Rattle.server_model.specs.Prepare.{Access, ReadTo, ReadPointer, WriteTo, LendTo, EndRef, access_of, passing, write_stars}
-use Rattle.server_model.specs.Objects.{waits_for_cell, chased, waits_under, arrived_at, arrived_slot, arrived_write, arrived_lend, arrived_end, passed_spot, arrived, instr_access, came, deliver_moved}
-use Rattle.server_model.specs.Events.{enabled, received, deliver_message, left_by, does}
-use Rattle.server_model.specs.Clusters.{with_server, done_at, act_at, apply}
-use Rattle.heap_law.specs.Names.{tot}
-use Rattle.heap_law.specs.Things.{Thing, stands, thread_things, server_things, servers_things, things_of}
-use Rattle.heap_law.specs.Coherent.{IsSound}
-use Rattle.heap_law.proofs.Sums.{tot-append}
-use Rattle.event_law.specs.Laws.{Gives, FewEvents}
-use Rattle.event_law.proofs.Applied.{handed_on}
-use Rattle.event_law.proofs.Bags.{all_standing, rest_things, server_same, thread_number, tot-without, tot-set, of_partition, of_receiving}
-use Rattle.event_law.proofs.Events.{tot-server}
-use Rattle.event_law.proofs.Objects.{makes}
-use Rattle.event_law.proofs.Results.{then_gives, over_gives, both_give, test_gives, weaker}
-use Rattle.event_law.proofs.Sending.{each_event_sends}
-use Rattle.event_law.proofs.Values.{stores}
-use Rattle.still_law.proofs.Addresses.{in_place, next_empty}
-use Rattle.still_law.proofs.Leaving.{others, placed_here}
-use Rattle.local_law.proofs.Goes.{Goes, IsGotten, moved_goes}
-use Rattle.word_law.specs.Unmoved.{Delivers}
+use Rattle.regain_law.specs.Below.fr_base.declared.name.ObjNo.{ObjNo}
+use Rattle.regain_law.specs.Below.fr_base.declared.place.Lval.{Lval}
+use Rattle.regain_law.specs.Below.fr_base.declared.instruction.Instr.{Instr}
+use Rattle.regain_law.specs.Below.heap_partition.declared.value.BoxPtr.{BoxPtr}
+use Rattle.regain_law.specs.Below.heap_partition.declared.value.Cell.{Cell}
+use Rattle.regain_law.specs.Below.heap_partition.declared.value.Owned.{Owned}
+use Rattle.regain_law.specs.Below.heap_partition.declared.value.Owned.TheVariants as owned
+use Rattle.regain_law.specs.Below.owner_box.View.{PartitionState}
+use Rattle.regain_law.specs.Below.owner_box.Partition.{cell_of, made, new_word, stored}
+use Rattle.regain_law.specs.Below.thread_state.View.{ThreadState}
+use Rattle.regain_law.specs.Below.thread_state.declared.phase.Phase.{Phase}
+use Rattle.regain_law.specs.Below.thread_state.declared.phase.Phase.TheVariants as phase
+use Rattle.regain_law.specs.Below.thread_state.declared.value.Value.{Value}
+use Rattle.regain_law.specs.Below.thread_state.declared.value.Value.TheVariants as value
+use Rattle.regain_law.specs.Below.server_msgs.declared.message.Message.TheVariants as message
+use Rattle.regain_law.specs.Below.journal.View.{EntryView}
+use Rattle.regain_law.specs.Below.journal.declared.act.Act.TheVariants as act
+use Rattle.regain_law.specs.Below.server_model.declared.event.Event.{Event}
+use Rattle.regain_law.specs.Below.server_model.declared.event.What.{What}
+use Rattle.regain_law.specs.Below.server_model.declared.event.What.TheVariants.{Deliver}
+use Rattle.regain_law.specs.Below.server_model.Servers.{Rest, Server, Cluster, server_at}
+use Rattle.regain_law.specs.Below.server_model.Work.{Hand, Site, leads_here, look, note, put_back, receive, thread_in, without_thread, with_partition, with_phase, working, then_some}
+use Rattle.regain_law.specs.Below.server_model.NewWords.{NewWord, can_grow}
+use Rattle.regain_law.specs.Below.server_model.Places.{Spot, in_slot, on_top, in_cell, in_copy, nowhere, note_write, put_at, set_pointer, value_at, value_in, with_word}
+use Rattle.regain_law.specs.Below.server_model.Prepare.{Access, ReadTo, ReadPointer, WriteTo, LendTo, EndRef, access_of, passing, write_stars}
+use Rattle.regain_law.specs.Below.server_model.Objects.{waits_for_cell, chased, waits_under, arrived_at, arrived_slot, arrived_write, arrived_lend, arrived_end, passed_spot, arrived, instr_access, came, deliver_moved}
+use Rattle.regain_law.specs.Below.server_model.Events.{enabled, received, deliver_message, left_by, does}
+use Rattle.regain_law.specs.Below.server_model.Clusters.{with_server, done_at, act_at, apply}
+use Rattle.regain_law.specs.Below.heap_law.Names.{tot}
+use Rattle.regain_law.specs.Below.heap_law.Things.{Thing, stands, thread_things, server_things, servers_things, things_of}
+use Rattle.regain_law.specs.Below.heap_law.Coherent.{IsSound}
+use Rattle.regain_law.proofs.Below.heap_law.Sums.{tot-append}
+use Rattle.regain_law.specs.Below.event_law.Laws.{Gives, FewEvents}
+use Rattle.regain_law.proofs.Below.event_law.Applied.{handed_on}
+use Rattle.regain_law.proofs.Below.event_law.Bags.{all_standing, rest_things, server_same, thread_number, tot-without, tot-set, of_partition, of_receiving}
+use Rattle.regain_law.proofs.Below.event_law.Events.{tot-server}
+use Rattle.regain_law.proofs.Below.event_law.Objects.{makes}
+use Rattle.regain_law.proofs.Below.event_law.Results.{then_gives, over_gives, both_give, test_gives, weaker}
+use Rattle.regain_law.proofs.Below.event_law.Sending.{each_event_sends}
+use Rattle.regain_law.proofs.Below.event_law.Values.{stores}
+use Rattle.regain_law.proofs.Below.still_law.Addresses.{in_place, next_empty}
+use Rattle.regain_law.proofs.Below.still_law.Leaving.{others, placed_here}
+use Rattle.regain_law.proofs.Below.local_law.Goes.{Goes, IsGotten, moved_goes}
+use Rattle.regain_law.specs.Below.word_law.Unmoved.{Delivers}
 use Rattle.walk_law.proofs.Cells.{Seeing, cell_weight, amount, rest_seen, thread_seen}
 use Rattle.walk_law.proofs.Clusters.{goes_number}
 use Rattle.walk_law.proofs.Ready.{led_here, place_unseen}
@@ -333,7 +333,7 @@ module _ (k : Cluster) (sound : IsSound k) (number : ℕ) (s : Server) (here : s
   server_so : Gives (λ (r : Server × EntryView). Comes k.code s old t c y (server_things s) (server_things r.0)) (does k.code k.options s (Deliver i))
   server_so =
       let Q : Site → Type 0 = λ x. Comes k.code s old t c y (server_things s) (server_things (left_by s.events None None x).0) in
-      over_gives Q (λ (r : Server × EntryView). Comes k.code s old t c y (server_things s) (server_things r.0)) (Rattle.server_model.specs.Events.deliver k.code i s) (left_by s.events None None)
+      over_gives Q (λ (r : Server × EntryView). Comes k.code s old t c y (server_things s) (server_things r.0)) (Rattle.regain_law.specs.Below.server_model.Events.deliver k.code i s) (left_by s.events None None)
       (subst (λ o. Gives Q (then_some o (λ m. deliver_message k.code m (received i s)))) (sym message_there)
       (subst (λ r. Gives Q (then_some (option_map (λ v. record { work = (received i s).work; thread = v }) r) (λ h. option_map (put_back s.threads) (deliver_moved k.code old c h)))) (sym at)
       (over_gives (λ h. Came2 h × (h.thread.number ≡ t)) Q (deliver_moved k.code old c before) (put_back s.threads)

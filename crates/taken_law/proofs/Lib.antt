@@ -1,3 +1,4 @@
+pub mod Below
 pub mod Landed
 pub mod After
 pub mod Words

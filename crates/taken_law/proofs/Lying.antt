@@ -1,47 +1,47 @@
 -- An object lies where it lay after the step of another thread, after the delivery of an object, and after that of a `move` or a `drop` of another object.
 use Rattle.std.proofs.Common.{◌≡◌, ℕ, ◌+◌, ◌≤◌, ◌==◌, ◌&&◌, nat_lt, Bool, true, false, if◌then◌else◌, List, ◌++◌, Option, Some, None, option_map, refl, sym, ap, subst, ◌∙◌, arith}
 use Rattle.std.specs.Prelude.{slice_get}
-use Rattle.fr_base.specs.declared.name.ObjNo.{ObjNo}
-use Rattle.fr_base.specs.declared.instruction.Instr.{Instr}
-use Rattle.fr_base.specs.Names.{same_object}
-use Rattle.global_addr.specs.Words.{colour_of, address_of}
-use Rattle.heap_partition.specs.declared.value.Cell.{Cell}
-use Rattle.owner_box.specs.View.{PartitionState}
-use Rattle.owner_box.specs.Partition.{freed}
-use Rattle.thread_state.specs.View.{ThreadState}
-use Rattle.server_msgs.specs.declared.message.Message.TheVariants as message
-use Rattle.journal.specs.View.{EntryView}
-use Rattle.server_model.specs.declared.event.Event.{Event}
-use Rattle.server_model.specs.declared.event.What.TheVariants.{Deliver}
-use Rattle.server_model.specs.Servers.{Rest, Server, Cluster, server_at}
-use Rattle.server_model.specs.Work.{Work, sent_from, receive, look_object, then_some}
-use Rattle.server_model.specs.Objects.{deliver_move}
-use Rattle.server_model.specs.Events.{enabled, received, deliver_message, left_by, does}
-use Rattle.server_model.specs.Clusters.{done_at, act_at, apply}
-use Rattle.heap_law.specs.Names.{tot, one}
-use Rattle.heap_law.specs.Things.{Thing, lies, flies, stands, sent, vacant, retired, partition_things, server_things, things_of}
-use Rattle.heap_law.specs.Weights.{lies_at, states}
-use Rattle.heap_law.specs.Coherent.{IsSound}
-use Rattle.heap_law.proofs.Sums.{tot-append}
-use Rattle.path_law.specs.HeapStore.{HasPaths}
-use Rattle.event_law.specs.Laws.{Gives, FewEvents}
-use Rattle.event_law.proofs.Applied.{handed_on}
-use Rattle.event_law.proofs.Bags.{all_standing, rest_things, server_same, sent_number, of_partition, of_receiving, of_sending}
-use Rattle.event_law.proofs.Cells.{left_by as address_left, looked, frees, not_free}
-use Rattle.event_law.proofs.Objects.{one_state}
-use Rattle.event_law.proofs.Events.{tot-server}
-use Rattle.event_law.proofs.Results.{then_gives, map_gives, over_gives, test_gives, weaker}
-use Rattle.event_law.proofs.Sending.{each_event_sends}
-use Rattle.event_law.proofs.ObjectMessages.{looked_object}
-use Rattle.word_law.specs.Unmoved.{Delivers}
-use Rattle.still_law.proofs.Leaving.{others, placed_here}
-use Rattle.still_law.proofs.Tests.{IsTest, objects}
-use Rattle.still_law.proofs.Told.{tot_same}
-use Rattle.wait_law.proofs.Written.{Written}
+use Rattle.regain_law.specs.Below.fr_base.declared.name.ObjNo.{ObjNo}
+use Rattle.regain_law.specs.Below.fr_base.declared.instruction.Instr.{Instr}
+use Rattle.regain_law.specs.Below.fr_base.Names.{same_object}
+use Rattle.regain_law.specs.Below.global_addr.Words.{colour_of, address_of}
+use Rattle.regain_law.specs.Below.heap_partition.declared.value.Cell.{Cell}
+use Rattle.regain_law.specs.Below.owner_box.View.{PartitionState}
+use Rattle.regain_law.specs.Below.owner_box.Partition.{freed}
+use Rattle.regain_law.specs.Below.thread_state.View.{ThreadState}
+use Rattle.regain_law.specs.Below.server_msgs.declared.message.Message.TheVariants as message
+use Rattle.regain_law.specs.Below.journal.View.{EntryView}
+use Rattle.regain_law.specs.Below.server_model.declared.event.Event.{Event}
+use Rattle.regain_law.specs.Below.server_model.declared.event.What.TheVariants.{Deliver}
+use Rattle.regain_law.specs.Below.server_model.Servers.{Rest, Server, Cluster, server_at}
+use Rattle.regain_law.specs.Below.server_model.Work.{Work, sent_from, receive, look_object, then_some}
+use Rattle.regain_law.specs.Below.server_model.Objects.{deliver_move}
+use Rattle.regain_law.specs.Below.server_model.Events.{enabled, received, deliver_message, left_by, does}
+use Rattle.regain_law.specs.Below.server_model.Clusters.{done_at, act_at, apply}
+use Rattle.regain_law.specs.Below.heap_law.Names.{tot, one}
+use Rattle.regain_law.specs.Below.heap_law.Things.{Thing, lies, flies, stands, sent, vacant, retired, partition_things, server_things, things_of}
+use Rattle.regain_law.specs.Below.heap_law.Weights.{lies_at, states}
+use Rattle.regain_law.specs.Below.heap_law.Coherent.{IsSound}
+use Rattle.regain_law.proofs.Below.heap_law.Sums.{tot-append}
+use Rattle.regain_law.specs.Below.path_law.HeapStore.{HasPaths}
+use Rattle.regain_law.specs.Below.event_law.Laws.{Gives, FewEvents}
+use Rattle.regain_law.proofs.Below.event_law.Applied.{handed_on}
+use Rattle.regain_law.proofs.Below.event_law.Bags.{all_standing, rest_things, server_same, sent_number, of_partition, of_receiving, of_sending}
+use Rattle.regain_law.proofs.Below.event_law.Cells.{left_by as address_left, looked, frees, not_free}
+use Rattle.regain_law.proofs.Below.event_law.Objects.{one_state}
+use Rattle.regain_law.proofs.Below.event_law.Events.{tot-server}
+use Rattle.regain_law.proofs.Below.event_law.Results.{then_gives, map_gives, over_gives, test_gives, weaker}
+use Rattle.regain_law.proofs.Below.event_law.Sending.{each_event_sends}
+use Rattle.regain_law.proofs.Below.event_law.ObjectMessages.{looked_object}
+use Rattle.regain_law.specs.Below.word_law.Unmoved.{Delivers}
+use Rattle.regain_law.proofs.Below.still_law.Leaving.{others, placed_here}
+use Rattle.regain_law.proofs.Below.still_law.Tests.{IsTest, objects}
+use Rattle.regain_law.proofs.Below.still_law.Told.{tot_same}
+use Rattle.walk_law.proofs.Below.wait_law.Written.{Written}
 use Rattle.walk_law.proofs.Cells.{Seeing, cell_weight, amount, rest_seen}
 use Rattle.walk_law.proofs.Clusters.{SeesOn}
 use Rattle.walk_law.proofs.Deliveries.{drops_on}
-use Rattle.word_law.specs.Reworded.{HasPlaces}
+use Rattle.regain_law.specs.Below.word_law.Reworded.{HasPlaces}
 use Rattle.taken_law.proofs.Landed.{Comes}
 use Rattle.taken_law.proofs.After.{no_less}
 
@@ -103,7 +103,7 @@ handed_less f k e sound few go = handed_on (λ z. tot f (things_of k) ≤ tot f 
         (λ r l. (let b = tot-server f k.servers e.server s r.0 here in omega (arith, l, b.0, b.1))))
 
 -- the message's server
-module _ (k : Cluster) (e : Event) (m : Rattle.server_msgs.specs.declared.message.Message.Message) (d : Delivers k e m) where
+module _ (k : Cluster) (e : Event) (m : Rattle.regain_law.specs.Below.server_msgs.declared.message.Message.Message) (d : Delivers k e m) where
   server_is : {a b : Server} → Some a ≡ Some b → a ≡ b
   server_is h = cc
 

@@ -1,43 +1,43 @@
 -- The delivery of an object: what each thread has taken it has under another word than the pointer has that its place follows last.
 use Rattle.std.proofs.Common.{◌≡◌, ℕ, ◌+◌, not, false, List, [], ◌∷◌, Option, Some, None, is_some, inl, inr, refl, sym, ap, subst, ◌∙◌, arith}
-use Rattle.fr_typing.proofs.PlaceLemmas.{eq_cases}
-use Rattle.fr_base.specs.declared.place.Lval.{Lval}
-use Rattle.heap_partition.specs.declared.value.Cell.{Cell}
-use Rattle.thread_state.specs.View.{ThreadState, is_over}
-use Rattle.thread_state.specs.declared.phase.Phase.{Phase}
-use Rattle.thread_state.specs.declared.phase.Phase.TheVariants as phase
-use Rattle.server_msgs.specs.declared.message.Message.TheVariants as message
-use Rattle.journal.specs.View.{EntryView}
-use Rattle.server_model.specs.declared.event.Event.{Event}
-use Rattle.server_model.specs.declared.event.What.TheVariants.{Step, Deliver}
-use Rattle.server_model.specs.Servers.{Server, Cluster}
-use Rattle.server_model.specs.Events.{is_ready}
-use Rattle.server_model.specs.Clusters.{apply}
-use Rattle.heap_law.specs.Names.{tot, one, other, if_so, Among}
-use Rattle.heap_law.specs.Things.{Thing, stands, things_of}
-use Rattle.heap_law.specs.Follow.{Standing, threads_in, thread_at}
-use Rattle.heap_law.specs.Placing.{words}
-use Rattle.heap_law.specs.Sight.{sight, issued}
-use Rattle.heap_law.specs.Requests.{old_word}
-use Rattle.heap_law.specs.Coherent.{Holds, taken_is_new}
-use Rattle.heap_law.proofs.Words.{none_at, none_all}
-use Rattle.type_law.specs.ClusterTypes.{IsCoherent}
-use Rattle.path_law.specs.HeapStore.{GoesOn, HasPaths}
-use Rattle.path_law.proofs.Alike.{coherent_has_paths}
-use Rattle.path_law.proofs.Contained.{among_thread}
-use Rattle.path_law.proofs.Sole.{some_is}
-use Rattle.word_law.specs.Reworded.{HasPlaces}
-use Rattle.word_law.specs.Unmoved.{Delivers}
-use Rattle.event_law.specs.Laws.{Gives, FewEvents}
-use Rattle.event_law.proofs.Bags.{thread_number}
-use Rattle.event_law.proofs.Results.{both_give}
-use Rattle.event_law.proofs.Sending.{applied_part}
-use Rattle.event_law.proofs.ThreadThere.{thread_there}
-use Rattle.still_law.proofs.Told.{found}
-use Rattle.write_law.proofs.Routes.{sane_at, roomy_at}
-use Rattle.rewrite_law.proofs.Later.{later_itself, next_unissued, place_vacant}
-use Rattle.wait_law.specs.Places.{Follows, LeadsAsItDid}
-use Rattle.wait_law.proofs.Stay.{others_leave}
+use Rattle.regain_law.proofs.Below.fr_typing.PlaceLemmas.{eq_cases}
+use Rattle.regain_law.specs.Below.fr_base.declared.place.Lval.{Lval}
+use Rattle.regain_law.specs.Below.heap_partition.declared.value.Cell.{Cell}
+use Rattle.regain_law.specs.Below.thread_state.View.{ThreadState, is_over}
+use Rattle.regain_law.specs.Below.thread_state.declared.phase.Phase.{Phase}
+use Rattle.regain_law.specs.Below.thread_state.declared.phase.Phase.TheVariants as phase
+use Rattle.regain_law.specs.Below.server_msgs.declared.message.Message.TheVariants as message
+use Rattle.regain_law.specs.Below.journal.View.{EntryView}
+use Rattle.regain_law.specs.Below.server_model.declared.event.Event.{Event}
+use Rattle.regain_law.specs.Below.server_model.declared.event.What.TheVariants.{Step, Deliver}
+use Rattle.regain_law.specs.Below.server_model.Servers.{Server, Cluster}
+use Rattle.regain_law.specs.Below.server_model.Events.{is_ready}
+use Rattle.regain_law.specs.Below.server_model.Clusters.{apply}
+use Rattle.regain_law.specs.Below.heap_law.Names.{tot, one, other, if_so, Among}
+use Rattle.regain_law.specs.Below.heap_law.Things.{Thing, stands, things_of}
+use Rattle.regain_law.specs.Below.heap_law.Follow.{Standing, threads_in, thread_at}
+use Rattle.regain_law.specs.Below.heap_law.Placing.{words}
+use Rattle.regain_law.specs.Below.heap_law.Sight.{sight, issued}
+use Rattle.regain_law.specs.Below.heap_law.Requests.{old_word}
+use Rattle.regain_law.specs.Below.heap_law.Coherent.{Holds, taken_is_new}
+use Rattle.regain_law.proofs.Below.heap_law.Words.{none_at, none_all}
+use Rattle.regain_law.specs.Below.type_law.ClusterTypes.{IsCoherent}
+use Rattle.regain_law.specs.Below.path_law.HeapStore.{GoesOn, HasPaths}
+use Rattle.regain_law.proofs.Below.path_law.Alike.{coherent_has_paths}
+use Rattle.regain_law.proofs.Below.path_law.Contained.{among_thread}
+use Rattle.regain_law.proofs.Below.path_law.Sole.{some_is}
+use Rattle.regain_law.specs.Below.word_law.Reworded.{HasPlaces}
+use Rattle.regain_law.specs.Below.word_law.Unmoved.{Delivers}
+use Rattle.regain_law.specs.Below.event_law.Laws.{Gives, FewEvents}
+use Rattle.regain_law.proofs.Below.event_law.Bags.{thread_number}
+use Rattle.regain_law.proofs.Below.event_law.Results.{both_give}
+use Rattle.regain_law.proofs.Below.event_law.Sending.{applied_part}
+use Rattle.regain_law.proofs.Below.event_law.ThreadThere.{thread_there}
+use Rattle.regain_law.proofs.Below.still_law.Told.{found}
+use Rattle.regain_law.proofs.Below.write_law.Routes.{sane_at, roomy_at}
+use Rattle.regain_law.proofs.Below.rewrite_law.Later.{later_itself, next_unissued, place_vacant}
+use Rattle.walk_law.specs.Below.wait_law.Places.{Follows, LeadsAsItDid}
+use Rattle.walk_law.proofs.Below.wait_law.Stay.{others_leave}
 use Rattle.walk_law.proofs.New.{newly}
 use Rattle.walk_law.proofs.Followed.{same_settings}
 use Rattle.taken_law.proofs.Landed.{all_give, new, Landed, lands_in}
@@ -98,7 +98,7 @@ phase_issued : (f : ℕ → ℕ) (x : Standing) (b : List Thing) → tot (words 
 phase_issued f x [] z m w e = absurd m
 phase_issued f x (stands r p u ∷ b) z (inl same) w e =
     let is : u.phase ≡ phase.Taken w = ap (λ (q : Standing). q.thread.phase) same ∙ e in
-    let its : Rattle.heap_law.specs.Placing.phase_word f u.phase ≡ f w = ap (Rattle.heap_law.specs.Placing.phase_word f) is in
+    let its : Rattle.regain_law.specs.Below.heap_law.Placing.phase_word f u.phase ≡ f w = ap (Rattle.regain_law.specs.Below.heap_law.Placing.phase_word f) is in
     omega (arith, z, its)
 phase_issued f x (stands r p u ∷ b) z (inr m) w e = phase_issued f x b (omega (arith, z)) m w e
 phase_issued f x (_ ∷ b) z m w e = phase_issued f x b (omega (arith, z)) m w e

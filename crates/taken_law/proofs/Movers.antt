@@ -1,43 +1,43 @@
 -- An object is asked for by a thread that waits for it alone, and in whose slots it is; so none is asked for that a thread has taken.
 use Rattle.std.proofs.Common.{◌≡◌, inl, ℕ, ◌*◌, ◌+◌, ◌≤◌, ◌==◌, ◌&&◌, not, Bool, true, false, List, [], ◌∷◌, Option, Some, None, refl, sym, ap, subst, ◌∙◌, arith}
 use Rattle.std.proofs.lemmas.Bool.{eqb-true, eq-eqb}
-use Rattle.fr_base.specs.declared.name.ObjNo.{ObjNo}
-use Rattle.fr_base.specs.declared.place.Lval.{Lval}
-use Rattle.fr_base.specs.declared.instruction.Instr.{Instr}
-use Rattle.fr_store.specs.Keys.{slot_k}
-use Rattle.fr_store.specs.Store.{at_key, at_object, Store, walk, below_key}
-use Rattle.fr_store.specs.Typed.{KeyTypes}
-use Rattle.fr_store.proofs.Sound.{sound as sound_path}
-use Rattle.thread_state.specs.View.{is_over}
-use Rattle.thread_state.specs.declared.phase.Phase.{Phase}
-use Rattle.thread_state.specs.declared.phase.Phase.TheVariants as phase
-use Rattle.server_msgs.specs.declared.message.Message.{Message}
-use Rattle.server_msgs.specs.declared.message.Message.TheVariants as message
-use Rattle.server_model.specs.Servers.{Cluster}
-use Rattle.heap_law.specs.Names.{tot, one, other, if_so, same_object, Among}
-use Rattle.heap_law.specs.Things.{in_cell, Thing, sent, things_of}
-use Rattle.heap_law.specs.Follow.{Standing, Ground, thread_at, place_at}
-use Rattle.heap_law.specs.Sight.{sight}
-use Rattle.heap_law.specs.Walking.{path, instr_of, asked_for, asks_for}
-use Rattle.heap_law.specs.Requests.{halves, halves_to, message_answer, is_cell, in_phase, carries}
-use Rattle.heap_law.specs.Coherent.{IsSound}
-use Rattle.heap_law.proofs.Names.{and_left, and_right}
-use Rattle.heap_law.proofs.Words.{named, none_at}
-use Rattle.path_law.specs.HeapStore.{heap_store, GoesOn, HasPaths}
-use Rattle.path_law.specs.Pointing.{MayWrite, WritesTo}
-use Rattle.path_law.proofs.Alike.{leads_in_heap}
-use Rattle.path_law.proofs.Contained.{among_thread}
-use Rattle.path_law.proofs.MayWrites.{may_write_there}
-use Rattle.path_law.proofs.Shown.{stands_there}
-use Rattle.path_law.proofs.Sole.{some_is}
-use Rattle.result_law.proofs.Alone.{needed_less}
-use Rattle.result_law.proofs.Awaits.{awaited_mine}
-use Rattle.result_law.proofs.Made.{OwnedBy}
-use Rattle.result_law.proofs.Near.{base_mine, one_reaches}
+use Rattle.regain_law.specs.Below.fr_base.declared.name.ObjNo.{ObjNo}
+use Rattle.regain_law.specs.Below.fr_base.declared.place.Lval.{Lval}
+use Rattle.regain_law.specs.Below.fr_base.declared.instruction.Instr.{Instr}
+use Rattle.regain_law.specs.Below.fr_store.Keys.{slot_k}
+use Rattle.regain_law.specs.Below.fr_store.Store.{at_key, at_object, Store, walk, below_key}
+use Rattle.regain_law.specs.Below.fr_store.Typed.{KeyTypes}
+use Rattle.regain_law.proofs.Below.fr_store.Sound.{sound as sound_path}
+use Rattle.regain_law.specs.Below.thread_state.View.{is_over}
+use Rattle.regain_law.specs.Below.thread_state.declared.phase.Phase.{Phase}
+use Rattle.regain_law.specs.Below.thread_state.declared.phase.Phase.TheVariants as phase
+use Rattle.regain_law.specs.Below.server_msgs.declared.message.Message.{Message}
+use Rattle.regain_law.specs.Below.server_msgs.declared.message.Message.TheVariants as message
+use Rattle.regain_law.specs.Below.server_model.Servers.{Cluster}
+use Rattle.regain_law.specs.Below.heap_law.Names.{tot, one, other, if_so, same_object, Among}
+use Rattle.regain_law.specs.Below.heap_law.Things.{in_cell, Thing, sent, things_of}
+use Rattle.regain_law.specs.Below.heap_law.Follow.{Standing, Ground, thread_at, place_at}
+use Rattle.regain_law.specs.Below.heap_law.Sight.{sight}
+use Rattle.regain_law.specs.Below.heap_law.Walking.{path, instr_of, asked_for, asks_for}
+use Rattle.regain_law.specs.Below.heap_law.Requests.{halves, halves_to, message_answer, is_cell, in_phase, carries}
+use Rattle.regain_law.specs.Below.heap_law.Coherent.{IsSound}
+use Rattle.regain_law.proofs.Below.heap_law.Names.{and_left, and_right}
+use Rattle.regain_law.proofs.Below.heap_law.Words.{named, none_at}
+use Rattle.regain_law.specs.Below.path_law.HeapStore.{heap_store, GoesOn, HasPaths}
+use Rattle.regain_law.specs.Below.path_law.Pointing.{MayWrite, WritesTo}
+use Rattle.regain_law.proofs.Below.path_law.Alike.{leads_in_heap}
+use Rattle.regain_law.proofs.Below.path_law.Contained.{among_thread}
+use Rattle.regain_law.proofs.Below.path_law.MayWrites.{may_write_there}
+use Rattle.regain_law.proofs.Below.path_law.Shown.{stands_there}
+use Rattle.regain_law.proofs.Below.path_law.Sole.{some_is}
+use Rattle.regain_law.proofs.Below.result_law.Alone.{needed_less}
+use Rattle.regain_law.proofs.Below.result_law.Awaits.{awaited_mine}
+use Rattle.regain_law.proofs.Below.result_law.Made.{OwnedBy}
+use Rattle.regain_law.proofs.Below.result_law.Near.{base_mine, one_reaches}
 
 -- ONE ANSWER
 
-module _ (t : ℕ) (a : Rattle.heap_law.specs.Paths.Awaited) where
+module _ (t : ℕ) (a : Rattle.regain_law.specs.Below.heap_law.Paths.Awaited) where
   -- a message that asks for an object for the thread without being what it asks for
   abbrev strays_in : Message → ℕ
   strays_in (message.Move w p r u) = one ((u == t) && not (asks_for t a (message.Move w p r u)))

@@ -1,30 +1,30 @@
 -- After each event what a thread has taken it has under another word than the pointer has that its place follows last.
 use Rattle.std.proofs.Common.{◌≡◌, ℕ, false, Some, refl, sym, ap, ◌∙◌}
-use Rattle.fr_typing.proofs.PlaceLemmas.{eq_cases}
-use Rattle.thread_state.specs.declared.phase.Phase.{Phase}
-use Rattle.thread_state.specs.declared.phase.Phase.TheVariants as phase
-use Rattle.journal.specs.View.{EntryView}
-use Rattle.server_model.specs.declared.event.Event.{Event}
-use Rattle.server_model.specs.declared.event.What.TheVariants.{Step}
-use Rattle.server_model.specs.Servers.{Cluster}
-use Rattle.server_model.specs.Prepare.{is_taken}
-use Rattle.server_model.specs.Clusters.{apply}
-use Rattle.heap_law.specs.Names.{Among}
-use Rattle.heap_law.specs.Things.{things_of}
-use Rattle.heap_law.specs.Follow.{Standing, threads_in, thread_at}
-use Rattle.heap_law.specs.Sight.{Sight, sight}
-use Rattle.heap_law.specs.Requests.{old_word}
-use Rattle.heap_law.specs.Coherent.{Holds, taken_is_new}
-use Rattle.heap_law.proofs.Words.{none_all}
-use Rattle.type_law.specs.ClusterTypes.{IsCoherent}
-use Rattle.path_law.proofs.Sole.{some_is}
-use Rattle.word_law.specs.Reworded.{HasPlaces}
-use Rattle.event_law.specs.Laws.{Gives, FewEvents}
-use Rattle.event_law.proofs.Results.{both_give, weaker}
-use Rattle.event_law.proofs.Sending.{applied_part}
-use Rattle.still_law.proofs.Told.{found}
-use Rattle.local_law.specs.Laws.{EachCoherentEventKeeps}
-use Rattle.wait_law.proofs.Steady.{new_steady}
+use Rattle.regain_law.proofs.Below.fr_typing.PlaceLemmas.{eq_cases}
+use Rattle.regain_law.specs.Below.thread_state.declared.phase.Phase.{Phase}
+use Rattle.regain_law.specs.Below.thread_state.declared.phase.Phase.TheVariants as phase
+use Rattle.regain_law.specs.Below.journal.View.{EntryView}
+use Rattle.regain_law.specs.Below.server_model.declared.event.Event.{Event}
+use Rattle.regain_law.specs.Below.server_model.declared.event.What.TheVariants.{Step}
+use Rattle.regain_law.specs.Below.server_model.Servers.{Cluster}
+use Rattle.regain_law.specs.Below.server_model.Prepare.{is_taken}
+use Rattle.regain_law.specs.Below.server_model.Clusters.{apply}
+use Rattle.regain_law.specs.Below.heap_law.Names.{Among}
+use Rattle.regain_law.specs.Below.heap_law.Things.{things_of}
+use Rattle.regain_law.specs.Below.heap_law.Follow.{Standing, threads_in, thread_at}
+use Rattle.regain_law.specs.Below.heap_law.Sight.{Sight, sight}
+use Rattle.regain_law.specs.Below.heap_law.Requests.{old_word}
+use Rattle.regain_law.specs.Below.heap_law.Coherent.{Holds, taken_is_new}
+use Rattle.regain_law.proofs.Below.heap_law.Words.{none_all}
+use Rattle.regain_law.specs.Below.type_law.ClusterTypes.{IsCoherent}
+use Rattle.regain_law.proofs.Below.path_law.Sole.{some_is}
+use Rattle.regain_law.specs.Below.word_law.Reworded.{HasPlaces}
+use Rattle.regain_law.specs.Below.event_law.Laws.{Gives, FewEvents}
+use Rattle.regain_law.proofs.Below.event_law.Results.{both_give, weaker}
+use Rattle.regain_law.proofs.Below.event_law.Sending.{applied_part}
+use Rattle.regain_law.proofs.Below.still_law.Told.{found}
+use Rattle.regain_law.specs.Below.local_law.Laws.{EachCoherentEventKeeps}
+use Rattle.walk_law.proofs.Below.wait_law.Steady.{new_steady}
 use Rattle.walk_law.proofs.Delivered.{moves_taken, drops_taken}
 use Rattle.walk_law.proofs.Followed.{others_taken}
 use Rattle.taken_law.proofs.After.{Stays, stays_there}

@@ -1,39 +1,39 @@
 -- After the delivery of an object what a thread has taken it has under another word than the pointer has that its place follows last.
 use Rattle.std.proofs.Common.{◌≡◌, ◌⊎◌, inl, inr, ℕ, zero, suc, ◌+◌, ◌≤◌, Bool, true, false, List, Option, Some, None, refl, sym, ap, subst, ◌∙◌, arith}
 use Rattle.std.specs.Prelude.{slice_get}
-use Rattle.fr_base.specs.declared.name.ObjNo.{ObjNo}
-use Rattle.fr_base.specs.declared.label.Plain.{Plain}
-use Rattle.fr_base.specs.declared.place.Lval.{Lval}
-use Rattle.fr_base.specs.declared.instruction.Instr.{Instr}
-use Rattle.fr_base.specs.declared.instruction.Instr.TheVariants as instr
-use Rattle.fr_sound.specs.Seen.{seen_cell}
-use Rattle.heap_partition.specs.declared.value.Cell.{Cell}
-use Rattle.thread_state.specs.View.{ThreadState}
-use Rattle.thread_state.specs.declared.phase.Phase.{Phase}
-use Rattle.thread_state.specs.declared.phase.Phase.TheVariants as phase
-use Rattle.thread_state.specs.declared.value.Value.{Value}
-use Rattle.thread_state.specs.declared.value.Value.TheVariants as value
-use Rattle.server_model.specs.Servers.{Server, Cluster}
-use Rattle.heap_law.specs.Names.{tot, one, other}
-use Rattle.heap_law.specs.Things.{Location, at_slot, in_cell, things_of}
-use Rattle.heap_law.specs.Follow.{Standing, Ground, thread_at, cell_of, slot_of, value_of, value_in, value_behind, locate, hop_at}
-use Rattle.heap_law.specs.Sight.{sight, issued}
-use Rattle.heap_law.specs.OneHeap.{object_value}
-use Rattle.heap_law.specs.Walking.{instr_of}
-use Rattle.heap_law.specs.Requests.{has_word, lent_place, last_hop, taken_again, old_word}
-use Rattle.path_law.specs.HeapStore.{GoesOn, HasPaths}
-use Rattle.path_law.proofs.Alike.{IsShown, a_slot, an_object, leads_in_heap}
-use Rattle.path_law.proofs.Shown.{object_shown}
-use Rattle.read_law.specs.Reading.{lends}
-use Rattle.word_law.specs.Reworded.{HasPlaces}
-use Rattle.still_law.proofs.Told.{told, same_told}
-use Rattle.wait_law.specs.Places.{Follows, reads, LeadsAsItDid}
+use Rattle.regain_law.specs.Below.fr_base.declared.name.ObjNo.{ObjNo}
+use Rattle.regain_law.specs.Below.fr_base.declared.label.Plain.{Plain}
+use Rattle.regain_law.specs.Below.fr_base.declared.place.Lval.{Lval}
+use Rattle.regain_law.specs.Below.fr_base.declared.instruction.Instr.{Instr}
+use Rattle.regain_law.specs.Below.fr_base.declared.instruction.Instr.TheVariants as instr
+use Rattle.regain_law.specs.Below.fr_sound.Seen.{seen_cell}
+use Rattle.regain_law.specs.Below.heap_partition.declared.value.Cell.{Cell}
+use Rattle.regain_law.specs.Below.thread_state.View.{ThreadState}
+use Rattle.regain_law.specs.Below.thread_state.declared.phase.Phase.{Phase}
+use Rattle.regain_law.specs.Below.thread_state.declared.phase.Phase.TheVariants as phase
+use Rattle.regain_law.specs.Below.thread_state.declared.value.Value.{Value}
+use Rattle.regain_law.specs.Below.thread_state.declared.value.Value.TheVariants as value
+use Rattle.regain_law.specs.Below.server_model.Servers.{Server, Cluster}
+use Rattle.regain_law.specs.Below.heap_law.Names.{tot, one, other}
+use Rattle.regain_law.specs.Below.heap_law.Things.{Location, at_slot, in_cell, things_of}
+use Rattle.regain_law.specs.Below.heap_law.Follow.{Standing, Ground, thread_at, cell_of, slot_of, value_of, value_in, value_behind, locate, hop_at}
+use Rattle.regain_law.specs.Below.heap_law.Sight.{sight, issued}
+use Rattle.regain_law.specs.Below.heap_law.OneHeap.{object_value}
+use Rattle.regain_law.specs.Below.heap_law.Walking.{instr_of}
+use Rattle.regain_law.specs.Below.heap_law.Requests.{has_word, lent_place, last_hop, taken_again, old_word}
+use Rattle.regain_law.specs.Below.path_law.HeapStore.{GoesOn, HasPaths}
+use Rattle.regain_law.proofs.Below.path_law.Alike.{IsShown, a_slot, an_object, leads_in_heap}
+use Rattle.regain_law.proofs.Below.path_law.Shown.{object_shown}
+use Rattle.regain_law.specs.Below.read_law.Reading.{lends}
+use Rattle.regain_law.specs.Below.word_law.Reworded.{HasPlaces}
+use Rattle.regain_law.proofs.Below.still_law.Told.{told, same_told}
+use Rattle.walk_law.specs.Below.wait_law.Places.{Follows, reads, LeadsAsItDid}
 use Rattle.walk_law.proofs.Cells.{Seeing, cell_weight}
 use Rattle.walk_law.proofs.Tests.{same_value, values}
 use Rattle.taken_law.proofs.Landed.{new, Lands, gain, loss, Ends, gets_there, takes_there, Comes}
 use Rattle.taken_law.proofs.After.{Stays, others_stay, cell_then, cell_kept}
 use Rattle.taken_law.proofs.Words.{one_word, in_a_slot, in_a_cell}
-use Rattle.heap_law.specs.Coherent.{Holds, are_issued}
+use Rattle.regain_law.specs.Below.heap_law.Coherent.{Holds, are_issued}
 
 false_one : (b : Bool) → one b ≡ 0 → b ≡ false
 false_one false e = refl
@@ -45,7 +45,7 @@ untrue true f = absurd (f refl)
 untrue false f = refl
 
 -- only in `Taken` something is said
-pub idle : (s : Rattle.heap_law.specs.Sight.Sight) (x : Standing) (q : Phase) → ((w : ℕ) → q ≡ phase.Taken w → old_word s x (phase.Taken w) ≡ 0) → old_word s x q ≡ 0
+pub idle : (s : Rattle.regain_law.specs.Below.heap_law.Sight.Sight) (x : Standing) (q : Phase) → ((w : ℕ) → q ≡ phase.Taken w → old_word s x (phase.Taken w) ≡ 0) → old_word s x q ≡ 0
 idle s x (phase.Taken w) f = f w refl
 idle s x phase.Ready f = refl
 idle s x phase.Got f = refl

@@ -1,28 +1,28 @@
 -- After its own step a thread has taken nothing.
 use Rattle.std.proofs.Common.{◌≡◌, ℕ, ◌≤◌, true, false, List, Option, Some, None, option_map, refl, sym, subst, ◌∙◌, arith}
 use Rattle.std.specs.Prelude.{slice_get}
-use Rattle.fr_base.specs.declared.instruction.Instr.{Instr}
-use Rattle.thread_state.specs.View.{ThreadState}
-use Rattle.journal.specs.View.{EntryView}
-use Rattle.server_model.specs.declared.event.Event.{Event}
-use Rattle.server_model.specs.declared.event.What.TheVariants.{Step}
-use Rattle.server_model.specs.Servers.{Server, Cluster, server_at}
-use Rattle.server_model.specs.Work.{thread_in, then_some}
-use Rattle.server_model.specs.Prepare.{is_taken}
-use Rattle.server_model.specs.Events.{Stepped, can_step, has_phase, enabled, begin_work, step, step_in, stepped, does}
-use Rattle.server_model.specs.Clusters.{with_server, done_at, act_at, apply}
-use Rattle.heap_law.specs.Names.{tot}
-use Rattle.heap_law.specs.Things.{Thing, stands, server_things, servers_things, things_of}
-use Rattle.heap_law.specs.Coherent.{IsSound}
-use Rattle.heap_law.proofs.Sums.{tot-append}
-use Rattle.event_law.specs.Laws.{Gives, FewEvents}
-use Rattle.event_law.proofs.Applied.{handed_on}
-use Rattle.event_law.proofs.Bags.{all_standing, rest_things, server_same, thread_number, tot-set}
-use Rattle.event_law.proofs.Events.{tot-server}
-use Rattle.event_law.proofs.Results.{then_gives, over_gives, test_gives}
-use Rattle.event_law.proofs.Sending.{each_event_sends}
-use Rattle.local_law.proofs.Goes.{Goes, thread_goes}
-use Rattle.wait_law.proofs.Takers.{step_untaken}
+use Rattle.regain_law.specs.Below.fr_base.declared.instruction.Instr.{Instr}
+use Rattle.regain_law.specs.Below.thread_state.View.{ThreadState}
+use Rattle.regain_law.specs.Below.journal.View.{EntryView}
+use Rattle.regain_law.specs.Below.server_model.declared.event.Event.{Event}
+use Rattle.regain_law.specs.Below.server_model.declared.event.What.TheVariants.{Step}
+use Rattle.regain_law.specs.Below.server_model.Servers.{Server, Cluster, server_at}
+use Rattle.regain_law.specs.Below.server_model.Work.{thread_in, then_some}
+use Rattle.regain_law.specs.Below.server_model.Prepare.{is_taken}
+use Rattle.regain_law.specs.Below.server_model.Events.{Stepped, can_step, has_phase, enabled, begin_work, step, step_in, stepped, does}
+use Rattle.regain_law.specs.Below.server_model.Clusters.{with_server, done_at, act_at, apply}
+use Rattle.regain_law.specs.Below.heap_law.Names.{tot}
+use Rattle.regain_law.specs.Below.heap_law.Things.{Thing, stands, server_things, servers_things, things_of}
+use Rattle.regain_law.specs.Below.heap_law.Coherent.{IsSound}
+use Rattle.regain_law.proofs.Below.heap_law.Sums.{tot-append}
+use Rattle.regain_law.specs.Below.event_law.Laws.{Gives, FewEvents}
+use Rattle.regain_law.proofs.Below.event_law.Applied.{handed_on}
+use Rattle.regain_law.proofs.Below.event_law.Bags.{all_standing, rest_things, server_same, thread_number, tot-set}
+use Rattle.regain_law.proofs.Below.event_law.Events.{tot-server}
+use Rattle.regain_law.proofs.Below.event_law.Results.{then_gives, over_gives, test_gives}
+use Rattle.regain_law.proofs.Below.event_law.Sending.{each_event_sends}
+use Rattle.regain_law.proofs.Below.local_law.Goes.{Goes, thread_goes}
+use Rattle.walk_law.proofs.Below.wait_law.Takers.{step_untaken}
 use Rattle.walk_law.proofs.Clusters.{goes_number}
 
 -- the thread that stepped is there, and has taken nothing

@@ -2,35 +2,35 @@
 use Rattle.std.proofs.Common.{◌≡◌, inl, inr, ⊎_elim, ℕ, zero, suc, ◌+◌, ◌≤◌, ◌==◌, ◌&&◌, not, Bool, true, false, List, [], ◌∷◌, ◌++◌, Option, Some, None, is_some, refl, sym, ap, subst, ◌∙◌, arith}
 use Rattle.std.specs.Prelude.{slice_get}
 use Rattle.std.proofs.lemmas.Bool.{eq-eqb, eqb-true}
-use Rattle.fr_base.specs.declared.name.ObjNo.{ObjNo}
-use Rattle.fr_base.specs.declared.place.Lval.{Lval}
-use Rattle.fr_base.specs.declared.instruction.Instr.{Instr}
-use Rattle.fr_base.specs.declared.instruction.Instr.TheVariants as instr
-use Rattle.thread_state.specs.View.{is_over}
-use Rattle.thread_state.specs.declared.phase.Phase.{Phase}
-use Rattle.thread_state.specs.declared.phase.Phase.TheVariants as phase
-use Rattle.server_model.specs.Servers.{Cluster}
-use Rattle.server_model.specs.Events.{is_ready}
-use Rattle.heap_law.specs.Names.{tot, one, other, some, if_so, Among}
-use Rattle.heap_law.specs.Things.{Location, at_slot, at_temp, in_cell, things_of}
-use Rattle.heap_law.specs.Follow.{Standing, Ground, threads_in, thread_at, place_at}
-use Rattle.heap_law.specs.Sight.{Pointer, Sight, sight, is_word, word, pointers_in, taken_object, taken_of, taken_pointers}
-use Rattle.heap_law.specs.Placing.{sum_over}
-use Rattle.heap_law.specs.Weights.{lies_at}
-use Rattle.heap_law.specs.Walking.{instr_of}
-use Rattle.heap_law.specs.Requests.{lent_place, lies_here, taken_there, taken_phase}
-use Rattle.heap_law.specs.Words.{HasWords, WordsLaw}
-use Rattle.heap_law.specs.Coherent.{Holds, taken_stands}
-use Rattle.heap_law.proofs.Names.{and_right}
-use Rattle.heap_law.proofs.Words.{none_at, words_law}
-use Rattle.path_law.specs.HeapStore.{GoesOn}
-use Rattle.path_law.proofs.Contained.{among_thread}
-use Rattle.path_law.proofs.Origins.{among_first, among_second}
-use Rattle.path_law.proofs.Sole.{some_is}
-use Rattle.path_law.specs.Pointing.{lends as lends_to}
-use Rattle.word_law.specs.Reworded.{HasPlaces}
-use Rattle.still_law.proofs.Told.{found}
-use Rattle.wait_law.specs.Places.{Follows, writes, LeadsAsItDid}
+use Rattle.regain_law.specs.Below.fr_base.declared.name.ObjNo.{ObjNo}
+use Rattle.regain_law.specs.Below.fr_base.declared.place.Lval.{Lval}
+use Rattle.regain_law.specs.Below.fr_base.declared.instruction.Instr.{Instr}
+use Rattle.regain_law.specs.Below.fr_base.declared.instruction.Instr.TheVariants as instr
+use Rattle.regain_law.specs.Below.thread_state.View.{is_over}
+use Rattle.regain_law.specs.Below.thread_state.declared.phase.Phase.{Phase}
+use Rattle.regain_law.specs.Below.thread_state.declared.phase.Phase.TheVariants as phase
+use Rattle.regain_law.specs.Below.server_model.Servers.{Cluster}
+use Rattle.regain_law.specs.Below.server_model.Events.{is_ready}
+use Rattle.regain_law.specs.Below.heap_law.Names.{tot, one, other, some, if_so, Among}
+use Rattle.regain_law.specs.Below.heap_law.Things.{Location, at_slot, at_temp, in_cell, things_of}
+use Rattle.regain_law.specs.Below.heap_law.Follow.{Standing, Ground, threads_in, thread_at, place_at}
+use Rattle.regain_law.specs.Below.heap_law.Sight.{Pointer, Sight, sight, is_word, word, pointers_in, taken_object, taken_of, taken_pointers}
+use Rattle.regain_law.specs.Below.heap_law.Placing.{sum_over}
+use Rattle.regain_law.specs.Below.heap_law.Weights.{lies_at}
+use Rattle.regain_law.specs.Below.heap_law.Walking.{instr_of}
+use Rattle.regain_law.specs.Below.heap_law.Requests.{lent_place, lies_here, taken_there, taken_phase}
+use Rattle.regain_law.specs.Below.heap_law.Words.{HasWords, WordsLaw}
+use Rattle.regain_law.specs.Below.heap_law.Coherent.{Holds, taken_stands}
+use Rattle.regain_law.proofs.Below.heap_law.Names.{and_right}
+use Rattle.regain_law.proofs.Below.heap_law.Words.{none_at, words_law}
+use Rattle.regain_law.specs.Below.path_law.HeapStore.{GoesOn}
+use Rattle.regain_law.proofs.Below.path_law.Contained.{among_thread}
+use Rattle.regain_law.proofs.Below.path_law.Origins.{among_first, among_second}
+use Rattle.regain_law.proofs.Below.path_law.Sole.{some_is}
+use Rattle.regain_law.specs.Below.path_law.Pointing.{lends as lends_to}
+use Rattle.regain_law.specs.Below.word_law.Reworded.{HasPlaces}
+use Rattle.regain_law.proofs.Below.still_law.Told.{found}
+use Rattle.walk_law.specs.Below.wait_law.Places.{Follows, writes, LeadsAsItDid}
 use Rattle.walk_law.proofs.New.{newly}
 use Rattle.taken_law.proofs.After.{Stays}
 

@@ -1,29 +1,29 @@
 -- Who stands after an event without having stood before has just started, whatever the event is: it is ready and has no gift.
 use Rattle.std.proofs.Common.{◌≡◌, ℕ, ◌+◌, not, Bool, true, false, Some, is_some, refl, ap, ◌∙◌}
-use Rattle.migration.specs.Packing.{packed}
-use Rattle.thread_state.specs.View.{ThreadState}
-use Rattle.thread_state.specs.declared.phase.Phase.TheVariants as phase
-use Rattle.journal.specs.View.{EntryView}
-use Rattle.server_model.specs.declared.event.Event.{Event}
-use Rattle.server_model.specs.Servers.{Server, Cluster, server_at}
-use Rattle.server_model.specs.Work.{Hand, thread_in}
-use Rattle.server_model.specs.Events.{Stepped, begin_work, received, step, is_ready}
-use Rattle.server_model.specs.Objects.{deliver_fetched, deliver_moved}
-use Rattle.server_model.specs.Clusters.{apply}
-use Rattle.heap_law.specs.Names.{tot, one, if_so}
-use Rattle.heap_law.specs.Things.{things_of}
-use Rattle.heap_law.specs.Follow.{Standing, threads_in, thread_at}
-use Rattle.heap_law.specs.Sight.{sight}
-use Rattle.heap_law.specs.Coherent.{IsSound}
-use Rattle.heap_law.proofs.Words.{none_all}
-use Rattle.event_law.specs.Laws.{Gives, FewEvents}
-use Rattle.event_law.proofs.Results.{weaker}
-use Rattle.event_law.proofs.Bags.{thread_number}
-use Rattle.event_law.proofs.ThreadThere.{thread_there}
-use Rattle.still_law.proofs.Told.{found}
-use Rattle.local_law.proofs.Goes.{Goes, IsGotten, thread_goes, moved_goes, fetched_goes}
-use Rattle.local_law.proofs.Handed.{Stood, InParcel}
-use Rattle.wait_law.proofs.Fates.{Fates, fated}
+use Rattle.regain_law.specs.Below.migration.Packing.{packed}
+use Rattle.regain_law.specs.Below.thread_state.View.{ThreadState}
+use Rattle.regain_law.specs.Below.thread_state.declared.phase.Phase.TheVariants as phase
+use Rattle.regain_law.specs.Below.journal.View.{EntryView}
+use Rattle.regain_law.specs.Below.server_model.declared.event.Event.{Event}
+use Rattle.regain_law.specs.Below.server_model.Servers.{Server, Cluster, server_at}
+use Rattle.regain_law.specs.Below.server_model.Work.{Hand, thread_in}
+use Rattle.regain_law.specs.Below.server_model.Events.{Stepped, begin_work, received, step, is_ready}
+use Rattle.regain_law.specs.Below.server_model.Objects.{deliver_fetched, deliver_moved}
+use Rattle.regain_law.specs.Below.server_model.Clusters.{apply}
+use Rattle.regain_law.specs.Below.heap_law.Names.{tot, one, if_so}
+use Rattle.regain_law.specs.Below.heap_law.Things.{things_of}
+use Rattle.regain_law.specs.Below.heap_law.Follow.{Standing, threads_in, thread_at}
+use Rattle.regain_law.specs.Below.heap_law.Sight.{sight}
+use Rattle.regain_law.specs.Below.heap_law.Coherent.{IsSound}
+use Rattle.regain_law.proofs.Below.heap_law.Words.{none_all}
+use Rattle.regain_law.specs.Below.event_law.Laws.{Gives, FewEvents}
+use Rattle.regain_law.proofs.Below.event_law.Results.{weaker}
+use Rattle.regain_law.proofs.Below.event_law.Bags.{thread_number}
+use Rattle.regain_law.proofs.Below.event_law.ThreadThere.{thread_there}
+use Rattle.regain_law.proofs.Below.still_law.Told.{found}
+use Rattle.regain_law.proofs.Below.local_law.Goes.{Goes, IsGotten, thread_goes, moved_goes, fetched_goes}
+use Rattle.regain_law.proofs.Below.local_law.Handed.{Stood, InParcel}
+use Rattle.walk_law.proofs.Below.wait_law.Fates.{Fates, fated}
 use Rattle.walk_law.proofs.Clusters.{goes_number}
 use Rattle.walk_law.proofs.New.{newly}
 

@@ -2,28 +2,28 @@
 use Rattle.std.proofs.Common.{◌≡◌, ℕ, zero, suc, ◌-◌, ◌<◌, true, false, Some, refl, sym, ap, subst, ◌∙◌, arith}
 use Rattle.std.specs.Prelude.{slice_get}
 use Rattle.std.proofs.lemmas.Bool.{eq-eqb}
-use Rattle.fr_base.specs.declared.place.Lval.{Lval}
-use Rattle.fr_base.specs.declared.instruction.Instr.TheVariants as instr
-use Rattle.heap_partition.specs.declared.value.Cell.{Cell}
-use Rattle.thread_state.specs.View.{ThreadState}
-use Rattle.thread_state.specs.declared.phase.Phase.TheVariants as phase
-use Rattle.thread_state.specs.declared.value.Value.TheVariants as value
-use Rattle.server_msgs.specs.declared.message.Message.TheVariants.{Moved}
-use Rattle.server_model.specs.Servers.{Server, Cluster, server_at}
-use Rattle.server_model.specs.Work.{thread_in}
-use Rattle.server_model.specs.NewWords.{can_grow}
-use Rattle.server_model.specs.Objects.{chased, waits_under}
-use Rattle.heap_law.specs.Things.{in_cell}
-use Rattle.heap_law.specs.Follow.{Standing, Ground, place_at, value_behind, leads, locate}
-use Rattle.heap_law.specs.Paths.{Path, lends, path_of, Awaited, to_write}
-use Rattle.heap_law.specs.Sight.{sight}
-use Rattle.heap_law.specs.Turn.{InTurn, by_lend, AwaitsAt, before_lend, at_lend, IsAsked}
-use Rattle.heap_law.specs.Walking.{path}
-use Rattle.heap_law.proofs.Passing.{paths_law}
-use Rattle.type_law.specs.ClusterTypes.{IsCoherent}
-use Rattle.event_law.specs.Laws.{FewEvents}
-use Rattle.read_law.specs.Reading.{Reads, lends as lends_from}
-use Rattle.arrive_law.specs.Awaited.{Awaits}
+use Rattle.regain_law.specs.Below.fr_base.declared.place.Lval.{Lval}
+use Rattle.regain_law.specs.Below.fr_base.declared.instruction.Instr.TheVariants as instr
+use Rattle.regain_law.specs.Below.heap_partition.declared.value.Cell.{Cell}
+use Rattle.regain_law.specs.Below.thread_state.View.{ThreadState}
+use Rattle.regain_law.specs.Below.thread_state.declared.phase.Phase.TheVariants as phase
+use Rattle.regain_law.specs.Below.thread_state.declared.value.Value.TheVariants as value
+use Rattle.regain_law.specs.Below.server_msgs.declared.message.Message.TheVariants.{Moved}
+use Rattle.regain_law.specs.Below.server_model.Servers.{Server, Cluster, server_at}
+use Rattle.regain_law.specs.Below.server_model.Work.{thread_in}
+use Rattle.regain_law.specs.Below.server_model.NewWords.{can_grow}
+use Rattle.regain_law.specs.Below.server_model.Objects.{chased, waits_under}
+use Rattle.regain_law.specs.Below.heap_law.Things.{in_cell}
+use Rattle.regain_law.specs.Below.heap_law.Follow.{Standing, Ground, place_at, value_behind, leads, locate}
+use Rattle.regain_law.specs.Below.heap_law.Paths.{Path, lends, path_of, Awaited, to_write}
+use Rattle.regain_law.specs.Below.heap_law.Sight.{sight}
+use Rattle.regain_law.specs.Below.heap_law.Turn.{InTurn, by_lend, AwaitsAt, before_lend, at_lend, IsAsked}
+use Rattle.regain_law.specs.Below.heap_law.Walking.{path}
+use Rattle.regain_law.proofs.Below.heap_law.Passing.{paths_law}
+use Rattle.regain_law.specs.Below.type_law.ClusterTypes.{IsCoherent}
+use Rattle.regain_law.specs.Below.event_law.Laws.{FewEvents}
+use Rattle.regain_law.specs.Below.read_law.Reading.{Reads, lends as lends_from}
+use Rattle.regain_law.specs.Below.arrive_law.Awaited.{Awaits}
 use Rattle.regain_law.proofs.Below.await_law.Behind.{IsPointer, pointed}
 use Rattle.regain_law.proofs.Below.await_law.ReadArrivals.{read_spent, SpentHop, aw, m as slot_number, there, found_at}
 

@@ -1,24 +1,24 @@
 -- What holds after each event, by what the event is: a step, one in which no object comes or goes and no pointer gets another word, or the delivery of a `move`, a `moved` or a `drop`.
 use Rattle.std.proofs.Common.{◌≡◌, ℕ, Option, Some, None, option_map, refl, sym, ap, subst, ◌∙◌}
 use Rattle.std.specs.Prelude.{slice_get}
-use Rattle.fr_base.specs.declared.name.ObjNo.{ObjNo}
-use Rattle.heap_partition.specs.declared.value.Cell.{Cell}
-use Rattle.journal.specs.View.{EntryView}
-use Rattle.server_msgs.specs.declared.message.Message.{Message}
-use Rattle.server_msgs.specs.declared.message.Message.TheVariants as message
-use Rattle.server_model.specs.declared.event.Event.{Event}
-use Rattle.server_model.specs.declared.event.What.{What}
-use Rattle.server_model.specs.declared.event.What.TheVariants.{Step, Deliver, Evict, Migrate}
-use Rattle.server_model.specs.Servers.{Server, Cluster, server_at}
-use Rattle.server_model.specs.Work.{then_some}
-use Rattle.server_model.specs.Clusters.{done_at, apply}
-use Rattle.server_model.specs.Events.{enabled, left_by, received, deliver_message, does}
-use Rattle.event_law.specs.Kinds.{Kind, fetch, fetched, asks_lock, granted, unlocked, asks_dup, dupped, released, starts, asks_join, joined, finished, arrives, evicts, migrates, message_kind, kind_at}
-use Rattle.event_law.specs.Laws.{Gives}
-use Rattle.event_law.proofs.Results.{then_gives, over_gives, test_gives}
-use Rattle.word_law.specs.Unmoved.{Delivers}
-use Rattle.stay_law.specs.Laws.{IsOfKind}
-use Rattle.wait_law.specs.Steady.{IsSteady}
+use Rattle.regain_law.specs.Below.fr_base.declared.name.ObjNo.{ObjNo}
+use Rattle.regain_law.specs.Below.heap_partition.declared.value.Cell.{Cell}
+use Rattle.regain_law.specs.Below.journal.View.{EntryView}
+use Rattle.regain_law.specs.Below.server_msgs.declared.message.Message.{Message}
+use Rattle.regain_law.specs.Below.server_msgs.declared.message.Message.TheVariants as message
+use Rattle.regain_law.specs.Below.server_model.declared.event.Event.{Event}
+use Rattle.regain_law.specs.Below.server_model.declared.event.What.{What}
+use Rattle.regain_law.specs.Below.server_model.declared.event.What.TheVariants.{Step, Deliver, Evict, Migrate}
+use Rattle.regain_law.specs.Below.server_model.Servers.{Server, Cluster, server_at}
+use Rattle.regain_law.specs.Below.server_model.Work.{then_some}
+use Rattle.regain_law.specs.Below.server_model.Clusters.{done_at, apply}
+use Rattle.regain_law.specs.Below.server_model.Events.{enabled, left_by, received, deliver_message, does}
+use Rattle.regain_law.specs.Below.event_law.Kinds.{Kind, fetch, fetched, asks_lock, granted, unlocked, asks_dup, dupped, released, starts, asks_join, joined, finished, arrives, evicts, migrates, message_kind, kind_at}
+use Rattle.regain_law.specs.Below.event_law.Laws.{Gives}
+use Rattle.regain_law.proofs.Below.event_law.Results.{then_gives, over_gives, test_gives}
+use Rattle.regain_law.specs.Below.word_law.Unmoved.{Delivers}
+use Rattle.regain_law.specs.Below.stay_law.Laws.{IsOfKind}
+use Rattle.walk_law.specs.Below.wait_law.Steady.{IsSteady}
 
 -- what each event is to leave
 pub record Ways (k : Cluster) (Q : Cluster → Type 0) : Type 0 where

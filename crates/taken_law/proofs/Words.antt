@@ -1,22 +1,22 @@
 -- Words of pointers that stand where places lead were issued.
 use Rattle.std.proofs.Common.{◌≡◌, inl, ℕ, ◌+◌, Bool, true, false, Option, Some, None, refl, sym, subst, ◌∙◌, arith}
 use Rattle.std.proofs.lemmas.Bool.{eqb-true}
-use Rattle.fr_base.specs.declared.name.ObjNo.{ObjNo}
-use Rattle.heap_partition.specs.declared.value.Cell.{Cell}
-use Rattle.heap_partition.specs.declared.value.Owned.{Owned}
-use Rattle.heap_partition.specs.declared.value.Owned.TheVariants as owned
-use Rattle.thread_state.specs.declared.value.Value.{Value}
-use Rattle.thread_state.specs.declared.value.Value.TheVariants as value
-use Rattle.server_model.specs.Servers.{Cluster}
-use Rattle.heap_law.specs.Names.{other, Among}
-use Rattle.heap_law.specs.Things.{in_slot, at_slot, Thing, holds, shares, borrows, lies, flies, things_of}
-use Rattle.heap_law.specs.Follow.{cell_of, value_in}
-use Rattle.heap_law.specs.Sight.{sight, issued}
-use Rattle.heap_law.specs.Placing.{words}
-use Rattle.heap_law.specs.Requests.{has_word}
-use Rattle.heap_law.specs.Coherent.{Holds, are_issued}
-use Rattle.heap_law.proofs.Words.{none_at}
-use Rattle.word_law.proofs.Standing.{CellOf, lying, flying, cell_among, slot_among}
+use Rattle.regain_law.specs.Below.fr_base.declared.name.ObjNo.{ObjNo}
+use Rattle.regain_law.specs.Below.heap_partition.declared.value.Cell.{Cell}
+use Rattle.regain_law.specs.Below.heap_partition.declared.value.Owned.{Owned}
+use Rattle.regain_law.specs.Below.heap_partition.declared.value.Owned.TheVariants as owned
+use Rattle.regain_law.specs.Below.thread_state.declared.value.Value.{Value}
+use Rattle.regain_law.specs.Below.thread_state.declared.value.Value.TheVariants as value
+use Rattle.regain_law.specs.Below.server_model.Servers.{Cluster}
+use Rattle.regain_law.specs.Below.heap_law.Names.{other, Among}
+use Rattle.regain_law.specs.Below.heap_law.Things.{in_slot, at_slot, Thing, holds, shares, borrows, lies, flies, things_of}
+use Rattle.regain_law.specs.Below.heap_law.Follow.{cell_of, value_in}
+use Rattle.regain_law.specs.Below.heap_law.Sight.{sight, issued}
+use Rattle.regain_law.specs.Below.heap_law.Placing.{words}
+use Rattle.regain_law.specs.Below.heap_law.Requests.{has_word}
+use Rattle.regain_law.specs.Below.heap_law.Coherent.{Holds, are_issued}
+use Rattle.regain_law.proofs.Below.heap_law.Words.{none_at}
+use Rattle.regain_law.proofs.Below.word_law.Standing.{CellOf, lying, flying, cell_among, slot_among}
 
 pub other_none : (b : Bool) → other b ≡ 0 → b ≡ true
 other_none true e = refl
@@ -66,7 +66,7 @@ module _ (k : Cluster) (all : Holds k are_issued) where
   in_a_slot t i w (value.MutSlot j) e h = absurd (cc h)
   in_a_slot t i w (value.Held m) e h = absurd (cc h)
 
-  boxed : (v : Owned) (w : ℕ) → has_word w (Some (value.Own v)) ≡ true → Rattle.heap_law.specs.Placing.owned_word strange v ≡ 0 → issued (sight k) w ≡ true
+  boxed : (v : Owned) (w : ℕ) → has_word w (Some (value.Own v)) ≡ true → Rattle.regain_law.specs.Below.heap_law.Placing.owned_word strange v ≡ 0 → issued (sight k) w ≡ true
   boxed (owned.Box p) w h z = subst (λ u. issued (sight k) u ≡ true) (eqb-true p.word w h) (other_none (issued (sight k) p.word) z)
   boxed owned.Nothing w h z = absurd (cc h)
   boxed owned.Unit w h z = absurd (cc h)

@@ -1,7 +1,7 @@
 //! What each event keeps of objects that threads have taken.
 
-ghost use Rattle.heap_law.specs.Coherent.{taken_is_new, taken_stands};
-ghost use Rattle.local_law.specs.Laws.{EachCoherentEventKeeps};
+ghost use Rattle.regain_law.specs.Below.heap_law.Coherent.{taken_is_new, taken_stands};
+ghost use Rattle.regain_law.specs.Below.local_law.Laws.{EachCoherentEventKeeps};
 
 /// What a thread has taken for a mutable borrow is the word of the object to which its place leads, which lies there, and the pointer that the place follows last has another one,
 /// after each event from a coherent cluster. Only an object that comes is taken, under a word that wasn't issued; while a thread has it, its place leads where it led, its

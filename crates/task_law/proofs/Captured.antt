@@ -1,23 +1,23 @@
 -- What a new thread captures, at the server and on the plain machine: the same values, in the same order, and what is left owns the rest.
 use Rattle.std.proofs.Common.{◌≡◌, ℕ, ◌+◌, Bool, true, false, if◌then◌else◌, List, [], ◌∷◌, ◌++◌, Option, Some, None, option_map, refl, sym, ap, ap₂, ◌∙◌, arith}
 use Rattle.std.specs.Prelude.{slice_get}
-use Rattle.fr_plain.specs.declared.value.Value.{Value as PlainValue}
-use Rattle.fr_plain.specs.State.{slot_at}
-use Rattle.fr_plain.specs.MachineThreads.{Passed, pass, then_passed, left_after as left_there}
-use Rattle.fr_code.specs.Steps.{captured as captures_of}
-use Rattle.thread_state.specs.declared.value.Value.{Value}
-use Rattle.thread_state.specs.declared.value.Value.TheVariants as value
-use Rattle.server_model.specs.Places.{second_of}
-use Rattle.server_model.specs.Work.{then_some}
-use Rattle.server_model.specs.Start.{captured, left_after, capture_from}
-use Rattle.heap_law.specs.Names.{one}
-use Rattle.heap_law.specs.OneHeap.{Node, plain_value}
-use Rattle.event_law.specs.Laws.{Gives}
-use Rattle.event_law.proofs.Results.{then_gives, weaker}
-use Rattle.path_law.proofs.Shown.{shown_value}
-use Rattle.turn_law.proofs.Parts.{value_owns, owned_in}
-use Rattle.turn_law.proofs.Instructions.{shown_last, shown_push, owned_push}
-use Rattle.turn_law.proofs.SlotReads.{set_shown, taken_owned, Second, second}
+use Rattle.lock_law.specs.Below.fr_plain.declared.value.Value.{Value as PlainValue}
+use Rattle.lock_law.specs.Below.fr_plain.State.{slot_at}
+use Rattle.lock_law.specs.Below.fr_plain.MachineThreads.{Passed, pass, then_passed, left_after as left_there}
+use Rattle.lock_law.specs.Below.fr_code.Steps.{captured as captures_of}
+use Rattle.lock_law.specs.Below.thread_state.declared.value.Value.{Value}
+use Rattle.lock_law.specs.Below.thread_state.declared.value.Value.TheVariants as value
+use Rattle.lock_law.specs.Below.server_model.Places.{second_of}
+use Rattle.lock_law.specs.Below.server_model.Work.{then_some}
+use Rattle.lock_law.specs.Below.server_model.Start.{captured, left_after, capture_from}
+use Rattle.lock_law.specs.Below.heap_law.Names.{one}
+use Rattle.lock_law.specs.Below.heap_law.OneHeap.{Node, plain_value}
+use Rattle.lock_law.specs.Below.event_law.Laws.{Gives}
+use Rattle.lock_law.proofs.Below.event_law.Results.{then_gives, weaker}
+use Rattle.lock_law.proofs.Below.path_law.Shown.{shown_value}
+use Rattle.lock_law.proofs.Below.turn_law.Parts.{value_owns, owned_in}
+use Rattle.lock_law.proofs.Below.turn_law.Instructions.{shown_last, shown_push, owned_push}
+use Rattle.lock_law.proofs.Below.turn_law.SlotReads.{set_shown, taken_owned, Second, second}
 
 -- one captured value: it shows the same, and owns the same where it is moved, else nothing
 pub record One (take : Bool) (v u : Value) : Type 0 where

@@ -1,55 +1,55 @@
 -- The end of a thread, at the server and on the plain machine.
 use Rattle.std.proofs.Common.{◌≡◌, ◌≢◌, ◌⊎◌, inl, inr, ℕ, ◌==◌, Bool, true, false, List, [], ◌∷◌, length, Option, Some, None, option_map, refl, sym, ap, subst, ◌∙◌, arith}
-use Rattle.fr_typing.proofs.PlaceLemmas.{eq_cases}
-use Rattle.fr_base.specs.Lists.{last_of}
-use Rattle.fr_base.specs.declared.label.Label.TheVariants as label
-use Rattle.fr_base.specs.declared.step.Fresh.TheVariants as fresh
-use Rattle.fr_base.specs.declared.instruction.Operand.{Operand}
-use Rattle.fr_base.specs.declared.instruction.Operand.TheVariants as operand
-use Rattle.fr_base.specs.declared.instruction.Instr.{Instr}
-use Rattle.fr_base.specs.declared.instruction.Instr.TheVariants as instr
-use Rattle.fr_plain.specs.declared.value.Value.{Value as PlainValue}
-use Rattle.fr_plain.specs.declared.value.Value.TheVariants as plain_v
-use Rattle.fr_plain.specs.MachineThreads.{Move, on_value}
-use Rattle.fr_plain.specs.PlainState.{SameState, plain_state}
-use Rattle.fr_code.specs.Machine.{CodeLife, CodeWhole}
-use Rattle.fr_code.specs.Steps.{Place, CodeMove, over_at, end_value, with_operand}
-use Rattle.fr_plain.specs.MachineActs.{do_let}
-use Rattle.heap_partition.specs.Plain.{plain_of}
-use Rattle.heap_partition.specs.declared.value.Owned.{Owned}
-use Rattle.heap_partition.specs.declared.value.Owned.TheVariants as owned
-use Rattle.read_cache.specs.Cache.{Copy}
-use Rattle.migration.specs.Packing.{unpin_all}
-use Rattle.thread_state.specs.View.{ThreadState}
-use Rattle.thread_state.specs.declared.phase.Phase.TheVariants as phase
-use Rattle.thread_state.specs.declared.value.Value.{Value}
-use Rattle.thread_state.specs.declared.value.Value.TheVariants as value
-use Rattle.journal.specs.declared.act.Act.TheVariants as act
-use Rattle.server_msgs.specs.declared.message.Message.TheVariants as message
-use Rattle.server_model.specs.declared.event.Event.{Event}
-use Rattle.server_model.specs.Servers.{Server, Cluster}
-use Rattle.server_model.specs.Work.{Hand, Work, Popped, send, note, label_all, working, with_phase, front_of, with_temps, with_cache, pop_owned, taken_as, owned_of, then_some}
-use Rattle.server_model.specs.Places.{owns_nothing}
-use Rattle.server_model.specs.Drop.{give_up, drop_labels}
-use Rattle.server_model.specs.Commit.{done_where, label_dropped, end_with}
-use Rattle.server_model.specs.Events.{Stepped, stepped, begin_work, committed, step}
-use Rattle.server_model.specs.Clusters.{hand_over_newer}
-use Rattle.heap_law.specs.Names.{one, if_so}
-use Rattle.heap_law.specs.Things.{Thing, holds, as_result}
-use Rattle.heap_law.specs.Sight.{Sight, sight}
-use Rattle.heap_law.specs.OneHeap.{Node, task_n, mutex_n, inside, owns, named_in, is_in_state, running_at, one_heap, state_of}
-use Rattle.heap_law.specs.Coherent.{IsSound}
-use Rattle.event_law.specs.Laws.{Gives}
-use Rattle.event_law.proofs.Bags.{counts_of, rest_things}
-use Rattle.event_law.proofs.Results.{both_give}
-use Rattle.still_law.proofs.Readied.{copies_ready}
-use Rattle.still_law.proofs.Sites.{shown, Moves, sends}
-use Rattle.turn_law.specs.Turns.{StepsTo, IsPlainStep, none_goes}
-use Rattle.turn_law.proofs.OneTurn.{as_owing}
-use Rattle.turn_law.proofs.Instructions.{shown_last, Pops, PopsTo}
-use Rattle.turn_law.proofs.DropLines.{keeps_all, lets_shown, lets_unowned}
-use Rattle.turn_law.proofs.Clauses.{same_thread}
-use Rattle.turn_law.proofs.Events.{AtStep, Sends, events_are, then_same}
+use Rattle.lock_law.proofs.Below.fr_typing.PlaceLemmas.{eq_cases}
+use Rattle.lock_law.specs.Below.fr_base.Lists.{last_of}
+use Rattle.lock_law.specs.Below.fr_base.declared.label.Label.TheVariants as label
+use Rattle.lock_law.specs.Below.fr_base.declared.step.Fresh.TheVariants as fresh
+use Rattle.lock_law.specs.Below.fr_base.declared.instruction.Operand.{Operand}
+use Rattle.lock_law.specs.Below.fr_base.declared.instruction.Operand.TheVariants as operand
+use Rattle.lock_law.specs.Below.fr_base.declared.instruction.Instr.{Instr}
+use Rattle.lock_law.specs.Below.fr_base.declared.instruction.Instr.TheVariants as instr
+use Rattle.lock_law.specs.Below.fr_plain.declared.value.Value.{Value as PlainValue}
+use Rattle.lock_law.specs.Below.fr_plain.declared.value.Value.TheVariants as plain_v
+use Rattle.lock_law.specs.Below.fr_plain.MachineThreads.{Move, on_value}
+use Rattle.lock_law.specs.Below.fr_plain.PlainState.{SameState, plain_state}
+use Rattle.lock_law.specs.Below.fr_code.Machine.{CodeLife, CodeWhole}
+use Rattle.lock_law.specs.Below.fr_code.Steps.{Place, CodeMove, over_at, end_value, with_operand}
+use Rattle.lock_law.specs.Below.fr_plain.MachineActs.{do_let}
+use Rattle.lock_law.specs.Below.heap_partition.Plain.{plain_of}
+use Rattle.lock_law.specs.Below.heap_partition.declared.value.Owned.{Owned}
+use Rattle.lock_law.specs.Below.heap_partition.declared.value.Owned.TheVariants as owned
+use Rattle.lock_law.specs.Below.read_cache.Cache.{Copy}
+use Rattle.lock_law.specs.Below.migration.Packing.{unpin_all}
+use Rattle.lock_law.specs.Below.thread_state.View.{ThreadState}
+use Rattle.lock_law.specs.Below.thread_state.declared.phase.Phase.TheVariants as phase
+use Rattle.lock_law.specs.Below.thread_state.declared.value.Value.{Value}
+use Rattle.lock_law.specs.Below.thread_state.declared.value.Value.TheVariants as value
+use Rattle.lock_law.specs.Below.journal.declared.act.Act.TheVariants as act
+use Rattle.lock_law.specs.Below.server_msgs.declared.message.Message.TheVariants as message
+use Rattle.lock_law.specs.Below.server_model.declared.event.Event.{Event}
+use Rattle.lock_law.specs.Below.server_model.Servers.{Server, Cluster}
+use Rattle.lock_law.specs.Below.server_model.Work.{Hand, Work, Popped, send, note, label_all, working, with_phase, front_of, with_temps, with_cache, pop_owned, taken_as, owned_of, then_some}
+use Rattle.lock_law.specs.Below.server_model.Places.{owns_nothing}
+use Rattle.lock_law.specs.Below.server_model.Drop.{give_up, drop_labels}
+use Rattle.lock_law.specs.Below.server_model.Commit.{done_where, label_dropped, end_with}
+use Rattle.lock_law.specs.Below.server_model.Events.{Stepped, stepped, begin_work, committed, step}
+use Rattle.lock_law.specs.Below.server_model.Clusters.{hand_over_newer}
+use Rattle.lock_law.specs.Below.heap_law.Names.{one, if_so}
+use Rattle.lock_law.specs.Below.heap_law.Things.{Thing, holds, as_result}
+use Rattle.lock_law.specs.Below.heap_law.Sight.{Sight, sight}
+use Rattle.lock_law.specs.Below.heap_law.OneHeap.{Node, task_n, mutex_n, inside, owns, named_in, is_in_state, running_at, one_heap, state_of}
+use Rattle.lock_law.specs.Below.heap_law.Coherent.{IsSound}
+use Rattle.lock_law.specs.Below.event_law.Laws.{Gives}
+use Rattle.lock_law.proofs.Below.event_law.Bags.{counts_of, rest_things}
+use Rattle.lock_law.proofs.Below.event_law.Results.{both_give}
+use Rattle.lock_law.proofs.Below.still_law.Readied.{copies_ready}
+use Rattle.lock_law.proofs.Below.still_law.Sites.{shown, Moves, sends}
+use Rattle.lock_law.specs.Below.turn_law.Turns.{StepsTo, IsPlainStep, none_goes}
+use Rattle.lock_law.proofs.Below.turn_law.OneTurn.{as_owing}
+use Rattle.lock_law.proofs.Below.turn_law.Instructions.{shown_last, Pops, PopsTo}
+use Rattle.lock_law.proofs.Below.turn_law.DropLines.{keeps_all, lets_shown, lets_unowned}
+use Rattle.lock_law.proofs.Below.turn_law.Clauses.{same_thread}
+use Rattle.lock_law.proofs.Below.turn_law.Events.{AtStep, Sends, events_are, then_same}
 use Rattle.lock_law.proofs.Beside.{so_one}
 use Rattle.lock_law.proofs.Changed as changed
 use Rattle.lock_law.proofs.Gifted.{or_false}

@@ -1,39 +1,39 @@
 -- A join whose answer came, at the server and on the plain machine.
 use Rattle.std.proofs.Common.{◌≡◌, ℕ, ◌+◌, ◌==◌, true, List, [], ◌∷◌, ◌++◌, Option, Some, None, option_map, refl, sym, ap, subst, ◌∙◌}
-use Rattle.fr_base.specs.Lists.{last_of}
-use Rattle.fr_base.specs.declared.step.Fresh.{Fresh}
-use Rattle.fr_base.specs.declared.step.Fresh.TheVariants as fresh
-use Rattle.fr_base.specs.declared.instruction.Operand.{Operand}
-use Rattle.fr_base.specs.declared.instruction.Operand.TheVariants as operand
-use Rattle.fr_base.specs.declared.instruction.Instr.{Instr}
-use Rattle.fr_base.specs.declared.instruction.Instr.TheVariants as instr
-use Rattle.fr_plain.specs.declared.value.Value.{Value as PlainValue}
-use Rattle.fr_plain.specs.declared.value.Value.TheVariants as plain_v
-use Rattle.fr_plain.specs.MachineActs.{do_join}
-use Rattle.fr_plain.specs.PlainState.{SameState, plain_state}
-use Rattle.fr_code.specs.Machine.{CodeWhole}
-use Rattle.fr_code.specs.Steps.{Place, over_at, run_instr, loud}
-use Rattle.heap_partition.specs.Plain.{plain_of}
-use Rattle.heap_partition.specs.declared.value.Owned.{Owned}
-use Rattle.heap_partition.specs.declared.value.Owned.TheVariants as owned
-use Rattle.thread_state.specs.View.{ThreadState}
-use Rattle.thread_state.specs.declared.value.Value.{Value}
-use Rattle.thread_state.specs.declared.value.Value.TheVariants as value
-use Rattle.server_model.specs.declared.event.Event.{Event}
-use Rattle.server_model.specs.Servers.{Server, Cluster}
-use Rattle.server_model.specs.Work.{Hand, Popped, front_of, with_temps, push_temp, pop, taken_as, task_of, then_some}
-use Rattle.server_model.specs.Commit.{waiting, take_gift, ask_join, join}
-use Rattle.server_model.specs.Events.{Stepped, begin_work, committed, step}
-use Rattle.server_model.specs.Clusters.{apply}
-use Rattle.heap_law.specs.Paths.{popped as popped_value, task_in, joined_thread}
-use Rattle.heap_law.specs.OneHeap.{running_at, pair_of, one_heap, state_of}
-use Rattle.heap_law.specs.Coherent.{IsSound}
-use Rattle.event_law.specs.Laws.{Gives}
-use Rattle.event_law.proofs.Results.{bind_gives, both_give, over_gives}
-use Rattle.still_law.proofs.Readied.{same_rest, same_ready}
-use Rattle.turn_law.specs.Turns.{StepsTo, IsPlainStep, instr_of, ArePlainSteps}
-use Rattle.turn_law.proofs.Instructions.{shown_last, shown_push, Pops, PopsTo, itself as same_value, popped}
-use Rattle.turn_law.proofs.Events.{AtStep, then_same}
+use Rattle.lock_law.specs.Below.fr_base.Lists.{last_of}
+use Rattle.lock_law.specs.Below.fr_base.declared.step.Fresh.{Fresh}
+use Rattle.lock_law.specs.Below.fr_base.declared.step.Fresh.TheVariants as fresh
+use Rattle.lock_law.specs.Below.fr_base.declared.instruction.Operand.{Operand}
+use Rattle.lock_law.specs.Below.fr_base.declared.instruction.Operand.TheVariants as operand
+use Rattle.lock_law.specs.Below.fr_base.declared.instruction.Instr.{Instr}
+use Rattle.lock_law.specs.Below.fr_base.declared.instruction.Instr.TheVariants as instr
+use Rattle.lock_law.specs.Below.fr_plain.declared.value.Value.{Value as PlainValue}
+use Rattle.lock_law.specs.Below.fr_plain.declared.value.Value.TheVariants as plain_v
+use Rattle.lock_law.specs.Below.fr_plain.MachineActs.{do_join}
+use Rattle.lock_law.specs.Below.fr_plain.PlainState.{SameState, plain_state}
+use Rattle.lock_law.specs.Below.fr_code.Machine.{CodeWhole}
+use Rattle.lock_law.specs.Below.fr_code.Steps.{Place, over_at, run_instr, loud}
+use Rattle.lock_law.specs.Below.heap_partition.Plain.{plain_of}
+use Rattle.lock_law.specs.Below.heap_partition.declared.value.Owned.{Owned}
+use Rattle.lock_law.specs.Below.heap_partition.declared.value.Owned.TheVariants as owned
+use Rattle.lock_law.specs.Below.thread_state.View.{ThreadState}
+use Rattle.lock_law.specs.Below.thread_state.declared.value.Value.{Value}
+use Rattle.lock_law.specs.Below.thread_state.declared.value.Value.TheVariants as value
+use Rattle.lock_law.specs.Below.server_model.declared.event.Event.{Event}
+use Rattle.lock_law.specs.Below.server_model.Servers.{Server, Cluster}
+use Rattle.lock_law.specs.Below.server_model.Work.{Hand, Popped, front_of, with_temps, push_temp, pop, taken_as, task_of, then_some}
+use Rattle.lock_law.specs.Below.server_model.Commit.{waiting, take_gift, ask_join, join}
+use Rattle.lock_law.specs.Below.server_model.Events.{Stepped, begin_work, committed, step}
+use Rattle.lock_law.specs.Below.server_model.Clusters.{apply}
+use Rattle.lock_law.specs.Below.heap_law.Paths.{popped as popped_value, task_in, joined_thread}
+use Rattle.lock_law.specs.Below.heap_law.OneHeap.{running_at, pair_of, one_heap, state_of}
+use Rattle.lock_law.specs.Below.heap_law.Coherent.{IsSound}
+use Rattle.lock_law.specs.Below.event_law.Laws.{Gives}
+use Rattle.lock_law.proofs.Below.event_law.Results.{bind_gives, both_give, over_gives}
+use Rattle.lock_law.proofs.Below.still_law.Readied.{same_rest, same_ready}
+use Rattle.lock_law.specs.Below.turn_law.Turns.{StepsTo, IsPlainStep, instr_of, ArePlainSteps}
+use Rattle.lock_law.proofs.Below.turn_law.Instructions.{shown_last, shown_push, Pops, PopsTo, itself as same_value, popped}
+use Rattle.lock_law.proofs.Below.turn_law.Events.{AtStep, then_same}
 use Rattle.lock_law.proofs.Beside.{itself}
 use Rattle.lock_law.proofs.DupLines.{running_to}
 use Rattle.lock_law.proofs.Changed as changed

@@ -2,38 +2,38 @@
 use Rattle.std.proofs.Common.{◌≡◌, ℕ, zero, suc, ◌+◌, ◌≤◌, ◌==◌, ◌||◌, Bool, true, false, List, [], ◌∷◌, ◌++◌, Option, Some, None, is_some, refl, sym, ap, ap₂, ◌∙◌, subst, arith}
 use Rattle.std.specs.List.{AllByRecursion}
 use Rattle.std.proofs.lemmas.Bool.{eqb-true}
-use Rattle.fr_typing.proofs.PlaceLemmas.{eq_cases}
-use Rattle.fr_base.specs.declared.label.Plain.TheVariants as plain
-use Rattle.fr_base.specs.declared.instruction.Operand.{Operand}
-use Rattle.fr_base.specs.declared.instruction.Instr.{Instr}
-use Rattle.fr_base.specs.declared.instruction.Instr.TheVariants as instr
-use Rattle.heap_partition.specs.Plain.{plain_of}
-use Rattle.heap_partition.specs.declared.value.Owned.{Owned}
-use Rattle.heap_partition.specs.declared.value.Owned.TheVariants as owned
-use Rattle.fr_base.specs.declared.name.MutexNo.{MutexNo}
-use Rattle.thread_state.specs.View.{ThreadState}
-use Rattle.thread_state.specs.declared.value.Value.{Value}
-use Rattle.thread_state.specs.declared.value.Value.TheVariants as value
-use Rattle.server_model.specs.declared.event.Event.{Event}
-use Rattle.server_model.specs.Servers.{Server, Cluster}
-use Rattle.heap_law.specs.Names.{tot, one, other, some, if_so}
-use Rattle.heap_law.specs.Things.{in_slot, in_temp, as_gift, as_content, as_result, in_hand, Thing, holds, lies, flies, stands, things_of}
-use Rattle.heap_law.specs.Follow.{Standing, thread_at}
-use Rattle.heap_law.specs.Sight.{Sight, sight}
-use Rattle.heap_law.specs.Paths.{joined_thread}
-use Rattle.heap_law.specs.Walking.{instr_of}
-use Rattle.heap_law.specs.Requests.{is_task, locked_mutex}
-use Rattle.heap_law.specs.Naming.{threads, uncounted_thread, zeroth_thread, named_mutexes, uncounted_mutex, zeroth_mutex}
-use Rattle.heap_law.specs.OneHeap.{Node, object_n, mutex_n, task_n, Owner, inside, content_owner, result_owner, gift_owner, gift_owner_of, spot_owner, owner_of, owns, names, owner_in, named_in, any_named, is_in_state, is_branch, if_in, or_else, first_shown, share_in, branch_result, is_joined_by, result_value, result_of, running_at, is_given_thread, state_of}
-use Rattle.heap_law.specs.Coherent.{IsSound}
-use Rattle.event_law.proofs.Bags.{had_by}
-use Rattle.still_law.proofs.Alike.{Once}
-use Rattle.still_law.proofs.Counting.{shown_result, gifted, stray}
-use Rattle.still_law.proofs.Told.{told, ones}
-use Rattle.turn_law.proofs.Parts.{Own, owned_in, own_named}
-use Rattle.turn_law.proofs.OneTurn.{Calm}
-use Rattle.turn_law.proofs.Instructions.{Pops, owned_push}
-use Rattle.turn_law.proofs.Events.{AtStep}
+use Rattle.lock_law.proofs.Below.fr_typing.PlaceLemmas.{eq_cases}
+use Rattle.lock_law.specs.Below.fr_base.declared.label.Plain.TheVariants as plain
+use Rattle.lock_law.specs.Below.fr_base.declared.instruction.Operand.{Operand}
+use Rattle.lock_law.specs.Below.fr_base.declared.instruction.Instr.{Instr}
+use Rattle.lock_law.specs.Below.fr_base.declared.instruction.Instr.TheVariants as instr
+use Rattle.lock_law.specs.Below.heap_partition.Plain.{plain_of}
+use Rattle.lock_law.specs.Below.heap_partition.declared.value.Owned.{Owned}
+use Rattle.lock_law.specs.Below.heap_partition.declared.value.Owned.TheVariants as owned
+use Rattle.lock_law.specs.Below.fr_base.declared.name.MutexNo.{MutexNo}
+use Rattle.lock_law.specs.Below.thread_state.View.{ThreadState}
+use Rattle.lock_law.specs.Below.thread_state.declared.value.Value.{Value}
+use Rattle.lock_law.specs.Below.thread_state.declared.value.Value.TheVariants as value
+use Rattle.lock_law.specs.Below.server_model.declared.event.Event.{Event}
+use Rattle.lock_law.specs.Below.server_model.Servers.{Server, Cluster}
+use Rattle.lock_law.specs.Below.heap_law.Names.{tot, one, other, some, if_so}
+use Rattle.lock_law.specs.Below.heap_law.Things.{in_slot, in_temp, as_gift, as_content, as_result, in_hand, Thing, holds, lies, flies, stands, things_of}
+use Rattle.lock_law.specs.Below.heap_law.Follow.{Standing, thread_at}
+use Rattle.lock_law.specs.Below.heap_law.Sight.{Sight, sight}
+use Rattle.lock_law.specs.Below.heap_law.Paths.{joined_thread}
+use Rattle.lock_law.specs.Below.heap_law.Walking.{instr_of}
+use Rattle.lock_law.specs.Below.heap_law.Requests.{is_task, locked_mutex}
+use Rattle.lock_law.specs.Below.heap_law.Naming.{threads, uncounted_thread, zeroth_thread, named_mutexes, uncounted_mutex, zeroth_mutex}
+use Rattle.lock_law.specs.Below.heap_law.OneHeap.{Node, object_n, mutex_n, task_n, Owner, inside, content_owner, result_owner, gift_owner, gift_owner_of, spot_owner, owner_of, owns, names, owner_in, named_in, any_named, is_in_state, is_branch, if_in, or_else, first_shown, share_in, branch_result, is_joined_by, result_value, result_of, running_at, is_given_thread, state_of}
+use Rattle.lock_law.specs.Below.heap_law.Coherent.{IsSound}
+use Rattle.lock_law.proofs.Below.event_law.Bags.{had_by}
+use Rattle.lock_law.proofs.Below.still_law.Alike.{Once}
+use Rattle.lock_law.proofs.Below.still_law.Counting.{shown_result, gifted, stray}
+use Rattle.lock_law.proofs.Below.still_law.Told.{told, ones}
+use Rattle.lock_law.proofs.Below.turn_law.Parts.{Own, owned_in, own_named}
+use Rattle.lock_law.proofs.Below.turn_law.OneTurn.{Calm}
+use Rattle.lock_law.proofs.Below.turn_law.Instructions.{Pops, owned_push}
+use Rattle.lock_law.proofs.Below.turn_law.Events.{AtStep}
 use Rattle.lock_law.proofs.Reach.{SameOwners, NoneUnder, or_left, or_right, or_cases, with_extra, here, stays_in, comes_from}
 use Rattle.lock_law.proofs.Beside.{giftless, IsBeside, so_one, mine, any_mine, first_with, tot_of}
 use Rattle.lock_law.proofs.OneNode.{some_there, there_some, one_of_two, is_one}

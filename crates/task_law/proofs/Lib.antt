@@ -1,3 +1,4 @@
+pub mod Below
 pub mod Taken
 pub mod PlainTaken
 pub mod PairEnds

@@ -2,27 +2,27 @@
 use Rattle.std.proofs.Common.{◌≡◌, ◌≢◌, ℕ, ◌+◌, ◌*◌, ◌<◌, ◌≤◌, ◌==◌, ◌||◌, nat_le, not, Bool, true, false, List, Some, refl, sym, ap, ap₂, ◌∙◌, subst, arith}
 use Rattle.std.specs.Prelude.{◌^◌, ◌&&◌}
 use Rattle.std.proofs.lemmas.Bool.Decides.{nat_tests}
-use Rattle.fr_typing.proofs.PlaceLemmas.{eq_cases}
-use Rattle.fr_base.specs.declared.instruction.Instr.{Instr}
-use Rattle.thread_state.specs.View.{ThreadState}
-use Rattle.server_model.specs.declared.event.Event.{Event}
-use Rattle.server_model.specs.Servers.{Server, Cluster}
-use Rattle.heap_law.specs.Names.{tot, one, some}
-use Rattle.heap_law.specs.Things.{Thing, counts, things_of}
-use Rattle.heap_law.specs.Sight.{with_things}
-use Rattle.heap_law.specs.Requests.{home_of, is_par_end}
-use Rattle.heap_law.specs.Naming.{count_of, started_at}
-use Rattle.heap_law.specs.Weights.{is_thread}
-use Rattle.heap_law.specs.OneHeap.{is_given_thread}
-use Rattle.heap_law.specs.Coherent.{IsSound}
-use Rattle.event_law.specs.Sums.{is_server}
-use Rattle.event_law.proofs.Bags.{counts_of}
-use Rattle.event_law.proofs.NewThreads.{new_names}
-use Rattle.event_law.proofs.Sound.{sound_has_sums}
-use Rattle.still_law.proofs.Told.{at_most}
-use Rattle.turn_law.proofs.Parts.{Own}
-use Rattle.turn_law.proofs.OneTurn.{of_thread}
-use Rattle.turn_law.proofs.Events.{AtStep, told_by, all_of as of_both, itself_counts}
+use Rattle.lock_law.proofs.Below.fr_typing.PlaceLemmas.{eq_cases}
+use Rattle.lock_law.specs.Below.fr_base.declared.instruction.Instr.{Instr}
+use Rattle.lock_law.specs.Below.thread_state.View.{ThreadState}
+use Rattle.lock_law.specs.Below.server_model.declared.event.Event.{Event}
+use Rattle.lock_law.specs.Below.server_model.Servers.{Server, Cluster}
+use Rattle.lock_law.specs.Below.heap_law.Names.{tot, one, some}
+use Rattle.lock_law.specs.Below.heap_law.Things.{Thing, counts, things_of}
+use Rattle.lock_law.specs.Below.heap_law.Sight.{with_things}
+use Rattle.lock_law.specs.Below.heap_law.Requests.{home_of, is_par_end}
+use Rattle.lock_law.specs.Below.heap_law.Naming.{count_of, started_at}
+use Rattle.lock_law.specs.Below.heap_law.Weights.{is_thread}
+use Rattle.lock_law.specs.Below.heap_law.OneHeap.{is_given_thread}
+use Rattle.lock_law.specs.Below.heap_law.Coherent.{IsSound}
+use Rattle.lock_law.specs.Below.event_law.Sums.{is_server}
+use Rattle.lock_law.proofs.Below.event_law.Bags.{counts_of}
+use Rattle.lock_law.proofs.Below.event_law.NewThreads.{new_names}
+use Rattle.lock_law.proofs.Below.event_law.Sound.{sound_has_sums}
+use Rattle.lock_law.proofs.Below.still_law.Told.{at_most}
+use Rattle.lock_law.proofs.Below.turn_law.Parts.{Own}
+use Rattle.lock_law.proofs.Below.turn_law.OneTurn.{of_thread}
+use Rattle.lock_law.proofs.Below.turn_law.Events.{AtStep, told_by, all_of as of_both, itself_counts}
 use Rattle.lock_law.proofs.Beside.{gift_uncounted, all_of, tot_of}
 use Rattle.lock_law.proofs.Changed as changed
 use Rattle.lock_law.proofs.ThreadTurns.{G, R}

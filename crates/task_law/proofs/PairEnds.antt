@@ -1,26 +1,26 @@
 -- The end of a pair in the one heap: the parent goes on, the results of both threads are taken, and all else is as it was.
 use Rattle.std.proofs.Common.{◌≡◌, ℕ, ◌+◌, ◌≤◌, ◌==◌, ◌||◌, Bool, true, false, List, [], ◌∷◌, ◌++◌, Some, None, refl, sym, ap, ◌∙◌, subst, arith}
-use Rattle.fr_typing.proofs.PlaceLemmas.{eq_cases}
-use Rattle.fr_base.specs.declared.label.Plain.TheVariants as plain
-use Rattle.fr_base.specs.declared.instruction.Instr.TheVariants as instr
-use Rattle.thread_state.specs.View.{ThreadState, is_over}
-use Rattle.thread_state.specs.declared.phase.Phase.TheVariants as phase
-use Rattle.server_model.specs.declared.event.Event.{Event}
-use Rattle.server_model.specs.Servers.{Server, Cluster}
-use Rattle.heap_law.specs.Names.{tot, one, some}
-use Rattle.heap_law.specs.Things.{Thing, stands, gift_things, things_of}
-use Rattle.heap_law.specs.Sight.{Sight, sight}
-use Rattle.heap_law.specs.Sharing.{got_phase}
-use Rattle.heap_law.specs.Naming.{threads, uncounted_thread, zeroth_thread, phase_thread, named_mutexes, uncounted_mutex, zeroth_mutex}
-use Rattle.heap_law.specs.OneHeap.{Node, any_named, is_in_state, if_in, or_else, first_shown, share_in, content_value, branch_result, result_value, result_of, running_at, is_given_thread, state_of}
-use Rattle.heap_law.specs.Coherent.{IsSound}
-use Rattle.event_law.proofs.Bags.{counts_of}
-use Rattle.event_law.proofs.GiftsTaken.{gift_fits}
-use Rattle.still_law.proofs.Alike.{Once}
-use Rattle.still_law.proofs.Counting.{shown_result}
-use Rattle.still_law.proofs.Told.{told, ones}
-use Rattle.turn_law.proofs.Parts.{owned_in}
-use Rattle.turn_law.proofs.Events.{AtStep}
+use Rattle.lock_law.proofs.Below.fr_typing.PlaceLemmas.{eq_cases}
+use Rattle.lock_law.specs.Below.fr_base.declared.label.Plain.TheVariants as plain
+use Rattle.lock_law.specs.Below.fr_base.declared.instruction.Instr.TheVariants as instr
+use Rattle.lock_law.specs.Below.thread_state.View.{ThreadState, is_over}
+use Rattle.lock_law.specs.Below.thread_state.declared.phase.Phase.TheVariants as phase
+use Rattle.lock_law.specs.Below.server_model.declared.event.Event.{Event}
+use Rattle.lock_law.specs.Below.server_model.Servers.{Server, Cluster}
+use Rattle.lock_law.specs.Below.heap_law.Names.{tot, one, some}
+use Rattle.lock_law.specs.Below.heap_law.Things.{Thing, stands, gift_things, things_of}
+use Rattle.lock_law.specs.Below.heap_law.Sight.{Sight, sight}
+use Rattle.lock_law.specs.Below.heap_law.Sharing.{got_phase}
+use Rattle.lock_law.specs.Below.heap_law.Naming.{threads, uncounted_thread, zeroth_thread, phase_thread, named_mutexes, uncounted_mutex, zeroth_mutex}
+use Rattle.lock_law.specs.Below.heap_law.OneHeap.{Node, any_named, is_in_state, if_in, or_else, first_shown, share_in, content_value, branch_result, result_value, result_of, running_at, is_given_thread, state_of}
+use Rattle.lock_law.specs.Below.heap_law.Coherent.{IsSound}
+use Rattle.lock_law.proofs.Below.event_law.Bags.{counts_of}
+use Rattle.lock_law.proofs.Below.event_law.GiftsTaken.{gift_fits}
+use Rattle.lock_law.proofs.Below.still_law.Alike.{Once}
+use Rattle.lock_law.proofs.Below.still_law.Counting.{shown_result}
+use Rattle.lock_law.proofs.Below.still_law.Told.{told, ones}
+use Rattle.lock_law.proofs.Below.turn_law.Parts.{owned_in}
+use Rattle.lock_law.proofs.Below.turn_law.Events.{AtStep}
 use Rattle.lock_law.proofs.Reach.{SameOwners, or_left, or_right, or_cases, with_extra, here, stays_in, comes_from}
 use Rattle.lock_law.proofs.Beside.{mine, any_mine, first_with}
 use Rattle.lock_law.proofs.OneThread as one_thread

@@ -1,36 +1,36 @@
 -- The end of a pair, at the server and on the plain machine.
 use Rattle.std.proofs.Common.{◌≡◌, ◌⊎◌, inl, inr, ℕ, zero, suc, ◌+◌, ◌≤◌, ◌==◌, true, false, List, [], ◌∷◌, length, Option, Some, None, option_map, refl, ap, ◌∙◌, subst, arith}
-use Rattle.fr_typing.proofs.PlaceLemmas.{eq_cases}
-use Rattle.fr_base.specs.declared.step.Fresh.TheVariants as fresh
-use Rattle.fr_base.specs.declared.instruction.Instr.{Instr}
-use Rattle.fr_base.specs.declared.instruction.Instr.TheVariants as instr
-use Rattle.fr_plain.specs.declared.value.Value.{Value as PlainValue}
-use Rattle.fr_plain.specs.MachineThreads.{Pair, pair_of as plain_pair}
-use Rattle.fr_plain.specs.PlainState.{SameState, plain_state}
-use Rattle.fr_code.specs.Machine.{CodeWhole}
-use Rattle.fr_code.specs.Steps.{Place, over_at, run_instr}
-use Rattle.read_cache.specs.Cache.{Copy}
-use Rattle.migration.specs.Packing.{unpin_all}
-use Rattle.thread_state.specs.View.{ThreadState}
-use Rattle.thread_state.specs.declared.phase.Phase.{Phase}
-use Rattle.thread_state.specs.declared.phase.Phase.TheVariants as phase
-use Rattle.server_model.specs.declared.event.Event.{Event}
-use Rattle.server_model.specs.Servers.{Server, Cluster}
-use Rattle.server_model.specs.Work.{Hand, with_cache}
-use Rattle.server_model.specs.Commit.{goes_on, go_on, par_end}
-use Rattle.server_model.specs.Events.{Stepped, stepped, begin_work, committed, step}
-use Rattle.server_model.specs.Clusters.{hand_over_newer, apply}
-use Rattle.heap_law.specs.Names.{one, some}
-use Rattle.heap_law.specs.OneHeap.{running_at, pair_of, two_in, one_heap, state_of}
-use Rattle.heap_law.specs.Coherent.{IsSound}
-use Rattle.event_law.specs.Laws.{Gives}
-use Rattle.event_law.proofs.Bags.{counts_of}
-use Rattle.still_law.proofs.Readied.{copies_ready}
-use Rattle.still_law.proofs.Sites.{Moves}
-use Rattle.turn_law.specs.Turns.{StepsTo, IsPlainStep, instr_of, ArePlainSteps}
-use Rattle.turn_law.proofs.OneTurn.{after}
-use Rattle.turn_law.proofs.Instructions.{shown_last}
-use Rattle.turn_law.proofs.Events.{AtStep, Sends, events_are_plain, then_same}
+use Rattle.lock_law.proofs.Below.fr_typing.PlaceLemmas.{eq_cases}
+use Rattle.lock_law.specs.Below.fr_base.declared.step.Fresh.TheVariants as fresh
+use Rattle.lock_law.specs.Below.fr_base.declared.instruction.Instr.{Instr}
+use Rattle.lock_law.specs.Below.fr_base.declared.instruction.Instr.TheVariants as instr
+use Rattle.lock_law.specs.Below.fr_plain.declared.value.Value.{Value as PlainValue}
+use Rattle.lock_law.specs.Below.fr_plain.MachineThreads.{Pair, pair_of as plain_pair}
+use Rattle.lock_law.specs.Below.fr_plain.PlainState.{SameState, plain_state}
+use Rattle.lock_law.specs.Below.fr_code.Machine.{CodeWhole}
+use Rattle.lock_law.specs.Below.fr_code.Steps.{Place, over_at, run_instr}
+use Rattle.lock_law.specs.Below.read_cache.Cache.{Copy}
+use Rattle.lock_law.specs.Below.migration.Packing.{unpin_all}
+use Rattle.lock_law.specs.Below.thread_state.View.{ThreadState}
+use Rattle.lock_law.specs.Below.thread_state.declared.phase.Phase.{Phase}
+use Rattle.lock_law.specs.Below.thread_state.declared.phase.Phase.TheVariants as phase
+use Rattle.lock_law.specs.Below.server_model.declared.event.Event.{Event}
+use Rattle.lock_law.specs.Below.server_model.Servers.{Server, Cluster}
+use Rattle.lock_law.specs.Below.server_model.Work.{Hand, with_cache}
+use Rattle.lock_law.specs.Below.server_model.Commit.{goes_on, go_on, par_end}
+use Rattle.lock_law.specs.Below.server_model.Events.{Stepped, stepped, begin_work, committed, step}
+use Rattle.lock_law.specs.Below.server_model.Clusters.{hand_over_newer, apply}
+use Rattle.lock_law.specs.Below.heap_law.Names.{one, some}
+use Rattle.lock_law.specs.Below.heap_law.OneHeap.{running_at, pair_of, two_in, one_heap, state_of}
+use Rattle.lock_law.specs.Below.heap_law.Coherent.{IsSound}
+use Rattle.lock_law.specs.Below.event_law.Laws.{Gives}
+use Rattle.lock_law.proofs.Below.event_law.Bags.{counts_of}
+use Rattle.lock_law.proofs.Below.still_law.Readied.{copies_ready}
+use Rattle.lock_law.proofs.Below.still_law.Sites.{Moves}
+use Rattle.lock_law.specs.Below.turn_law.Turns.{StepsTo, IsPlainStep, instr_of, ArePlainSteps}
+use Rattle.lock_law.proofs.Below.turn_law.OneTurn.{after}
+use Rattle.lock_law.proofs.Below.turn_law.Instructions.{shown_last}
+use Rattle.lock_law.proofs.Below.turn_law.Events.{AtStep, Sends, events_are_plain, then_same}
 use Rattle.lock_law.proofs.Beside.{itself}
 use Rattle.lock_law.proofs.OneThread.{past}
 use Rattle.lock_law.proofs.Changed as changed

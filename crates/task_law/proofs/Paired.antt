@@ -2,40 +2,40 @@
 use Rattle.std.proofs.Common.{◌≡◌, ◌≢◌, ℕ, zero, suc, ◌+◌, ◌*◌, ◌<◌, ◌≤◌, ◌==◌, ◌||◌, nat_le, not, Bool, true, false, if◌then◌else◌, List, [], ◌∷◌, ◌++◌, Option, Some, None, refl, sym, ap, ap₂, ◌∙◌, arith}
 use Rattle.std.specs.Prelude.{◌^◌, ◌&&◌}
 use Rattle.std.specs.List.{AllByRecursion}
-use Rattle.fr_typing.proofs.PlaceLemmas.{eq_cases}
-use Rattle.fr_base.specs.declared.name.MutexNo.{MutexNo}
-use Rattle.fr_base.specs.declared.name.ObjNo.{ObjNo}
-use Rattle.fr_base.specs.declared.label.Plain.{Plain}
-use Rattle.fr_base.specs.declared.label.Plain.TheVariants as plain
-use Rattle.fr_base.specs.declared.instruction.Instr.{Instr}
-use Rattle.fr_plain.specs.PlainState.{SameState}
-use Rattle.fr_code.specs.Machine.{CodeState}
-use Rattle.join_home.specs.Tasks.{in_pair}
-use Rattle.thread_state.specs.View.{ThreadState, new_thread}
-use Rattle.thread_state.specs.declared.value.Value.{Value}
-use Rattle.thread_state.specs.declared.phase.Phase.TheVariants as phase
-use Rattle.server_model.specs.declared.event.Event.{Event}
-use Rattle.server_model.specs.Servers.{Server, Cluster}
-use Rattle.heap_law.specs.Names.{tot, one, some, if_so}
-use Rattle.heap_law.specs.Things.{Thing, stands, noted, gift_things}
-use Rattle.heap_law.specs.Follow.{threads_in, thread_at, cells_in}
-use Rattle.heap_law.specs.Sight.{Sight, with_things}
-use Rattle.heap_law.specs.Requests.{home_of, is_par_end}
-use Rattle.heap_law.specs.Naming.{count_of, started_at, made_at}
-use Rattle.heap_law.specs.Weights.{is_thread}
-use Rattle.heap_law.specs.OneHeap.{Node, mutex_n, task_n, any_named, is_in_state, is_branch, if_in, or_else, first_shown, cell_value, share_in, content_value, in_pair_of, branch_result, result_value, running_at, life_of, life_at, pair_of, is_given_thread, if_given, one_heap, state_of}
-use Rattle.heap_law.specs.Coherent.{IsSound}
-use Rattle.event_law.proofs.Bags.{counts_of, had_by}
-use Rattle.event_law.proofs.Trades.{Same, tot-append}
-use Rattle.still_law.specs.Shows.{ShowAlike, sign_of}
-use Rattle.still_law.proofs.Alike.{Once, same_state, same_once}
-use Rattle.still_law.proofs.Counting.{shown_result, stray, nought, no_stray_in}
-use Rattle.still_law.proofs.Gifts.{placed, telling}
-use Rattle.still_law.proofs.Told.{told, ones}
+use Rattle.lock_law.proofs.Below.fr_typing.PlaceLemmas.{eq_cases}
+use Rattle.lock_law.specs.Below.fr_base.declared.name.MutexNo.{MutexNo}
+use Rattle.lock_law.specs.Below.fr_base.declared.name.ObjNo.{ObjNo}
+use Rattle.lock_law.specs.Below.fr_base.declared.label.Plain.{Plain}
+use Rattle.lock_law.specs.Below.fr_base.declared.label.Plain.TheVariants as plain
+use Rattle.lock_law.specs.Below.fr_base.declared.instruction.Instr.{Instr}
+use Rattle.lock_law.specs.Below.fr_plain.PlainState.{SameState}
+use Rattle.lock_law.specs.Below.fr_code.Machine.{CodeState}
+use Rattle.lock_law.specs.Below.join_home.Tasks.{in_pair}
+use Rattle.lock_law.specs.Below.thread_state.View.{ThreadState, new_thread}
+use Rattle.lock_law.specs.Below.thread_state.declared.value.Value.{Value}
+use Rattle.lock_law.specs.Below.thread_state.declared.phase.Phase.TheVariants as phase
+use Rattle.lock_law.specs.Below.server_model.declared.event.Event.{Event}
+use Rattle.lock_law.specs.Below.server_model.Servers.{Server, Cluster}
+use Rattle.lock_law.specs.Below.heap_law.Names.{tot, one, some, if_so}
+use Rattle.lock_law.specs.Below.heap_law.Things.{Thing, stands, noted, gift_things}
+use Rattle.lock_law.specs.Below.heap_law.Follow.{threads_in, thread_at, cells_in}
+use Rattle.lock_law.specs.Below.heap_law.Sight.{Sight, with_things}
+use Rattle.lock_law.specs.Below.heap_law.Requests.{home_of, is_par_end}
+use Rattle.lock_law.specs.Below.heap_law.Naming.{count_of, started_at, made_at}
+use Rattle.lock_law.specs.Below.heap_law.Weights.{is_thread}
+use Rattle.lock_law.specs.Below.heap_law.OneHeap.{Node, mutex_n, task_n, any_named, is_in_state, is_branch, if_in, or_else, first_shown, cell_value, share_in, content_value, in_pair_of, branch_result, result_value, running_at, life_of, life_at, pair_of, is_given_thread, if_given, one_heap, state_of}
+use Rattle.lock_law.specs.Below.heap_law.Coherent.{IsSound}
+use Rattle.lock_law.proofs.Below.event_law.Bags.{counts_of, had_by}
+use Rattle.lock_law.proofs.Below.event_law.Trades.{Same, tot-append}
+use Rattle.lock_law.specs.Below.still_law.Shows.{ShowAlike, sign_of}
+use Rattle.lock_law.proofs.Below.still_law.Alike.{Once, same_state, same_once}
+use Rattle.lock_law.proofs.Below.still_law.Counting.{shown_result, stray, nought, no_stray_in}
+use Rattle.lock_law.proofs.Below.still_law.Gifts.{placed, telling}
+use Rattle.lock_law.proofs.Below.still_law.Told.{told, ones}
 use Rattle.lock_law.proofs.SharedLines.{nothing_under}
-use Rattle.turn_law.proofs.Parts.{shown_both, any_both, Own, own_all, none_shown, none_counted, owned_in}
-use Rattle.turn_law.proofs.OneTurn.{as_loose, as_owing, life_as, going_of, going_is, of_thread, Calm, after}
-use Rattle.turn_law.proofs.Events.{AtStep}
+use Rattle.lock_law.proofs.Below.turn_law.Parts.{shown_both, any_both, Own, own_all, none_shown, none_counted, owned_in}
+use Rattle.lock_law.proofs.Below.turn_law.OneTurn.{as_loose, as_owing, life_as, going_of, going_is, of_thread, Calm, after}
+use Rattle.lock_law.proofs.Below.turn_law.Events.{AtStep}
 use Rattle.lock_law.proofs.Reach.{SameOwners, or_left, or_right, or_cases, with_extra, here, stays_in, comes_from}
 use Rattle.lock_law.proofs.Beside.{IsBeside, IsLoose, loose_beside, all_so, gift_uncounted, mine, any_mine, all_of, tot_of, shares_of, itself, besides, cells_of}
 use Rattle.lock_law.proofs.OneNode.{some_there, there_some, one_of_two}

@@ -1,26 +1,26 @@
 -- The end of a thread on the plain machine: main's result goes, that of a thread whose task somebody has is kept, and that of a thread that was let go goes too.
 use Rattle.std.proofs.Common.{◌≡◌, ◌≢◌, ◌⊎◌, inl, inr, ℕ, true, if◌then◌else◌, List, [], ◌∷◌, ◌++◌, length, Option, Some, None, refl, sym, ap, ap₂, ◌∙◌, subst}
 use Rattle.std.specs.Prelude.{slice_get}
-use Rattle.fr_typing.proofs.PlaceLemmas.{eq_cases}
-use Rattle.fr_base.specs.declared.label.Label.{Label}
-use Rattle.fr_base.specs.declared.label.Label.TheVariants as label
-use Rattle.fr_base.specs.declared.label.Plain.{Plain}
-use Rattle.fr_base.specs.declared.step.Fresh.TheVariants as fresh
-use Rattle.fr_base.specs.declared.instruction.Instr.{Instr}
-use Rattle.fr_plain.specs.declared.value.Value.{Value}
-use Rattle.fr_plain.specs.declared.value.Value.TheVariants.{Own}
-use Rattle.fr_plain.specs.Heap.{Heap, made_by}
-use Rattle.fr_plain.specs.MachineActs.{do_end, do_finish, do_leave, end_of}
-use Rattle.fr_plain.specs.MachineThreads.{Move, over, ended, owing, loose, alive, on_value, alone, next, thread_at, with_thread, is_over, pair_of, count_both}
-use Rattle.fr_plain.specs.Machine.{step_of, moved, prints, then_released}
-use Rattle.fr_plain.specs.PlainState.{SameState, running, running_in, is_over_in, two_of, plain_state}
-use Rattle.fr_plain.proofs.ByName.{put_in, put_at, put_off}
-use Rattle.fr_code.specs.Machine.{CodeLife, CodeThread, CodeWhole, CodeStepped, CodeRunning, CodeState}
-use Rattle.fr_code.specs.Steps.{Place, code_moves, over_at}
-use Rattle.turn_law.specs.Turns.{StepsTo}
-use Rattle.turn_law.proofs.OneTurn.{Going, as_main, as_owing, as_loose}
-use Rattle.turn_law.proofs.PlainTurn.{thread_as, found_as, none_released}
-use Rattle.turn_law.proofs.DropLines.{keeps_all, heap_stays, no_drops, none_last}
+use Rattle.lock_law.proofs.Below.fr_typing.PlaceLemmas.{eq_cases}
+use Rattle.lock_law.specs.Below.fr_base.declared.label.Label.{Label}
+use Rattle.lock_law.specs.Below.fr_base.declared.label.Label.TheVariants as label
+use Rattle.lock_law.specs.Below.fr_base.declared.label.Plain.{Plain}
+use Rattle.lock_law.specs.Below.fr_base.declared.step.Fresh.TheVariants as fresh
+use Rattle.lock_law.specs.Below.fr_base.declared.instruction.Instr.{Instr}
+use Rattle.lock_law.specs.Below.fr_plain.declared.value.Value.{Value}
+use Rattle.lock_law.specs.Below.fr_plain.declared.value.Value.TheVariants.{Own}
+use Rattle.lock_law.specs.Below.fr_plain.Heap.{Heap, made_by}
+use Rattle.lock_law.specs.Below.fr_plain.MachineActs.{do_end, do_finish, do_leave, end_of}
+use Rattle.lock_law.specs.Below.fr_plain.MachineThreads.{Move, over, ended, owing, loose, alive, on_value, alone, next, thread_at, with_thread, is_over, pair_of, count_both}
+use Rattle.lock_law.specs.Below.fr_plain.Machine.{step_of, moved, prints, then_released}
+use Rattle.lock_law.specs.Below.fr_plain.PlainState.{SameState, running, running_in, is_over_in, two_of, plain_state}
+use Rattle.lock_law.proofs.Below.fr_plain.ByName.{put_in, put_at, put_off}
+use Rattle.lock_law.specs.Below.fr_code.Machine.{CodeLife, CodeThread, CodeWhole, CodeStepped, CodeRunning, CodeState}
+use Rattle.lock_law.specs.Below.fr_code.Steps.{Place, code_moves, over_at}
+use Rattle.lock_law.specs.Below.turn_law.Turns.{StepsTo}
+use Rattle.lock_law.proofs.Below.turn_law.OneTurn.{Going, as_main, as_owing, as_loose}
+use Rattle.lock_law.proofs.Below.turn_law.PlainTurn.{thread_as, found_as, none_released}
+use Rattle.lock_law.proofs.Below.turn_law.DropLines.{keeps_all, heap_stays, no_drops, none_last}
 use Rattle.task_law.proofs.ThreadEnds.{end_as, Ends}
 
 ended_over : (g : Going) (v : Plain) → is_over {P = Place} (end_as g v) ≡ true

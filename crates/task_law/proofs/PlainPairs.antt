@@ -1,22 +1,22 @@
 -- The end of a pair on the plain machine: the parent goes on, and the results of both threads are taken.
 use Rattle.std.proofs.Common.{◌≡◌, ◌≢◌, ◌⊎◌, inl, inr, ℕ, ◌==◌, Bool, true, false, if◌then◌else◌, List, [], ◌∷◌, length, Option, Some, None, refl, sym, ap, ap₂, ◌∙◌, subst}
 use Rattle.std.specs.Prelude.{slice_get}
-use Rattle.fr_typing.proofs.PlaceLemmas.{eq_cases}
-use Rattle.fr_base.specs.declared.label.Plain.TheVariants as plain
-use Rattle.fr_base.specs.declared.step.Fresh.TheVariants as fresh
-use Rattle.fr_base.specs.declared.instruction.Instr.{Instr}
-use Rattle.fr_plain.specs.declared.value.Value.{Value}
-use Rattle.fr_plain.specs.declared.value.Value.TheVariants.{Own}
-use Rattle.fr_plain.specs.Heap.{made_by}
-use Rattle.fr_plain.specs.MachineActs.{do_par_end, unit}
-use Rattle.fr_plain.specs.MachineThreads.{over, going, Pair, thread_at, with_thread, with_life, pair_of, without_pair, result_in, result_of_life}
-use Rattle.fr_plain.specs.Machine.{step_of, taken, pair_over, two_ended, two_joined}
-use Rattle.fr_plain.specs.PlainState.{SameState, running_in, is_over_in, two_of, plain_state}
-use Rattle.fr_plain.proofs.ByName.{put_in, put_at, put_off, found_number}
-use Rattle.fr_code.specs.Machine.{CodeLife, CodeThread, CodeWhole, CodeStepped, CodeRunning, CodeState}
-use Rattle.fr_code.specs.Steps.{Place, code_move, code_moves, over_at}
-use Rattle.turn_law.specs.Turns.{StepsTo}
-use Rattle.turn_law.proofs.PlainTurn.{thread_as, goes_as, settled_as}
+use Rattle.lock_law.proofs.Below.fr_typing.PlaceLemmas.{eq_cases}
+use Rattle.lock_law.specs.Below.fr_base.declared.label.Plain.TheVariants as plain
+use Rattle.lock_law.specs.Below.fr_base.declared.step.Fresh.TheVariants as fresh
+use Rattle.lock_law.specs.Below.fr_base.declared.instruction.Instr.{Instr}
+use Rattle.lock_law.specs.Below.fr_plain.declared.value.Value.{Value}
+use Rattle.lock_law.specs.Below.fr_plain.declared.value.Value.TheVariants.{Own}
+use Rattle.lock_law.specs.Below.fr_plain.Heap.{made_by}
+use Rattle.lock_law.specs.Below.fr_plain.MachineActs.{do_par_end, unit}
+use Rattle.lock_law.specs.Below.fr_plain.MachineThreads.{over, going, Pair, thread_at, with_thread, with_life, pair_of, without_pair, result_in, result_of_life}
+use Rattle.lock_law.specs.Below.fr_plain.Machine.{step_of, taken, pair_over, two_ended, two_joined}
+use Rattle.lock_law.specs.Below.fr_plain.PlainState.{SameState, running_in, is_over_in, two_of, plain_state}
+use Rattle.lock_law.proofs.Below.fr_plain.ByName.{put_in, put_at, put_off, found_number}
+use Rattle.lock_law.specs.Below.fr_code.Machine.{CodeLife, CodeThread, CodeWhole, CodeStepped, CodeRunning, CodeState}
+use Rattle.lock_law.specs.Below.fr_code.Steps.{Place, code_move, code_moves, over_at}
+use Rattle.lock_law.specs.Below.turn_law.Turns.{StepsTo}
+use Rattle.lock_law.proofs.Below.turn_law.PlainTurn.{thread_as, goes_as, settled_as}
 use Rattle.lock_law.proofs.PlainMutex.{acts, move_as}
 use Rattle.task_law.proofs.Taken.{ResultsTaken}
 use Rattle.task_law.proofs.PlainTaken.{Ended, ended_there, found, thread_same, over_same}

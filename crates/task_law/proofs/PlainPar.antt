@@ -1,24 +1,24 @@
 -- A thread starts a pair of threads on the plain machine, and waits for both.
 use Rattle.std.proofs.Common.{◌≡◌, ◌≢◌, ℕ, ◌==◌, ◌||◌, false, if◌then◌else◌, List, [], ◌∷◌, ◌++◌, length, Option, Some, None, is_some, refl, sym, ap, ap₂, ◌∙◌, subst}
 use Rattle.std.specs.Prelude.{slice_get}
-use Rattle.fr_typing.proofs.PlaceLemmas.{eq_cases}
-use Rattle.fr_base.specs.declared.name.MutexNo.{MutexNo}
-use Rattle.fr_base.specs.declared.name.ObjNo.{ObjNo}
-use Rattle.fr_base.specs.declared.label.Label.TheVariants as label
-use Rattle.fr_base.specs.declared.step.Fresh.TheVariants as fresh
-use Rattle.fr_base.specs.declared.instruction.Instr.{Instr}
-use Rattle.fr_plain.specs.declared.value.Value.{Value}
-use Rattle.fr_plain.specs.Heap.{made_by}
-use Rattle.fr_plain.specs.MachineActs.{Capture, do_par, unit}
-use Rattle.fr_plain.specs.MachineThreads.{Pair, owing, going, pass, thread_at, with_thread, pair_of}
-use Rattle.fr_plain.specs.Machine.{step_of, second_of, two_with}
-use Rattle.fr_plain.specs.PlainState.{SameState, running_in, is_over_in, two_of, plain_state}
-use Rattle.fr_plain.proofs.ByName.{or_else, put_in, put_at, put_off, thread_more}
-use Rattle.fr_code.specs.Machine.{CodeLife, CodeThread, CodeWhole, CodeStepped, CodeRunning, CodeState}
-use Rattle.fr_code.specs.Steps.{Place, code_move, code_moves, over_at}
-use Rattle.turn_law.specs.Turns.{StepsTo}
-use Rattle.turn_law.proofs.OneTurn.{Going, life_as}
-use Rattle.turn_law.proofs.PlainTurn.{thread_as, running_as, goes_as, settled_as, found_as}
+use Rattle.lock_law.proofs.Below.fr_typing.PlaceLemmas.{eq_cases}
+use Rattle.lock_law.specs.Below.fr_base.declared.name.MutexNo.{MutexNo}
+use Rattle.lock_law.specs.Below.fr_base.declared.name.ObjNo.{ObjNo}
+use Rattle.lock_law.specs.Below.fr_base.declared.label.Label.TheVariants as label
+use Rattle.lock_law.specs.Below.fr_base.declared.step.Fresh.TheVariants as fresh
+use Rattle.lock_law.specs.Below.fr_base.declared.instruction.Instr.{Instr}
+use Rattle.lock_law.specs.Below.fr_plain.declared.value.Value.{Value}
+use Rattle.lock_law.specs.Below.fr_plain.Heap.{made_by}
+use Rattle.lock_law.specs.Below.fr_plain.MachineActs.{Capture, do_par, unit}
+use Rattle.lock_law.specs.Below.fr_plain.MachineThreads.{Pair, owing, going, pass, thread_at, with_thread, pair_of}
+use Rattle.lock_law.specs.Below.fr_plain.Machine.{step_of, second_of, two_with}
+use Rattle.lock_law.specs.Below.fr_plain.PlainState.{SameState, running_in, is_over_in, two_of, plain_state}
+use Rattle.lock_law.proofs.Below.fr_plain.ByName.{or_else, put_in, put_at, put_off, thread_more}
+use Rattle.lock_law.specs.Below.fr_code.Machine.{CodeLife, CodeThread, CodeWhole, CodeStepped, CodeRunning, CodeState}
+use Rattle.lock_law.specs.Below.fr_code.Steps.{Place, code_move, code_moves, over_at}
+use Rattle.lock_law.specs.Below.turn_law.Turns.{StepsTo}
+use Rattle.lock_law.proofs.Below.turn_law.OneTurn.{Going, life_as}
+use Rattle.lock_law.proofs.Below.turn_law.PlainTurn.{thread_as, running_as, goes_as, settled_as, found_as}
 use Rattle.lock_law.proofs.PlainMutex.{acts, move_as}
 
 -- a thread goes on and waits for two that are new and owing, and the others are as they were

@@ -1,14 +1,14 @@
 -- On the plain machine a thread goes on, and threads whose results it takes are over.
 use Rattle.std.proofs.Common.{◌≡◌, ◌≢◌, ℕ, Bool, true, false, List, Option, Some, None, refl, sym, ap, ◌∙◌, subst}
-use Rattle.fr_typing.proofs.PlaceLemmas.{eq_cases}
-use Rattle.fr_base.specs.declared.label.Plain.{Plain}
-use Rattle.fr_plain.specs.declared.value.Value.{Value}
-use Rattle.fr_plain.specs.declared.value.Value.TheVariants.{Own}
-use Rattle.fr_plain.specs.MachineThreads.{over, owing, loose, alive, ended, is_over, thread_at, with_thread}
-use Rattle.fr_plain.specs.PlainState.{SameState, running, running_in, is_over_in, plain_state}
-use Rattle.fr_plain.proofs.ByName.{put_in, put_at, put_off}
-use Rattle.fr_code.specs.Machine.{CodeLife, CodeThread, CodeWhole, CodeRunning, CodeState}
-use Rattle.turn_law.proofs.PlainTurn.{thread_as, running_as, goes_as, found_as}
+use Rattle.lock_law.proofs.Below.fr_typing.PlaceLemmas.{eq_cases}
+use Rattle.lock_law.specs.Below.fr_base.declared.label.Plain.{Plain}
+use Rattle.lock_law.specs.Below.fr_plain.declared.value.Value.{Value}
+use Rattle.lock_law.specs.Below.fr_plain.declared.value.Value.TheVariants.{Own}
+use Rattle.lock_law.specs.Below.fr_plain.MachineThreads.{over, owing, loose, alive, ended, is_over, thread_at, with_thread}
+use Rattle.lock_law.specs.Below.fr_plain.PlainState.{SameState, running, running_in, is_over_in, plain_state}
+use Rattle.lock_law.proofs.Below.fr_plain.ByName.{put_in, put_at, put_off}
+use Rattle.lock_law.specs.Below.fr_code.Machine.{CodeLife, CodeThread, CodeWhole, CodeRunning, CodeState}
+use Rattle.lock_law.proofs.Below.turn_law.PlainTurn.{thread_as, running_as, goes_as, found_as}
 use Rattle.task_law.proofs.Taken.{ResultsTaken}
 
 -- a thread that is shown as ended with that value

@@ -1,51 +1,51 @@
 -- A thread that starts, at the server and on the plain machine.
 use Rattle.std.proofs.Common.{◌≡◌, ℕ, ◌+◌, ◌<◌, ◌^◌, Bool, true, false, if◌then◌else◌, List, [], ◌∷◌, ◌++◌, length, Option, Some, None, option_map, refl, ap, subst, arith}
-use Rattle.fr_base.specs.Rooms.{WithRoom}
-use Rattle.fr_base.specs.declared.label.Label.TheVariants as label
-use Rattle.fr_base.specs.declared.label.Plain.TheVariants as plain
-use Rattle.fr_base.specs.declared.step.Fresh.TheVariants as fresh
-use Rattle.fr_base.specs.declared.instruction.Instr.{Instr}
-use Rattle.fr_base.specs.declared.instruction.Instr.TheVariants as instr
-use Rattle.fr_plain.specs.declared.value.Value.{Value as PlainValue}
-use Rattle.fr_plain.specs.declared.value.Value.TheVariants as plain_v
-use Rattle.fr_plain.specs.PlainState.{SameState, plain_state}
-use Rattle.fr_code.specs.Machine.{CodeWhole, CodeRunning}
-use Rattle.fr_code.specs.Steps.{Place, over_at, run_instr, captured as captures_of}
-use Rattle.heap_partition.specs.declared.value.Owned.TheVariants as owned
-use Rattle.join_home.specs.Tasks.{can_begin, begin, going}
-use Rattle.read_cache.specs.Cache.{Copy}
-use Rattle.migration.specs.Packing.{unpin_all}
-use Rattle.thread_state.specs.View.{ThreadState, new_thread}
-use Rattle.thread_state.specs.declared.value.Value.{Value}
-use Rattle.thread_state.specs.declared.value.Value.TheVariants as value
-use Rattle.journal.specs.declared.act.Act.TheVariants as act
-use Rattle.server_msgs.specs.declared.message.Message.TheVariants as message
-use Rattle.server_model.specs.declared.event.Event.{Event}
-use Rattle.server_model.specs.Servers.{Rest, Server, Cluster}
-use Rattle.server_model.specs.Work.{Hand, Work, note, label_all, working, with_tasks, with_slots, with_cache, push_temp, then_some}
-use Rattle.server_model.specs.Start.{next_thread, server_for, start_thread, capture_from}
-use Rattle.server_model.specs.Commit.{done_where, go_on, spawn_with}
-use Rattle.server_model.specs.Events.{Stepped, stepped, begin_work, committed, step}
-use Rattle.server_model.specs.Clusters.{hand_over_newer, apply}
-use Rattle.heap_law.specs.Names.{tot}
-use Rattle.heap_law.specs.Things.{Thing, task_things, things_of}
-use Rattle.heap_law.specs.Sight.{Sight}
-use Rattle.heap_law.specs.OneHeap.{Node, running_at, one_heap, state_of}
-use Rattle.heap_law.specs.Coherent.{IsSound}
-use Rattle.event_law.specs.Laws.{Gives, FewEvents}
-use Rattle.event_law.proofs.Bags.{counts_of, body_things, rest_things, had_by, of_tasks}
-use Rattle.event_law.proofs.Each.{names_left}
-use Rattle.event_law.proofs.GiftsTaken.{gift_fits}
-use Rattle.event_law.proofs.Trades.{tot-append, trade_push}
-use Rattle.still_law.specs.Shows.{ShowAlike, sign_of}
-use Rattle.still_law.proofs.Alike.{same_state}
-use Rattle.still_law.proofs.Counting.{no_stray}
-use Rattle.still_law.proofs.Readied.{copies_ready}
-use Rattle.still_law.proofs.Sites.{shown, Moves, sends}
-use Rattle.turn_law.specs.Turns.{StepsTo, IsPlainStep, instr_of, ArePlainSteps}
-use Rattle.turn_law.proofs.Parts.{owned_in}
-use Rattle.turn_law.proofs.Instructions.{shown_last, shown_push}
-use Rattle.turn_law.proofs.Events.{AtStep, Sends, events_are_plain, then_same}
+use Rattle.lock_law.specs.Below.fr_base.Rooms.{WithRoom}
+use Rattle.lock_law.specs.Below.fr_base.declared.label.Label.TheVariants as label
+use Rattle.lock_law.specs.Below.fr_base.declared.label.Plain.TheVariants as plain
+use Rattle.lock_law.specs.Below.fr_base.declared.step.Fresh.TheVariants as fresh
+use Rattle.lock_law.specs.Below.fr_base.declared.instruction.Instr.{Instr}
+use Rattle.lock_law.specs.Below.fr_base.declared.instruction.Instr.TheVariants as instr
+use Rattle.lock_law.specs.Below.fr_plain.declared.value.Value.{Value as PlainValue}
+use Rattle.lock_law.specs.Below.fr_plain.declared.value.Value.TheVariants as plain_v
+use Rattle.lock_law.specs.Below.fr_plain.PlainState.{SameState, plain_state}
+use Rattle.lock_law.specs.Below.fr_code.Machine.{CodeWhole, CodeRunning}
+use Rattle.lock_law.specs.Below.fr_code.Steps.{Place, over_at, run_instr, captured as captures_of}
+use Rattle.lock_law.specs.Below.heap_partition.declared.value.Owned.TheVariants as owned
+use Rattle.lock_law.specs.Below.join_home.Tasks.{can_begin, begin, going}
+use Rattle.lock_law.specs.Below.read_cache.Cache.{Copy}
+use Rattle.lock_law.specs.Below.migration.Packing.{unpin_all}
+use Rattle.lock_law.specs.Below.thread_state.View.{ThreadState, new_thread}
+use Rattle.lock_law.specs.Below.thread_state.declared.value.Value.{Value}
+use Rattle.lock_law.specs.Below.thread_state.declared.value.Value.TheVariants as value
+use Rattle.lock_law.specs.Below.journal.declared.act.Act.TheVariants as act
+use Rattle.lock_law.specs.Below.server_msgs.declared.message.Message.TheVariants as message
+use Rattle.lock_law.specs.Below.server_model.declared.event.Event.{Event}
+use Rattle.lock_law.specs.Below.server_model.Servers.{Rest, Server, Cluster}
+use Rattle.lock_law.specs.Below.server_model.Work.{Hand, Work, note, label_all, working, with_tasks, with_slots, with_cache, push_temp, then_some}
+use Rattle.lock_law.specs.Below.server_model.Start.{next_thread, server_for, start_thread, capture_from}
+use Rattle.lock_law.specs.Below.server_model.Commit.{done_where, go_on, spawn_with}
+use Rattle.lock_law.specs.Below.server_model.Events.{Stepped, stepped, begin_work, committed, step}
+use Rattle.lock_law.specs.Below.server_model.Clusters.{hand_over_newer, apply}
+use Rattle.lock_law.specs.Below.heap_law.Names.{tot}
+use Rattle.lock_law.specs.Below.heap_law.Things.{Thing, task_things, things_of}
+use Rattle.lock_law.specs.Below.heap_law.Sight.{Sight}
+use Rattle.lock_law.specs.Below.heap_law.OneHeap.{Node, running_at, one_heap, state_of}
+use Rattle.lock_law.specs.Below.heap_law.Coherent.{IsSound}
+use Rattle.lock_law.specs.Below.event_law.Laws.{Gives, FewEvents}
+use Rattle.lock_law.proofs.Below.event_law.Bags.{counts_of, body_things, rest_things, had_by, of_tasks}
+use Rattle.lock_law.proofs.Below.event_law.Each.{names_left}
+use Rattle.lock_law.proofs.Below.event_law.GiftsTaken.{gift_fits}
+use Rattle.lock_law.proofs.Below.event_law.Trades.{tot-append, trade_push}
+use Rattle.lock_law.specs.Below.still_law.Shows.{ShowAlike, sign_of}
+use Rattle.lock_law.proofs.Below.still_law.Alike.{same_state}
+use Rattle.lock_law.proofs.Below.still_law.Counting.{no_stray}
+use Rattle.lock_law.proofs.Below.still_law.Readied.{copies_ready}
+use Rattle.lock_law.proofs.Below.still_law.Sites.{shown, Moves, sends}
+use Rattle.lock_law.specs.Below.turn_law.Turns.{StepsTo, IsPlainStep, instr_of, ArePlainSteps}
+use Rattle.lock_law.proofs.Below.turn_law.Parts.{owned_in}
+use Rattle.lock_law.proofs.Below.turn_law.Instructions.{shown_last, shown_push}
+use Rattle.lock_law.proofs.Below.turn_law.Events.{AtStep, Sends, events_are_plain, then_same}
 use Rattle.lock_law.proofs.Beside.{mine}
 use Rattle.lock_law.proofs.DupLines.{running_to}
 use Rattle.lock_law.proofs.Changed as changed

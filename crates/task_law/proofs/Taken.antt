@@ -2,37 +2,37 @@
 use Rattle.std.proofs.Common.{◌≡◌, ◌≢◌, ℕ, ◌+◌, ◌≤◌, ◌==◌, ◌||◌, not, Bool, true, false, if◌then◌else◌, List, [], ◌∷◌, ◌++◌, Option, Some, None, refl, sym, ap, ap₂, ◌∙◌, subst, arith}
 use Rattle.std.specs.Prelude.{◌&&◌}
 use Rattle.std.specs.List.{AllByRecursion}
-use Rattle.fr_typing.proofs.PlaceLemmas.{eq_cases}
-use Rattle.fr_base.specs.declared.name.MutexNo.{MutexNo}
-use Rattle.fr_base.specs.declared.name.ObjNo.{ObjNo}
-use Rattle.fr_base.specs.declared.label.Plain.{Plain}
-use Rattle.fr_base.specs.declared.instruction.Instr.{Instr}
-use Rattle.fr_plain.specs.declared.value.Value.TheVariants.{Own as OwnValue}
-use Rattle.fr_plain.specs.MachineThreads.{over, ended}
-use Rattle.fr_code.specs.Machine.{CodeState, CodeRunning}
-use Rattle.heap_partition.specs.declared.value.Owned.{Owned}
-use Rattle.thread_state.specs.View.{ThreadState, is_over}
-use Rattle.thread_state.specs.declared.value.Value.{Value}
-use Rattle.server_model.specs.declared.event.Event.{Event}
-use Rattle.server_model.specs.Servers.{Server, Cluster}
-use Rattle.heap_law.specs.Names.{tot, one, some}
-use Rattle.heap_law.specs.Things.{Thing, stands, gift_things, things_of}
-use Rattle.heap_law.specs.Follow.{Standing, threads_in, thread_at}
-use Rattle.heap_law.specs.Sight.{Sight, sight, with_things}
-use Rattle.heap_law.specs.Requests.{home_of}
-use Rattle.heap_law.specs.Sharing.{has_ended}
-use Rattle.heap_law.specs.Naming.{count_of, started_at, made_at, uncounted_thread, zeroth_thread}
-use Rattle.heap_law.specs.Weights.{is_thread}
-use Rattle.heap_law.specs.OneHeap.{Node, object_n, mutex_n, task_n, is_in_state, is_branch, if_in, or_else, first_shown, cell_value, share_in, content_value, in_pair_of, branch_result, result_value, result_of, ended_with, running_at, life_of, life_at, pair_of, is_given_thread, if_given, state_of}
-use Rattle.heap_law.specs.Coherent.{IsSound}
-use Rattle.event_law.proofs.Bags.{counts_of}
-use Rattle.still_law.proofs.Alike.{Once}
-use Rattle.still_law.proofs.Counting.{shown_result}
-use Rattle.still_law.proofs.Told.{told, ones, at_most}
-use Rattle.path_law.proofs.Contained.{among_thread}
-use Rattle.turn_law.proofs.Parts.{Own, owned_in}
-use Rattle.turn_law.proofs.OneTurn.{Going, life_as, going_of, going_is, of_thread, after}
-use Rattle.turn_law.proofs.Events.{AtStep, given_by_count}
+use Rattle.lock_law.proofs.Below.fr_typing.PlaceLemmas.{eq_cases}
+use Rattle.lock_law.specs.Below.fr_base.declared.name.MutexNo.{MutexNo}
+use Rattle.lock_law.specs.Below.fr_base.declared.name.ObjNo.{ObjNo}
+use Rattle.lock_law.specs.Below.fr_base.declared.label.Plain.{Plain}
+use Rattle.lock_law.specs.Below.fr_base.declared.instruction.Instr.{Instr}
+use Rattle.lock_law.specs.Below.fr_plain.declared.value.Value.TheVariants.{Own as OwnValue}
+use Rattle.lock_law.specs.Below.fr_plain.MachineThreads.{over, ended}
+use Rattle.lock_law.specs.Below.fr_code.Machine.{CodeState, CodeRunning}
+use Rattle.lock_law.specs.Below.heap_partition.declared.value.Owned.{Owned}
+use Rattle.lock_law.specs.Below.thread_state.View.{ThreadState, is_over}
+use Rattle.lock_law.specs.Below.thread_state.declared.value.Value.{Value}
+use Rattle.lock_law.specs.Below.server_model.declared.event.Event.{Event}
+use Rattle.lock_law.specs.Below.server_model.Servers.{Server, Cluster}
+use Rattle.lock_law.specs.Below.heap_law.Names.{tot, one, some}
+use Rattle.lock_law.specs.Below.heap_law.Things.{Thing, stands, gift_things, things_of}
+use Rattle.lock_law.specs.Below.heap_law.Follow.{Standing, threads_in, thread_at}
+use Rattle.lock_law.specs.Below.heap_law.Sight.{Sight, sight, with_things}
+use Rattle.lock_law.specs.Below.heap_law.Requests.{home_of}
+use Rattle.lock_law.specs.Below.heap_law.Sharing.{has_ended}
+use Rattle.lock_law.specs.Below.heap_law.Naming.{count_of, started_at, made_at, uncounted_thread, zeroth_thread}
+use Rattle.lock_law.specs.Below.heap_law.Weights.{is_thread}
+use Rattle.lock_law.specs.Below.heap_law.OneHeap.{Node, object_n, mutex_n, task_n, is_in_state, is_branch, if_in, or_else, first_shown, cell_value, share_in, content_value, in_pair_of, branch_result, result_value, result_of, ended_with, running_at, life_of, life_at, pair_of, is_given_thread, if_given, state_of}
+use Rattle.lock_law.specs.Below.heap_law.Coherent.{IsSound}
+use Rattle.lock_law.proofs.Below.event_law.Bags.{counts_of}
+use Rattle.lock_law.proofs.Below.still_law.Alike.{Once}
+use Rattle.lock_law.proofs.Below.still_law.Counting.{shown_result}
+use Rattle.lock_law.proofs.Below.still_law.Told.{told, ones, at_most}
+use Rattle.lock_law.proofs.Below.path_law.Contained.{among_thread}
+use Rattle.lock_law.proofs.Below.turn_law.Parts.{Own, owned_in}
+use Rattle.lock_law.proofs.Below.turn_law.OneTurn.{Going, life_as, going_of, going_is, of_thread, after}
+use Rattle.lock_law.proofs.Below.turn_law.Events.{AtStep, given_by_count}
 use Rattle.lock_law.proofs.Reach.{NoneUnder}
 use Rattle.lock_law.proofs.Beside.{IsBeside, IsLoose, loose_beside, all_so, gift_uncounted, all_of, first_with, tot_of, itself, cells_of}
 use Rattle.lock_law.proofs.ThreadTurns.{gift_loose}

@@ -1,41 +1,41 @@
 -- The end of a thread in the one heap: it is over, with its result where somebody will have it, and all else is as it was.
 use Rattle.std.proofs.Common.{◌≡◌, ◌≢◌, ℕ, zero, suc, ◌+◌, ◌≤◌, ◌==◌, ◌&&◌, ◌||◌, not, Bool, true, false, if◌then◌else◌, List, [], ◌∷◌, ◌++◌, Option, Some, None, is_some, option_map, refl, sym, ap, ap₂, ◌∙◌, arith}
 use Rattle.std.specs.List.{AllByRecursion}
-use Rattle.fr_typing.proofs.PlaceLemmas.{eq_cases}
-use Rattle.fr_base.specs.declared.name.MutexNo.{MutexNo}
-use Rattle.fr_base.specs.declared.name.ObjNo.{ObjNo}
-use Rattle.fr_base.specs.declared.label.Plain.{Plain}
-use Rattle.fr_base.specs.declared.label.Plain.TheVariants as plain
-use Rattle.fr_base.specs.declared.instruction.Operand.{Operand}
-use Rattle.fr_base.specs.declared.instruction.Instr.{Instr}
-use Rattle.fr_base.specs.declared.instruction.Instr.TheVariants as instr
-use Rattle.fr_plain.specs.declared.value.Value.TheVariants.{Own as OwnValue}
-use Rattle.fr_plain.specs.MachineThreads.{Life, over, ended}
-use Rattle.fr_code.specs.Machine.{CodeState, CodeRunning}
-use Rattle.heap_partition.specs.Plain.{plain_of}
-use Rattle.heap_partition.specs.declared.value.Owned.{Owned}
-use Rattle.thread_state.specs.View.{ThreadState, is_over}
-use Rattle.thread_state.specs.declared.phase.Phase.TheVariants as phase
-use Rattle.thread_state.specs.declared.value.Value.{Value}
-use Rattle.server_model.specs.declared.event.Event.{Event}
-use Rattle.server_model.specs.Servers.{Server, Cluster}
-use Rattle.heap_law.specs.Names.{tot, one, some}
-use Rattle.heap_law.specs.Things.{as_result, Thing, holds, stands, gift_things}
-use Rattle.heap_law.specs.Follow.{threads_in, thread_at}
-use Rattle.heap_law.specs.Sight.{Sight}
-use Rattle.heap_law.specs.Sharing.{has_ended}
-use Rattle.heap_law.specs.Naming.{started_at, made_at}
-use Rattle.heap_law.specs.Weights.{is_thread}
-use Rattle.heap_law.specs.OneHeap.{Node, task_n, mutex_n, any_named, is_in_state, is_branch, if_in, or_else, first_shown, cell_value, share_in, content_value, in_pair_of, branch_result, result_value, result_of, ended_with, running_at, life_of, life_at, made_of, pair_of, is_given_thread, if_given, state_of}
-use Rattle.heap_law.specs.Coherent.{IsSound}
-use Rattle.event_law.proofs.Bags.{counts_of}
-use Rattle.event_law.proofs.GiftsTaken.{gift_fits}
-use Rattle.still_law.proofs.Alike.{Once}
-use Rattle.still_law.proofs.Counting.{shown_result}
-use Rattle.still_law.proofs.Told.{told, ones, at_most}
-use Rattle.turn_law.proofs.Parts.{Own, owned_in}
-use Rattle.turn_law.proofs.OneTurn.{Going, as_main, as_loose, as_owing, life_as, going_of, going_is, of_thread, Calm, after}
-use Rattle.turn_law.proofs.Events.{AtStep}
+use Rattle.lock_law.proofs.Below.fr_typing.PlaceLemmas.{eq_cases}
+use Rattle.lock_law.specs.Below.fr_base.declared.name.MutexNo.{MutexNo}
+use Rattle.lock_law.specs.Below.fr_base.declared.name.ObjNo.{ObjNo}
+use Rattle.lock_law.specs.Below.fr_base.declared.label.Plain.{Plain}
+use Rattle.lock_law.specs.Below.fr_base.declared.label.Plain.TheVariants as plain
+use Rattle.lock_law.specs.Below.fr_base.declared.instruction.Operand.{Operand}
+use Rattle.lock_law.specs.Below.fr_base.declared.instruction.Instr.{Instr}
+use Rattle.lock_law.specs.Below.fr_base.declared.instruction.Instr.TheVariants as instr
+use Rattle.lock_law.specs.Below.fr_plain.declared.value.Value.TheVariants.{Own as OwnValue}
+use Rattle.lock_law.specs.Below.fr_plain.MachineThreads.{Life, over, ended}
+use Rattle.lock_law.specs.Below.fr_code.Machine.{CodeState, CodeRunning}
+use Rattle.lock_law.specs.Below.heap_partition.Plain.{plain_of}
+use Rattle.lock_law.specs.Below.heap_partition.declared.value.Owned.{Owned}
+use Rattle.lock_law.specs.Below.thread_state.View.{ThreadState, is_over}
+use Rattle.lock_law.specs.Below.thread_state.declared.phase.Phase.TheVariants as phase
+use Rattle.lock_law.specs.Below.thread_state.declared.value.Value.{Value}
+use Rattle.lock_law.specs.Below.server_model.declared.event.Event.{Event}
+use Rattle.lock_law.specs.Below.server_model.Servers.{Server, Cluster}
+use Rattle.lock_law.specs.Below.heap_law.Names.{tot, one, some}
+use Rattle.lock_law.specs.Below.heap_law.Things.{as_result, Thing, holds, stands, gift_things}
+use Rattle.lock_law.specs.Below.heap_law.Follow.{threads_in, thread_at}
+use Rattle.lock_law.specs.Below.heap_law.Sight.{Sight}
+use Rattle.lock_law.specs.Below.heap_law.Sharing.{has_ended}
+use Rattle.lock_law.specs.Below.heap_law.Naming.{started_at, made_at}
+use Rattle.lock_law.specs.Below.heap_law.Weights.{is_thread}
+use Rattle.lock_law.specs.Below.heap_law.OneHeap.{Node, task_n, mutex_n, any_named, is_in_state, is_branch, if_in, or_else, first_shown, cell_value, share_in, content_value, in_pair_of, branch_result, result_value, result_of, ended_with, running_at, life_of, life_at, made_of, pair_of, is_given_thread, if_given, state_of}
+use Rattle.lock_law.specs.Below.heap_law.Coherent.{IsSound}
+use Rattle.lock_law.proofs.Below.event_law.Bags.{counts_of}
+use Rattle.lock_law.proofs.Below.event_law.GiftsTaken.{gift_fits}
+use Rattle.lock_law.proofs.Below.still_law.Alike.{Once}
+use Rattle.lock_law.proofs.Below.still_law.Counting.{shown_result}
+use Rattle.lock_law.proofs.Below.still_law.Told.{told, ones, at_most}
+use Rattle.lock_law.proofs.Below.turn_law.Parts.{Own, owned_in}
+use Rattle.lock_law.proofs.Below.turn_law.OneTurn.{Going, as_main, as_loose, as_owing, life_as, going_of, going_is, of_thread, Calm, after}
+use Rattle.lock_law.proofs.Below.turn_law.Events.{AtStep}
 use Rattle.lock_law.proofs.Reach.{or_right}
 use Rattle.lock_law.proofs.Beside.{IsBeside, IsLoose, loose_beside, all_so, gift_uncounted, first_with, tot_of, itself, cells_of}
 use Rattle.lock_law.proofs.OneNode as one_node

@@ -1,22 +1,22 @@
 -- WHICH INSTRUCTIONS: those of threads that start others, that end, or that wait for others. (A join that asks for its answer does no plain step)
 use Rattle.std.specs.Prelude.{◌≡◌, ◌⊎◌, ◌==◌, Bool, true, false, Option, Some}
-use Rattle.fr_base.specs.Lists.{last_of}
-use Rattle.fr_base.specs.declared.instruction.Operand.{Operand}
-use Rattle.fr_base.specs.declared.instruction.Operand.TheVariants as operand
-use Rattle.fr_base.specs.declared.instruction.Instr.{Instr}
-use Rattle.fr_base.specs.declared.instruction.Instr.TheVariants as instr
-use Rattle.heap_partition.specs.declared.value.Owned.TheVariants as owned
-use Rattle.thread_state.specs.View.{ThreadState}
-use Rattle.thread_state.specs.declared.value.Value.{Value}
-use Rattle.thread_state.specs.declared.value.Value.TheVariants as value
-use Rattle.server_model.specs.declared.event.Event.{Event}
-use Rattle.server_model.specs.Servers.{Cluster}
-use Rattle.server_model.specs.Clusters.{apply}
-use Rattle.heap_law.specs.Sight.{sight}
-use Rattle.heap_law.specs.OneHeap.{task_n, is_in_state}
-use Rattle.heap_law.specs.Coherent.{IsSound}
-use Rattle.event_law.specs.Laws.{Gives, FewEvents}
-use Rattle.turn_law.specs.Turns.{IsPlainStep, none_goes, instr_of, thread_of}
+use Rattle.lock_law.specs.Below.fr_base.Lists.{last_of}
+use Rattle.lock_law.specs.Below.fr_base.declared.instruction.Operand.{Operand}
+use Rattle.lock_law.specs.Below.fr_base.declared.instruction.Operand.TheVariants as operand
+use Rattle.lock_law.specs.Below.fr_base.declared.instruction.Instr.{Instr}
+use Rattle.lock_law.specs.Below.fr_base.declared.instruction.Instr.TheVariants as instr
+use Rattle.lock_law.specs.Below.heap_partition.declared.value.Owned.TheVariants as owned
+use Rattle.lock_law.specs.Below.thread_state.View.{ThreadState}
+use Rattle.lock_law.specs.Below.thread_state.declared.value.Value.{Value}
+use Rattle.lock_law.specs.Below.thread_state.declared.value.Value.TheVariants as value
+use Rattle.lock_law.specs.Below.server_model.declared.event.Event.{Event}
+use Rattle.lock_law.specs.Below.server_model.Servers.{Cluster}
+use Rattle.lock_law.specs.Below.server_model.Clusters.{apply}
+use Rattle.lock_law.specs.Below.heap_law.Sight.{sight}
+use Rattle.lock_law.specs.Below.heap_law.OneHeap.{task_n, is_in_state}
+use Rattle.lock_law.specs.Below.heap_law.Coherent.{IsSound}
+use Rattle.lock_law.specs.Below.event_law.Laws.{Gives, FewEvents}
+use Rattle.lock_law.specs.Below.turn_law.Turns.{IsPlainStep, none_goes, instr_of, thread_of}
 
 -- the end of a pair
 abbrev pub ends_pair : Instr → Bool

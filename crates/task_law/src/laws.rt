@@ -1,6 +1,6 @@
-ghost use Rattle.heap_law.specs.Coherent.{IsSound};
+ghost use Rattle.lock_law.specs.Below.heap_law.Coherent.{IsSound};
 ghost use Rattle.task_law.specs.Tasks.{EndsArePlain, ends_pair, joins_thread, starts_pair, starts_thread};
-ghost use Rattle.turn_law.specs.Turns.{ArePlainSteps};
+ghost use Rattle.lock_law.specs.Below.turn_law.Turns.{ArePlainSteps};
 
 /// From a sound cluster, each step at the end of a pair is the plain step of its thread on the one heap, its messages handed over: the parent goes on, and the results of
 /// both threads are taken. A parent that waits for them doesn't step.

@@ -1,37 +1,37 @@
 -- An assignment through stars, whether it is done or asks.
 use Rattle.std.proofs.Common.{◌≡◌, ℕ, suc, nat_lt, Bool, true, false, if◌then◌else◌, List, length, Option, Some, None, option_map, refl, sym, ap, subst, ◌∙◌}
 use Rattle.std.specs.Prelude.{slice_get, slice_set}
-use Rattle.fr_base.specs.declared.place.Lval.{Lval}
-use Rattle.fr_base.specs.declared.instruction.Operand.{Operand as Item}
-use Rattle.fr_base.specs.declared.instruction.Operand.TheVariants as operand
-use Rattle.fr_base.specs.declared.instruction.Instr.{Instr}
-use Rattle.fr_base.specs.declared.instruction.Instr.TheVariants as instr
-use Rattle.heap_partition.specs.declared.value.Cell.{Cell}
-use Rattle.heap_partition.specs.declared.value.Owned.{Owned}
-use Rattle.heap_partition.specs.declared.value.Owned.TheVariants as owned
-use Rattle.owner_box.specs.Partition.{stored}
-use Rattle.thread_state.specs.View.{ThreadState}
-use Rattle.thread_state.specs.declared.value.Value.{Value}
-use Rattle.thread_state.specs.declared.value.Value.TheVariants as value
-use Rattle.server_model.specs.declared.event.What.TheVariants.{Step}
-use Rattle.server_model.specs.Servers.{Server, Cluster, server_at}
-use Rattle.server_model.specs.Work.{Hand, Popped, Work, label_all, owned_of, pop_owned, taken_as, thread_in, with_partition, with_slots, with_temps, working, last_of, front_of, then_some}
-use Rattle.server_model.specs.Places.{Spot, in_slot, in_cell, nowhere as no_spot, cell_at, value_in as cell_value, value_at, note_write}
-use Rattle.server_model.specs.Drop.{give_up, drop_value}
-use Rattle.server_model.specs.Commit.{label_dropped, store_labels, store_at, replace_at, assign}
-use Rattle.server_model.specs.Events.{enabled, begin_work}
-use Rattle.heap_law.specs.Things.{Location, at_slot, in_cell as in_object}
-use Rattle.type_law.specs.ClusterTypes.{IsCoherent}
-use Rattle.path_law.proofs.Sole.{some_is}
-use Rattle.event_law.specs.Laws.{Gives, FewEvents}
-use Rattle.stay_law.proofs.Steps.{TakesNoneHere}
-use Rattle.prepare_law.specs.Requests.{WordsRise}
-use Rattle.prepare_law.proofs.Hands.{put}
+use Rattle.rewrite_law.specs.Below.fr_base.declared.place.Lval.{Lval}
+use Rattle.rewrite_law.specs.Below.fr_base.declared.instruction.Operand.{Operand as Item}
+use Rattle.rewrite_law.specs.Below.fr_base.declared.instruction.Operand.TheVariants as operand
+use Rattle.rewrite_law.specs.Below.fr_base.declared.instruction.Instr.{Instr}
+use Rattle.rewrite_law.specs.Below.fr_base.declared.instruction.Instr.TheVariants as instr
+use Rattle.rewrite_law.specs.Below.heap_partition.declared.value.Cell.{Cell}
+use Rattle.rewrite_law.specs.Below.heap_partition.declared.value.Owned.{Owned}
+use Rattle.rewrite_law.specs.Below.heap_partition.declared.value.Owned.TheVariants as owned
+use Rattle.rewrite_law.specs.Below.owner_box.Partition.{stored}
+use Rattle.rewrite_law.specs.Below.thread_state.View.{ThreadState}
+use Rattle.rewrite_law.specs.Below.thread_state.declared.value.Value.{Value}
+use Rattle.rewrite_law.specs.Below.thread_state.declared.value.Value.TheVariants as value
+use Rattle.rewrite_law.specs.Below.server_model.declared.event.What.TheVariants.{Step}
+use Rattle.rewrite_law.specs.Below.server_model.Servers.{Server, Cluster, server_at}
+use Rattle.rewrite_law.specs.Below.server_model.Work.{Hand, Popped, Work, label_all, owned_of, pop_owned, taken_as, thread_in, with_partition, with_slots, with_temps, working, last_of, front_of, then_some}
+use Rattle.rewrite_law.specs.Below.server_model.Places.{Spot, in_slot, in_cell, nowhere as no_spot, cell_at, value_in as cell_value, value_at, note_write}
+use Rattle.rewrite_law.specs.Below.server_model.Drop.{give_up, drop_value}
+use Rattle.rewrite_law.specs.Below.server_model.Commit.{label_dropped, store_labels, store_at, replace_at, assign}
+use Rattle.rewrite_law.specs.Below.server_model.Events.{enabled, begin_work}
+use Rattle.rewrite_law.specs.Below.heap_law.Things.{Location, at_slot, in_cell as in_object}
+use Rattle.rewrite_law.specs.Below.type_law.ClusterTypes.{IsCoherent}
+use Rattle.rewrite_law.proofs.Below.path_law.Sole.{some_is}
+use Rattle.rewrite_law.specs.Below.event_law.Laws.{Gives, FewEvents}
+use Rattle.rewrite_law.proofs.Below.stay_law.Steps.{TakesNoneHere}
+use Rattle.rewrite_law.specs.Below.prepare_law.Requests.{WordsRise}
+use Rattle.rewrite_law.proofs.Below.prepare_law.Hands.{put}
 use Rattle.carry_law.proofs.Hands.{Together, each_together, together_chain, puts_alike}
 use Rattle.carry_law.proofs.Places.{set_twice}
-use Rattle.write_law.proofs.Memory.{Leads, looks, leads_on}
-use Rattle.write_law.proofs.Route.{Writing, At, a_slot, a_cell}
-use Rattle.write_law.proofs.Writes.{Light, owned_value, nothing_left}
+use Rattle.rewrite_law.proofs.Below.write_law.Memory.{Leads, looks, leads_on}
+use Rattle.rewrite_law.proofs.Below.write_law.Route.{Writing, At, a_slot, a_cell}
+use Rattle.rewrite_law.proofs.Below.write_law.Writes.{Light, owned_value, nothing_left}
 use Rattle.rewrite_law.specs.Writing.{assigns}
 use Rattle.rewrite_law.proofs.Passing.{State, Fits}
 use Rattle.rewrite_law.proofs.Hops.{Walk}
@@ -96,10 +96,10 @@ module _ (k : Cluster) (coherent : IsCoherent k) (few : FewEvents k) (s : Server
   abbrev h0 : Hand
   h0 = record { work = begin_work s.rest; thread = y }
 
-  abbrev z : Rattle.result_law.proofs.Known.Steps k n t s y i
+  abbrev z : Rattle.rewrite_law.proofs.Below.result_law.Known.Steps k n t s y i
   z = steps k coherent few s here t y at on i code w d (assigns o depth)
 
-  abbrev Cells : Rattle.fr_base.specs.declared.name.ObjNo.ObjNo → Option Cell
+  abbrev Cells : Rattle.rewrite_law.specs.Below.fr_base.declared.name.ObjNo.ObjNo → Option Cell
   Cells = cell_there k n t s y i z w d (assigns o depth)
 
   abbrev leads : ℕ → Option Location
@@ -195,9 +195,9 @@ module _ (k : Cluster) (coherent : IsCoherent k) (few : FewEvents k) (s : Server
         ok2 = without_ok k coherent s here t y at h st_here free m u stood alone
 
         gone : slice_get h2.thread.slots m ≡ Some value.Gone
-        gone = Rattle.word_law.proofs.Slots.set_same h.thread.slots m (value.Own u) value.Gone stood
+        gone = Rattle.rewrite_law.proofs.Below.word_law.Slots.set_same h.thread.slots m (value.Own u) value.Gone stood
 
-        firsts : Rattle.heap_law.specs.Coherent.Holds (P h2) Rattle.heap_law.specs.Coherent.first_at_holder
+        firsts : Rattle.rewrite_law.specs.Below.heap_law.Coherent.Holds (P h2) Rattle.rewrite_law.specs.Below.heap_law.Coherent.first_at_holder
         firsts = (without_so k coherent s here t y at h st_here free m u stood alone).holders st_here.onward.words.first_at_holder
 
         root : Rattle.carry_law.proofs.Hands.RootedIn (P h2)

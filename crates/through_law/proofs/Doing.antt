@@ -1,47 +1,47 @@
 -- A write through stars, from what its plain step does where the place is ready to the words of the cluster after its event.
 use Rattle.std.proofs.Common.{◌≡◌, ℕ, true, [], ◌++◌, Option, Some, None, option_map, refl, sym, ap, subst, arith}
 use Rattle.std.specs.Prelude.{⊤, slice_get}
-use Rattle.fr_base.specs.declared.place.Lval.{Lval}
-use Rattle.fr_base.specs.declared.name.ObjNo.{ObjNo}
-use Rattle.fr_base.specs.declared.step.Fresh.TheVariants as fresh
-use Rattle.fr_base.specs.declared.instruction.Instr.{Instr}
-use Rattle.fr_base.specs.declared.instruction.Instr.TheVariants as instr
-use Rattle.journal.specs.View.{EntryView}
-use Rattle.heap_partition.specs.declared.value.Cell.{Cell}
-use Rattle.heap_partition.specs.declared.value.Owned.{Owned}
-use Rattle.thread_state.specs.View.{ThreadState}
-use Rattle.server_model.specs.declared.event.What.TheVariants.{Step}
-use Rattle.server_model.specs.Servers.{Server, Cluster, server_at}
-use Rattle.server_model.specs.Work.{Hand, thread_in, without_thread, then_some}
-use Rattle.server_model.specs.Clusters.{apply}
-use Rattle.server_model.specs.Places.{Spot, in_slot}
-use Rattle.server_model.specs.Prepare.{Prepared, ready, requested, nothing, assigned, read_or_taken, prepare, write_stars}
-use Rattle.server_model.specs.Commit.{goes_on, go_on, commit, settle}
-use Rattle.server_model.specs.Events.{enabled, begin_work, Stepped, done_step, committed, prepared, step, step_in, stepped, does}
-use Rattle.heap_law.specs.Things.{Location, at_slot, servers_things}
-use Rattle.type_law.specs.ClusterTypes.{IsCoherent}
-use Rattle.word_law.specs.Reworded.{HasPlaces}
-use Rattle.word_law.specs.Unmoved.{taking_by, LeavesWords}
-use Rattle.event_law.specs.Kinds.{instr_kind}
-use Rattle.event_law.proofs.Proved.{IsProvedKind}
-use Rattle.event_law.specs.Laws.{Gives, FewEvents}
-use Rattle.event_law.proofs.Results.{over_gives, both_give}
-use Rattle.event_law.proofs.Bags.{all_standing}
-use Rattle.event_law.proofs.Events.{others_of}
-use Rattle.event_law.proofs.GiftsTaken.{gift_fits}
-use Rattle.event_law.proofs.QuietSteps.{GiftFits}
-use Rattle.event_law.proofs.RulesKeep.{sums_kept, sums_spend}
-use Rattle.event_law.proofs.Steps.{step_keeps}
-use Rattle.stay_law.proofs.Sites.{HandAlike}
-use Rattle.stay_law.proofs.Steps.{TakesNoneHere, settles}
-use Rattle.prepare_law.specs.Requests.{WordsRise}
-use Rattle.prepare_law.proofs.Rising.{rise_left}
-use Rattle.prepare_law.proofs.Hands.{put, places, first_hand}
-use Rattle.prepare_law.proofs.Asking.{found_number}
+use Rattle.rewrite_law.specs.Below.fr_base.declared.place.Lval.{Lval}
+use Rattle.rewrite_law.specs.Below.fr_base.declared.name.ObjNo.{ObjNo}
+use Rattle.rewrite_law.specs.Below.fr_base.declared.step.Fresh.TheVariants as fresh
+use Rattle.rewrite_law.specs.Below.fr_base.declared.instruction.Instr.{Instr}
+use Rattle.rewrite_law.specs.Below.fr_base.declared.instruction.Instr.TheVariants as instr
+use Rattle.rewrite_law.specs.Below.journal.View.{EntryView}
+use Rattle.rewrite_law.specs.Below.heap_partition.declared.value.Cell.{Cell}
+use Rattle.rewrite_law.specs.Below.heap_partition.declared.value.Owned.{Owned}
+use Rattle.rewrite_law.specs.Below.thread_state.View.{ThreadState}
+use Rattle.rewrite_law.specs.Below.server_model.declared.event.What.TheVariants.{Step}
+use Rattle.rewrite_law.specs.Below.server_model.Servers.{Server, Cluster, server_at}
+use Rattle.rewrite_law.specs.Below.server_model.Work.{Hand, thread_in, without_thread, then_some}
+use Rattle.rewrite_law.specs.Below.server_model.Clusters.{apply}
+use Rattle.rewrite_law.specs.Below.server_model.Places.{Spot, in_slot}
+use Rattle.rewrite_law.specs.Below.server_model.Prepare.{Prepared, ready, requested, nothing, assigned, read_or_taken, prepare, write_stars}
+use Rattle.rewrite_law.specs.Below.server_model.Commit.{goes_on, go_on, commit, settle}
+use Rattle.rewrite_law.specs.Below.server_model.Events.{enabled, begin_work, Stepped, done_step, committed, prepared, step, step_in, stepped, does}
+use Rattle.rewrite_law.specs.Below.heap_law.Things.{Location, at_slot, servers_things}
+use Rattle.rewrite_law.specs.Below.type_law.ClusterTypes.{IsCoherent}
+use Rattle.rewrite_law.specs.Below.word_law.Reworded.{HasPlaces}
+use Rattle.rewrite_law.specs.Below.word_law.Unmoved.{taking_by, LeavesWords}
+use Rattle.rewrite_law.specs.Below.event_law.Kinds.{instr_kind}
+use Rattle.rewrite_law.proofs.Below.event_law.Proved.{IsProvedKind}
+use Rattle.rewrite_law.specs.Below.event_law.Laws.{Gives, FewEvents}
+use Rattle.rewrite_law.proofs.Below.event_law.Results.{over_gives, both_give}
+use Rattle.rewrite_law.proofs.Below.event_law.Bags.{all_standing}
+use Rattle.rewrite_law.proofs.Below.event_law.Events.{others_of}
+use Rattle.rewrite_law.proofs.Below.event_law.GiftsTaken.{gift_fits}
+use Rattle.rewrite_law.proofs.Below.event_law.QuietSteps.{GiftFits}
+use Rattle.rewrite_law.proofs.Below.event_law.RulesKeep.{sums_kept, sums_spend}
+use Rattle.rewrite_law.proofs.Below.event_law.Steps.{step_keeps}
+use Rattle.rewrite_law.proofs.Below.stay_law.Sites.{HandAlike}
+use Rattle.rewrite_law.proofs.Below.stay_law.Steps.{TakesNoneHere, settles}
+use Rattle.rewrite_law.specs.Below.prepare_law.Requests.{WordsRise}
+use Rattle.rewrite_law.proofs.Below.prepare_law.Rising.{rise_left}
+use Rattle.rewrite_law.proofs.Below.prepare_law.Hands.{put, places, first_hand}
+use Rattle.rewrite_law.proofs.Below.prepare_law.Asking.{found_number}
 use Rattle.carry_law.proofs.Hands.{Together, each_together, together_chain, puts_alike}
 use Rattle.carry_law.proofs.Steps.{goes_next}
-use Rattle.result_law.proofs.Known.{Steps}
-use Rattle.write_law.proofs.Route.{Writing, At, a_slot, Fine, begins, all_hops}
+use Rattle.rewrite_law.proofs.Below.result_law.Known.{Steps}
+use Rattle.rewrite_law.proofs.Below.write_law.Route.{Writing, At, a_slot, Fine, begins, all_hops}
 use Rattle.rewrite_law.specs.Writing.{WritesThrough, assigns, moves}
 use Rattle.rewrite_law.proofs.Onward.{holds_alike}
 use Rattle.rewrite_law.proofs.Passing.{Fits}

@@ -2,32 +2,32 @@
 use Rattle.std.proofs.Common.{◌≡◌, ◌⊎◌, inl, inr, ⊎_elim, ℕ, zero, suc, ◌+◌, false, List, [], ◌∷◌, ◌++◌, length, Option, Some, None, refl, sym, ap, subst, arith}
 use Rattle.std.specs.Prelude.{slice_set, slice_index_or, slice_get}
 use Rattle.std.proofs.lemmas.List.{length-set}
-use Rattle.global_addr.specs.Words.{address_of}
-use Rattle.heap_partition.specs.declared.value.Cell.{Cell}
-use Rattle.heap_partition.specs.declared.value.Owned.{Owned}
-use Rattle.heap_partition.specs.declared.value.Owned.TheVariants as owned
-use Rattle.owner_box.specs.Partition.{cell_of as cell_under, with_value, stored}
-use Rattle.thread_state.specs.View.{ThreadState}
-use Rattle.thread_state.specs.declared.value.Value.TheVariants as value
-use Rattle.server_model.specs.Servers.{Rest, Cluster}
-use Rattle.server_model.specs.Work.{Hand, look, set_thread}
-use Rattle.server_model.specs.Places.{in_cell as cell_spot, value_at, put_at}
-use Rattle.heap_law.specs.Names.{Among}
-use Rattle.heap_law.specs.Things.{Location, Thing, as_gift, in_hand, holds, lies, stands, counts, things_at, cell_things, free_things, partition_things, copy_things, mutex_things, task_things, standing_things, waiting_things, leaving_things, walk_things, slot_things, temp_things, gift_things, thread_things, server_things, servers_things, things_of}
-use Rattle.heap_law.specs.Things as things
-use Rattle.heap_law.proofs.Bags.{among_split}
-use Rattle.path_law.proofs.Origins.{among_first, among_second}
-use Rattle.word_law.specs.Unmoved.{taking_by}
-use Rattle.word_law.specs.PutBack.{put_in, StandsHere}
-use Rattle.word_law.proofs.Put.{Split, split_whole, split_left, split_right, servers_split, put_split}
-use Rattle.event_law.specs.Sums.{Sums}
-use Rattle.event_law.proofs.Results.{given_by}
-use Rattle.event_law.proofs.Rules.{Rule, comes, hands_on, turned as rule_turned, beside as rules_beside, in_turn}
-use Rattle.event_law.proofs.RulesKeep.{sums_kept}
-use Rattle.event_law.proofs.Bags.{HandOk, had_by}
-use Rattle.event_law.proofs.Objects.{one_goes}
-use Rattle.event_law.proofs.Trades.{Trade}
-use Rattle.event_law.proofs.Values.{thread_trades, puts_at}
+use Rattle.rewrite_law.specs.Below.global_addr.Words.{address_of}
+use Rattle.rewrite_law.specs.Below.heap_partition.declared.value.Cell.{Cell}
+use Rattle.rewrite_law.specs.Below.heap_partition.declared.value.Owned.{Owned}
+use Rattle.rewrite_law.specs.Below.heap_partition.declared.value.Owned.TheVariants as owned
+use Rattle.rewrite_law.specs.Below.owner_box.Partition.{cell_of as cell_under, with_value, stored}
+use Rattle.rewrite_law.specs.Below.thread_state.View.{ThreadState}
+use Rattle.rewrite_law.specs.Below.thread_state.declared.value.Value.TheVariants as value
+use Rattle.rewrite_law.specs.Below.server_model.Servers.{Rest, Cluster}
+use Rattle.rewrite_law.specs.Below.server_model.Work.{Hand, look, set_thread}
+use Rattle.rewrite_law.specs.Below.server_model.Places.{in_cell as cell_spot, value_at, put_at}
+use Rattle.rewrite_law.specs.Below.heap_law.Names.{Among}
+use Rattle.rewrite_law.specs.Below.heap_law.Things.{Location, Thing, as_gift, in_hand, holds, lies, stands, counts, things_at, cell_things, free_things, partition_things, copy_things, mutex_things, task_things, standing_things, waiting_things, leaving_things, walk_things, slot_things, temp_things, gift_things, thread_things, server_things, servers_things, things_of}
+use Rattle.rewrite_law.specs.Below.heap_law.Things as things
+use Rattle.rewrite_law.proofs.Below.heap_law.Bags.{among_split}
+use Rattle.rewrite_law.proofs.Below.path_law.Origins.{among_first, among_second}
+use Rattle.rewrite_law.specs.Below.word_law.Unmoved.{taking_by}
+use Rattle.rewrite_law.specs.Below.word_law.PutBack.{put_in, StandsHere}
+use Rattle.rewrite_law.proofs.Below.word_law.Put.{Split, split_whole, split_left, split_right, servers_split, put_split}
+use Rattle.rewrite_law.specs.Below.event_law.Sums.{Sums}
+use Rattle.rewrite_law.proofs.Below.event_law.Results.{given_by}
+use Rattle.rewrite_law.proofs.Below.event_law.Rules.{Rule, comes, hands_on, turned as rule_turned, beside as rules_beside, in_turn}
+use Rattle.rewrite_law.proofs.Below.event_law.RulesKeep.{sums_kept}
+use Rattle.rewrite_law.proofs.Below.event_law.Bags.{HandOk, had_by}
+use Rattle.rewrite_law.proofs.Below.event_law.Objects.{one_goes}
+use Rattle.rewrite_law.proofs.Below.event_law.Trades.{Trade}
+use Rattle.rewrite_law.proofs.Below.event_law.Values.{thread_trades, puts_at}
 use Rattle.through_law.proofs.Swapped.{emptied, given, Swapped}
 
 -- A CELL WITH ANOTHER VALUE
@@ -243,7 +243,7 @@ module _ (n e t : ℕ) where
       (record {
         rest = things_at (walk_things n) 0 x.walk ++ things_at (slot_things n x.number) 0 x.slots ++ things_at (temp_things n x.number) 0 x.temps;
         before = λ f. omega arith;
-        after = λ f. omega (arith, Rattle.event_law.proofs.Trades.tot-append f (holds (as_gift x.number) u ∷ things_at (walk_things n) 0 x.walk ++ things_at (slot_things n x.number) 0 x.slots) (things_at (temp_things n x.number) 0 x.temps), Rattle.event_law.proofs.Trades.tot-append f (holds (as_gift x.number) u ∷ things_at (walk_things n) 0 x.walk) (things_at (slot_things n x.number) 0 x.slots), Rattle.event_law.proofs.Trades.tot-append f (things_at (walk_things n) 0 x.walk ++ things_at (slot_things n x.number) 0 x.slots) (things_at (temp_things n x.number) 0 x.temps), Rattle.event_law.proofs.Trades.tot-append f (things_at (walk_things n) 0 x.walk) (things_at (slot_things n x.number) 0 x.slots));
+        after = λ f. omega (arith, Rattle.rewrite_law.proofs.Below.event_law.Trades.tot-append f (holds (as_gift x.number) u ∷ things_at (walk_things n) 0 x.walk ++ things_at (slot_things n x.number) 0 x.slots) (things_at (temp_things n x.number) 0 x.temps), Rattle.rewrite_law.proofs.Below.event_law.Trades.tot-append f (holds (as_gift x.number) u ∷ things_at (walk_things n) 0 x.walk) (things_at (slot_things n x.number) 0 x.slots), Rattle.rewrite_law.proofs.Below.event_law.Trades.tot-append f (things_at (walk_things n) 0 x.walk ++ things_at (slot_things n x.number) 0 x.slots) (things_at (temp_things n x.number) 0 x.temps), Rattle.rewrite_law.proofs.Below.event_law.Trades.tot-append f (things_at (walk_things n) 0 x.walk) (things_at (slot_things n x.number) 0 x.slots));
       })
 
   pub gift_comes : (others : List Thing) (u : Owned) (h : Hand) → h.thread.gift ≡ None → O (holds in_hand u ∷ others) h → O others (record h { thread = given h.thread u })
@@ -253,7 +253,7 @@ module _ (n e t : ℕ) where
   pub cell_trades : (others : List Thing) (w : ℕ) (c : Cell) (v : Owned) (h h2 : Hand) → look h.work.rest.partition w ≡ Some c → put_at (cell_spot w None) (value.Own v) h ≡ Some h2 → O (holds in_hand v ∷ others) h → O (holds in_hand c.value ∷ others) h2
   cell_trades others w c v h h2 found put_so g =
       given_by (O (holds in_hand c.value ∷ others)) (put_at (cell_spot w None) (value.Own v) h) h2
-      (puts_at sums_kept n e t (cell_spot w None) (value.Own c.value) (value.Own v) h (ap Rattle.server_model.specs.Places.value_in found) swap rule g) put_so
+      (puts_at sums_kept n e t (cell_spot w None) (value.Own c.value) (value.Own v) h (ap Rattle.rewrite_law.specs.Below.server_model.Places.value_in found) swap rule g) put_so
     where
       swap : Trade (holds in_hand v ∷ others) (holds in_hand v ∷ []) (holds in_hand c.value ∷ []) (holds in_hand c.value ∷ others)
       swap = record { rest = others; before = λ f. omega arith; after = λ f. omega arith }
@@ -264,7 +264,7 @@ module _ (n e t : ℕ) where
           (rule_turned (holds in_hand c.value ∷ holds p v ∷ []) (holds p v ∷ holds in_hand c.value ∷ []) (λ f. omega arith))
 
   pub nothing_comes : (others : List Thing) (h : Hand) → O others h → O (holds in_hand owned.Nothing ∷ others) h
-  nothing_comes others h g = Rattle.event_law.proofs.Values.some_come_by sums_kept n e t others (holds in_hand owned.Nothing ∷ []) h (comes (holds in_hand owned.Nothing) refl) g
+  nothing_comes others h g = Rattle.rewrite_law.proofs.Below.event_law.Values.some_come_by sums_kept n e t others (holds in_hand owned.Nothing ∷ []) h (comes (holds in_hand owned.Nothing) refl) g
 
   pub nothing_goes : (others : List Thing) (h : Hand) → O (holds in_hand owned.Nothing ∷ others) h → O others h
-  nothing_goes others h g = Rattle.event_law.proofs.Values.some_go_by sums_kept n e t others (holds in_hand owned.Nothing ∷ []) h (Rattle.event_law.proofs.Rules.goes (holds in_hand owned.Nothing) refl) g
+  nothing_goes others h g = Rattle.rewrite_law.proofs.Below.event_law.Values.some_go_by sums_kept n e t others (holds in_hand owned.Nothing ∷ []) h (Rattle.rewrite_law.proofs.Below.event_law.Rules.goes (holds in_hand owned.Nothing) refl) g

@@ -1,47 +1,47 @@
 -- What types tell of the end of a place that a thread writes: nobody else is there, and what it owns nobody refers to.
 use Rattle.std.proofs.Common.{◌≡◌, inl, ℕ, zero, suc, ◌-◌, ◌≤◌, true, false, Option, Some, None, refl, sym, ap, subst, ◌∙◌, arith}
 use Rattle.std.specs.Prelude.{slice_get, is_some}
-use Rattle.fr_base.specs.declared.name.ObjNo.{ObjNo}
-use Rattle.fr_base.specs.declared.place.Lval.{Lval}
-use Rattle.fr_base.specs.declared.instruction.Instr.{Instr}
-use Rattle.fr_base.specs.declared.instruction.Instr.TheVariants as instr
-use Rattle.fr_code.specs.CodeTypes.{Entry, Table, InstrTypes, i_assign, i_move}
-use Rattle.fr_store.specs.Keys.{slot_k}
-use Rattle.fr_store.specs.Store.{Store, below_key}
-use Rattle.fr_store.proofs.Sound.{sound}
-use Rattle.heap_partition.specs.declared.value.BoxPtr.{BoxPtr}
-use Rattle.heap_partition.specs.declared.value.Owned.TheVariants as owned
-use Rattle.mut_borrow.specs.declared.mutable.MutRef.{MutRef}
-use Rattle.thread_state.specs.View.{ThreadState, is_over}
-use Rattle.thread_state.specs.declared.phase.Phase.{Phase}
-use Rattle.thread_state.specs.declared.phase.Phase.TheVariants as phase
-use Rattle.thread_state.specs.declared.value.Value.{Value}
-use Rattle.thread_state.specs.declared.value.Value.TheVariants as value
-use Rattle.server_model.specs.Servers.{Server, Cluster}
-use Rattle.heap_law.specs.Names.{Among}
-use Rattle.heap_law.specs.Things.{Location, at_slot, in_cell}
-use Rattle.heap_law.specs.Follow.{Standing, Ground, value_in, value_behind, leads, locate, thread_at}
-use Rattle.heap_law.specs.OneHeap.{two_in, pair_of}
-use Rattle.heap_law.specs.Sight.{Pointer, sight}
-use Rattle.path_law.specs.HeapStore.{in_store, heap_store, HasPaths, GoesOn}
-use Rattle.path_law.specs.Pointing.{MayWrite}
-use Rattle.path_law.proofs.Alike.{leads_in_heap}
-use Rattle.path_law.proofs.Circles.{base_in}
-use Rattle.path_law.proofs.Forms.{running_typed}
-use Rattle.path_law.proofs.FreshPaths.{OwnSlot, own_closed}
-use Rattle.path_law.proofs.Shown.{stands_there}
-use Rattle.path_law.proofs.Sole.{some_is}
-use Rattle.end_law.specs.Dropped.{box_leads, boxes_below, MayGiveUp, a_place}
-use Rattle.end_law.proofs.Owned.{owned_are_alone}
-use Rattle.word_law.specs.Soles.{outline, SameOutlines}
-use Rattle.word_law.specs.Unmoved.{Taking, taking_by, takings}
-use Rattle.word_law.proofs.Follows.{places_lead}
-use Rattle.word_law.proofs.Outlines.{leads_outline, outlined_reference}
-use Rattle.word_law.proofs.Standing.{told}
-use Rattle.read_law.specs.Reading.{lends}
-use Rattle.read_law.proofs.FreshReads.{reading_of, chain_apart}
-use Rattle.result_law.proofs.Known.{Steps, standing, paths, goes, types, entry, typed}
-use Rattle.result_law.proofs.Readers.{to_entry}
+use Rattle.rewrite_law.specs.Below.fr_base.declared.name.ObjNo.{ObjNo}
+use Rattle.rewrite_law.specs.Below.fr_base.declared.place.Lval.{Lval}
+use Rattle.rewrite_law.specs.Below.fr_base.declared.instruction.Instr.{Instr}
+use Rattle.rewrite_law.specs.Below.fr_base.declared.instruction.Instr.TheVariants as instr
+use Rattle.rewrite_law.specs.Below.fr_code.CodeTypes.{Entry, Table, InstrTypes, i_assign, i_move}
+use Rattle.rewrite_law.specs.Below.fr_store.Keys.{slot_k}
+use Rattle.rewrite_law.specs.Below.fr_store.Store.{Store, below_key}
+use Rattle.rewrite_law.proofs.Below.fr_store.Sound.{sound}
+use Rattle.rewrite_law.specs.Below.heap_partition.declared.value.BoxPtr.{BoxPtr}
+use Rattle.rewrite_law.specs.Below.heap_partition.declared.value.Owned.TheVariants as owned
+use Rattle.rewrite_law.specs.Below.mut_borrow.declared.mutable.MutRef.{MutRef}
+use Rattle.rewrite_law.specs.Below.thread_state.View.{ThreadState, is_over}
+use Rattle.rewrite_law.specs.Below.thread_state.declared.phase.Phase.{Phase}
+use Rattle.rewrite_law.specs.Below.thread_state.declared.phase.Phase.TheVariants as phase
+use Rattle.rewrite_law.specs.Below.thread_state.declared.value.Value.{Value}
+use Rattle.rewrite_law.specs.Below.thread_state.declared.value.Value.TheVariants as value
+use Rattle.rewrite_law.specs.Below.server_model.Servers.{Server, Cluster}
+use Rattle.rewrite_law.specs.Below.heap_law.Names.{Among}
+use Rattle.rewrite_law.specs.Below.heap_law.Things.{Location, at_slot, in_cell}
+use Rattle.rewrite_law.specs.Below.heap_law.Follow.{Standing, Ground, value_in, value_behind, leads, locate, thread_at}
+use Rattle.rewrite_law.specs.Below.heap_law.OneHeap.{two_in, pair_of}
+use Rattle.rewrite_law.specs.Below.heap_law.Sight.{Pointer, sight}
+use Rattle.rewrite_law.specs.Below.path_law.HeapStore.{in_store, heap_store, HasPaths, GoesOn}
+use Rattle.rewrite_law.specs.Below.path_law.Pointing.{MayWrite}
+use Rattle.rewrite_law.proofs.Below.path_law.Alike.{leads_in_heap}
+use Rattle.rewrite_law.proofs.Below.path_law.Circles.{base_in}
+use Rattle.rewrite_law.proofs.Below.path_law.Forms.{running_typed}
+use Rattle.rewrite_law.proofs.Below.path_law.FreshPaths.{OwnSlot, own_closed}
+use Rattle.rewrite_law.proofs.Below.path_law.Shown.{stands_there}
+use Rattle.rewrite_law.proofs.Below.path_law.Sole.{some_is}
+use Rattle.carry_law.specs.Below.end_law.Dropped.{box_leads, boxes_below, MayGiveUp, a_place}
+use Rattle.carry_law.proofs.Below.end_law.Owned.{owned_are_alone}
+use Rattle.rewrite_law.specs.Below.word_law.Soles.{outline, SameOutlines}
+use Rattle.rewrite_law.specs.Below.word_law.Unmoved.{Taking, taking_by, takings}
+use Rattle.rewrite_law.proofs.Below.word_law.Follows.{places_lead}
+use Rattle.rewrite_law.proofs.Below.word_law.Outlines.{leads_outline, outlined_reference}
+use Rattle.rewrite_law.proofs.Below.word_law.Standing.{told}
+use Rattle.rewrite_law.specs.Below.read_law.Reading.{lends}
+use Rattle.rewrite_law.proofs.Below.read_law.FreshReads.{reading_of, chain_apart}
+use Rattle.rewrite_law.proofs.Below.result_law.Known.{Steps, standing, paths, goes, types, entry, typed}
+use Rattle.rewrite_law.proofs.Below.result_law.Readers.{to_entry}
 use Rattle.carry_law.proofs.Hands.{RootedIn}
 use Rattle.carry_law.proofs.Owned.{OwnsAlone}
 use Rattle.carry_law.proofs.Taken.{taker_of}

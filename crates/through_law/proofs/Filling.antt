@@ -1,36 +1,36 @@
 -- An owned value is put into a slot, and what the slot had is dropped: in turn, as in a cell.
 use Rattle.std.proofs.Common.{◌≡◌, ◌⊎◌, inl, inr, ⊎_elim, ℕ, ◌+◌, true, false, List, [], ◌∷◌, ◌++◌, length, Some, None, refl, sym, ap, ◌∙◌}
 use Rattle.std.specs.Prelude.{slice_get, slice_set}
-use Rattle.fr_typing.proofs.PlaceLemmas.{eq_cases}
-use Rattle.heap_partition.specs.declared.value.Owned.{Owned}
-use Rattle.heap_partition.specs.declared.value.Owned.TheVariants as owned
-use Rattle.thread_state.specs.View.{ThreadState}
-use Rattle.thread_state.specs.declared.value.Value.{Value}
-use Rattle.thread_state.specs.declared.value.Value.TheVariants as value
-use Rattle.server_model.specs.Servers.{Server, Cluster, server_at}
-use Rattle.server_model.specs.Work.{Hand, thread_in, without_thread, with_slots, with_temps, front_of}
-use Rattle.server_model.specs.Places.{owns_nothing, nowhere as no_spot}
-use Rattle.server_model.specs.Drop.{give_up}
-use Rattle.heap_law.specs.Things.{at_slot, in_hand, holds, in_slot, Thing, thread_things, slot_things, servers_things, things_of}
-use Rattle.heap_law.specs.Coherent.{Holds, first_at_holder}
-use Rattle.type_law.specs.ClusterTypes.{IsCoherent}
-use Rattle.word_law.specs.Reworded.{HasPlaces}
-use Rattle.word_law.specs.Unmoved.{pointing, LeavesWords}
-use Rattle.word_law.proofs.Put.{Split, put_split}
-use Rattle.word_law.proofs.Slots.{set_same, set_other}
-use Rattle.event_law.specs.Sums.{Sums}
-use Rattle.event_law.proofs.Bags.{HandOk, all_standing, body_things}
-use Rattle.event_law.proofs.Drops.{drops_keep}
-use Rattle.event_law.proofs.Events.{others_of}
-use Rattle.event_law.proofs.Objects.{one_comes, one_goes}
-use Rattle.event_law.proofs.Rules.{comes, hands_on}
-use Rattle.event_law.proofs.RulesKeep.{sums_kept}
-use Rattle.event_law.proofs.Values.{last_split, slot_changes, pops_temp, some_come_by}
-use Rattle.stay_law.proofs.Alike.{itself, turned, beside}
-use Rattle.stay_law.proofs.Servers.{RestAlike, held, held_if, given_up}
-use Rattle.stay_law.proofs.Steps.{owned_unseen, TakesNoneHere}
-use Rattle.stay_law.proofs.Threads.{temps_of, thread_alike}
-use Rattle.prepare_law.proofs.Hands.{put, places, stands}
+use Rattle.rewrite_law.proofs.Below.fr_typing.PlaceLemmas.{eq_cases}
+use Rattle.rewrite_law.specs.Below.heap_partition.declared.value.Owned.{Owned}
+use Rattle.rewrite_law.specs.Below.heap_partition.declared.value.Owned.TheVariants as owned
+use Rattle.rewrite_law.specs.Below.thread_state.View.{ThreadState}
+use Rattle.rewrite_law.specs.Below.thread_state.declared.value.Value.{Value}
+use Rattle.rewrite_law.specs.Below.thread_state.declared.value.Value.TheVariants as value
+use Rattle.rewrite_law.specs.Below.server_model.Servers.{Server, Cluster, server_at}
+use Rattle.rewrite_law.specs.Below.server_model.Work.{Hand, thread_in, without_thread, with_slots, with_temps, front_of}
+use Rattle.rewrite_law.specs.Below.server_model.Places.{owns_nothing, nowhere as no_spot}
+use Rattle.rewrite_law.specs.Below.server_model.Drop.{give_up}
+use Rattle.rewrite_law.specs.Below.heap_law.Things.{at_slot, in_hand, holds, in_slot, Thing, thread_things, slot_things, servers_things, things_of}
+use Rattle.rewrite_law.specs.Below.heap_law.Coherent.{Holds, first_at_holder}
+use Rattle.rewrite_law.specs.Below.type_law.ClusterTypes.{IsCoherent}
+use Rattle.rewrite_law.specs.Below.word_law.Reworded.{HasPlaces}
+use Rattle.rewrite_law.specs.Below.word_law.Unmoved.{pointing, LeavesWords}
+use Rattle.rewrite_law.proofs.Below.word_law.Put.{Split, put_split}
+use Rattle.rewrite_law.proofs.Below.word_law.Slots.{set_same, set_other}
+use Rattle.rewrite_law.specs.Below.event_law.Sums.{Sums}
+use Rattle.rewrite_law.proofs.Below.event_law.Bags.{HandOk, all_standing, body_things}
+use Rattle.rewrite_law.proofs.Below.event_law.Drops.{drops_keep}
+use Rattle.rewrite_law.proofs.Below.event_law.Events.{others_of}
+use Rattle.rewrite_law.proofs.Below.event_law.Objects.{one_comes, one_goes}
+use Rattle.rewrite_law.proofs.Below.event_law.Rules.{comes, hands_on}
+use Rattle.rewrite_law.proofs.Below.event_law.RulesKeep.{sums_kept}
+use Rattle.rewrite_law.proofs.Below.event_law.Values.{last_split, slot_changes, pops_temp, some_come_by}
+use Rattle.rewrite_law.proofs.Below.stay_law.Alike.{itself, turned, beside}
+use Rattle.rewrite_law.proofs.Below.stay_law.Servers.{RestAlike, held, held_if, given_up}
+use Rattle.rewrite_law.proofs.Below.stay_law.Steps.{owned_unseen, TakesNoneHere}
+use Rattle.rewrite_law.proofs.Below.stay_law.Threads.{temps_of, thread_alike}
+use Rattle.rewrite_law.proofs.Below.prepare_law.Hands.{put, places, stands}
 use Rattle.carry_law.specs.Carried.{Carried}
 use Rattle.carry_law.proofs.Carrying.{carried_stays}
 use Rattle.carry_law.proofs.Hands.{RootedIn, rooted, Moved, seen, passed, moved_from, leaves_chain}

@@ -1,33 +1,33 @@
 -- What stands where an assignment through stars comes to: an owned value, or none any more.
 use Rattle.std.proofs.Common.{◌≡◌, ℕ, suc, true, false, Some, refl, subst}
-use Rattle.fr_base.specs.declared.place.Lval.{Lval}
-use Rattle.fr_base.specs.declared.instruction.Operand.{Operand}
-use Rattle.fr_base.specs.declared.instruction.Instr.{Instr}
-use Rattle.fr_base.specs.declared.instruction.Instr.TheVariants as instr
-use Rattle.fr_typing.specs.Kinds.{Owned as OwnedType, Kind, own, Piece}
-use Rattle.fr_typing.specs.Places.{owned_shape, found, piece_shape, equal_shapes, shape_at}
-use Rattle.fr_typing.specs.Checks.{is_kept_out, has_shape_of}
-use Rattle.fr_typing.specs.Finding.{IsOpen}
-use Rattle.fr_store.specs.Keys.{slot_k}
-use Rattle.fr_store.specs.Typed.{KeyTypes}
-use Rattle.fr_store.specs.Below.{ExactOf}
-use Rattle.fr_store.proofs.Below.{Resolved, mut_place, resolved_writable}
-use Rattle.fr_code.specs.CodeTypes.{Entry, Table, HasType, InstrTypes, i_assign}
-use Rattle.thread_state.specs.View.{ThreadState}
-use Rattle.thread_state.specs.declared.value.Value.{Value}
-use Rattle.server_model.specs.Servers.{Server, Cluster}
-use Rattle.server_model.specs.Work.{Hand}
-use Rattle.server_model.specs.Places.{Spot}
-use Rattle.heap_law.specs.Things.{Location, at_slot}
-use Rattle.heap_law.specs.Follow.{Standing}
-use Rattle.path_law.specs.HeapStore.{heap_store, GoesOn, IsUnmarked, HasPaths}
-use Rattle.path_law.proofs.Forms.{names as names_at}
-use Rattle.path_law.proofs.MayWrites.{awake_thread, slot_there, variable_unmarked}
-use Rattle.result_law.proofs.Known.{Steps, standing, paths, goes, types, entry, typed}
-use Rattle.result_law.proofs.Found.{Stood, slot_stands, cell_stands}
-use Rattle.result_law.proofs.Readers.{to_entry}
-use Rattle.write_law.proofs.Route.{Writing, At}
-use Rattle.write_law.proofs.Writes.{Light, owned_value, light_form, owned_part, kept_owned, end_is}
+use Rattle.rewrite_law.specs.Below.fr_base.declared.place.Lval.{Lval}
+use Rattle.rewrite_law.specs.Below.fr_base.declared.instruction.Operand.{Operand}
+use Rattle.rewrite_law.specs.Below.fr_base.declared.instruction.Instr.{Instr}
+use Rattle.rewrite_law.specs.Below.fr_base.declared.instruction.Instr.TheVariants as instr
+use Rattle.rewrite_law.specs.Below.fr_typing.Kinds.{Owned as OwnedType, Kind, own, Piece}
+use Rattle.rewrite_law.specs.Below.fr_typing.Places.{owned_shape, found, piece_shape, equal_shapes, shape_at}
+use Rattle.rewrite_law.specs.Below.fr_typing.Checks.{is_kept_out, has_shape_of}
+use Rattle.rewrite_law.specs.Below.fr_typing.Finding.{IsOpen}
+use Rattle.rewrite_law.specs.Below.fr_store.Keys.{slot_k}
+use Rattle.rewrite_law.specs.Below.fr_store.Typed.{KeyTypes}
+use Rattle.rewrite_law.specs.Below.fr_store.Below.{ExactOf}
+use Rattle.rewrite_law.proofs.Below.fr_store.Below.{Resolved, mut_place, resolved_writable}
+use Rattle.rewrite_law.specs.Below.fr_code.CodeTypes.{Entry, Table, HasType, InstrTypes, i_assign}
+use Rattle.rewrite_law.specs.Below.thread_state.View.{ThreadState}
+use Rattle.rewrite_law.specs.Below.thread_state.declared.value.Value.{Value}
+use Rattle.rewrite_law.specs.Below.server_model.Servers.{Server, Cluster}
+use Rattle.rewrite_law.specs.Below.server_model.Work.{Hand}
+use Rattle.rewrite_law.specs.Below.server_model.Places.{Spot}
+use Rattle.rewrite_law.specs.Below.heap_law.Things.{Location, at_slot}
+use Rattle.rewrite_law.specs.Below.heap_law.Follow.{Standing}
+use Rattle.rewrite_law.specs.Below.path_law.HeapStore.{heap_store, GoesOn, IsUnmarked, HasPaths}
+use Rattle.rewrite_law.proofs.Below.path_law.Forms.{names as names_at}
+use Rattle.rewrite_law.proofs.Below.path_law.MayWrites.{awake_thread, slot_there, variable_unmarked}
+use Rattle.rewrite_law.proofs.Below.result_law.Known.{Steps, standing, paths, goes, types, entry, typed}
+use Rattle.rewrite_law.proofs.Below.result_law.Found.{Stood, slot_stands, cell_stands}
+use Rattle.rewrite_law.proofs.Below.result_law.Readers.{to_entry}
+use Rattle.rewrite_law.proofs.Below.write_law.Route.{Writing, At}
+use Rattle.rewrite_law.proofs.Below.write_law.Writes.{Light, owned_value, light_form, owned_part, kept_owned, end_is}
 use Rattle.rewrite_law.specs.Writing.{assigns}
 use Rattle.rewrite_law.proofs.Ways.{short, writes, cell_there, place}
 
@@ -89,7 +89,7 @@ module _ (k : Cluster) (n t : ℕ) (s : Server) (y : ThreadState) (w : Lval) (d 
 
   -- at the spot where the place is ready
   pub light_end : (h : Hand) (sp : Spot) (l : Location) → place k n t s y i z w d (assigns o depth) w.depth ≡ Some l → At s.rest y (cell_there k n t s y i z w d (assigns o depth)) (place k n t s y i z w d (assigns o depth)) h.work.rest.partition w.depth sp l
-      → Writing s.rest y (cell_there k n t s y i z w d (assigns o depth)) (place k n t s y i z w d (assigns o depth)) w.depth h → (v : Value) × (Rattle.server_model.specs.Places.value_at h sp ≡ Some v) × Light v
+      → Writing s.rest y (cell_there k n t s y i z w d (assigns o depth)) (place k n t s y i z w d (assigns o depth)) w.depth h → (v : Value) × (Rattle.rewrite_law.specs.Below.server_model.Places.value_at h sp ≡ Some v) × Light v
   light_end h sp l ends spot a =
       let q = end_is k n t s y i z w d depth (writes k n t s y i z w d (assigns o depth)) (short k n t s y i z w d (assigns o depth)) written_place.base written_place.boxes written_place.type written_place.res unmarked h sp l ends spot a in
       (q.item, q.there, q.light (λ m u stood. light_there (at_slot y.number m) u stood))

@@ -1,36 +1,36 @@
 -- The hand where a place is ready: the reference that led straight to its cell is marked first.
 use Rattle.std.proofs.Common.{◌≡◌, ⊎_elim, ℕ, ◌+◌, true, false, List, ◌++◌, Option, Some, None, refl, sym, ap, subst, ◌∙◌}
 use Rattle.std.specs.Prelude.{slice_get}
-use Rattle.fr_base.specs.declared.instruction.Instr.{Instr}
-use Rattle.mut_borrow.specs.declared.mutable.MutRef.{MutRef}
-use Rattle.thread_state.specs.View.{ThreadState}
-use Rattle.thread_state.specs.declared.value.Value.{Value}
-use Rattle.thread_state.specs.declared.value.Value.TheVariants as value
-use Rattle.server_model.specs.Servers.{Rest, Server, Cluster, server_at}
-use Rattle.server_model.specs.Work.{Hand, thread_in, without_thread, with_slots}
-use Rattle.server_model.specs.Places.{note_slot, note_write}
-use Rattle.heap_law.specs.Names.{Among}
-use Rattle.heap_law.specs.Things.{at_slot, in_cell, borrows, Thing, thread_things, servers_things, things_of}
-use Rattle.heap_law.specs.Follow.{value_in, leads}
-use Rattle.heap_law.specs.Sight.{sight}
-use Rattle.type_law.specs.ClusterTypes.{IsCoherent}
-use Rattle.event_law.specs.Sums.{Sums}
-use Rattle.event_law.proofs.Rules.{comes, goes, in_turn}
-use Rattle.event_law.proofs.RulesKeep.{sums_kept}
-use Rattle.event_law.proofs.Trades.{trade_none}
-use Rattle.event_law.proofs.Bags.{all_standing, body_things, rest_things}
-use Rattle.event_law.proofs.Events.{others_of}
-use Rattle.event_law.proofs.Values.{slot_changes}
-use Rattle.stay_law.proofs.Alike.{itself}
-use Rattle.fr_base.specs.declared.name.ObjNo.{ObjNo}
-use Rattle.word_law.specs.Reworded.{HasPlaces}
-use Rattle.word_law.specs.Unmoved.{takings, Untouched}
-use Rattle.word_law.proofs.Follows.{seen_places_lead}
-use Rattle.word_law.proofs.Put.{Split, put_split}
-use Rattle.word_law.proofs.Takings.{leads_pointing}
-use Rattle.stay_law.proofs.Seen.{seen_alike}
-use Rattle.stay_law.proofs.Steps.{TakesNoneHere}
-use Rattle.prepare_law.proofs.Hands.{put, places, stands}
+use Rattle.rewrite_law.specs.Below.fr_base.declared.instruction.Instr.{Instr}
+use Rattle.rewrite_law.specs.Below.mut_borrow.declared.mutable.MutRef.{MutRef}
+use Rattle.rewrite_law.specs.Below.thread_state.View.{ThreadState}
+use Rattle.rewrite_law.specs.Below.thread_state.declared.value.Value.{Value}
+use Rattle.rewrite_law.specs.Below.thread_state.declared.value.Value.TheVariants as value
+use Rattle.rewrite_law.specs.Below.server_model.Servers.{Rest, Server, Cluster, server_at}
+use Rattle.rewrite_law.specs.Below.server_model.Work.{Hand, thread_in, without_thread, with_slots}
+use Rattle.rewrite_law.specs.Below.server_model.Places.{note_slot, note_write}
+use Rattle.rewrite_law.specs.Below.heap_law.Names.{Among}
+use Rattle.rewrite_law.specs.Below.heap_law.Things.{at_slot, in_cell, borrows, Thing, thread_things, servers_things, things_of}
+use Rattle.rewrite_law.specs.Below.heap_law.Follow.{value_in, leads}
+use Rattle.rewrite_law.specs.Below.heap_law.Sight.{sight}
+use Rattle.rewrite_law.specs.Below.type_law.ClusterTypes.{IsCoherent}
+use Rattle.rewrite_law.specs.Below.event_law.Sums.{Sums}
+use Rattle.rewrite_law.proofs.Below.event_law.Rules.{comes, goes, in_turn}
+use Rattle.rewrite_law.proofs.Below.event_law.RulesKeep.{sums_kept}
+use Rattle.rewrite_law.proofs.Below.event_law.Trades.{trade_none}
+use Rattle.rewrite_law.proofs.Below.event_law.Bags.{all_standing, body_things, rest_things}
+use Rattle.rewrite_law.proofs.Below.event_law.Events.{others_of}
+use Rattle.rewrite_law.proofs.Below.event_law.Values.{slot_changes}
+use Rattle.rewrite_law.proofs.Below.stay_law.Alike.{itself}
+use Rattle.rewrite_law.specs.Below.fr_base.declared.name.ObjNo.{ObjNo}
+use Rattle.rewrite_law.specs.Below.word_law.Reworded.{HasPlaces}
+use Rattle.rewrite_law.specs.Below.word_law.Unmoved.{takings, Untouched}
+use Rattle.rewrite_law.proofs.Below.word_law.Follows.{seen_places_lead}
+use Rattle.rewrite_law.proofs.Below.word_law.Put.{Split, put_split}
+use Rattle.rewrite_law.proofs.Below.word_law.Takings.{leads_pointing}
+use Rattle.rewrite_law.proofs.Below.stay_law.Seen.{seen_alike}
+use Rattle.rewrite_law.proofs.Below.stay_law.Steps.{TakesNoneHere}
+use Rattle.rewrite_law.proofs.Below.prepare_law.Hands.{put, places, stands}
 use Rattle.carry_law.proofs.Hands.{RootedIn, Together, puts_alike}
 use Rattle.carry_law.proofs.Replaced.{in_slots, in_cells, takings_same}
 use Rattle.rewrite_law.proofs.Passing.{Fits, State}
@@ -55,8 +55,8 @@ pub together_by : {code : List Instr} {n : ℕ} (ha hb : Hand) → hb.thread ≡
 together_by {code = code} {n = n} ha hb e f = record {
   number = ap (λ (r : Rest). r.number) f;
   named = ap (λ (x : ThreadState). x.number) e;
-  alike = subst (λ x. Rattle.stay_law.proofs.Alike.Alike code (thread_things n false ha.thread ++ body_things n ha.work.rest) (thread_things n false x ++ body_things n hb.work.rest)) (sym e)
-      (subst (λ r. Rattle.stay_law.proofs.Alike.Alike code (thread_things n false ha.thread ++ body_things n ha.work.rest) (thread_things n false ha.thread ++ body_things n r)) (sym f) (itself (thread_things n false ha.thread ++ body_things n ha.work.rest)));
+  alike = subst (λ x. Rattle.rewrite_law.proofs.Below.stay_law.Alike.Alike code (thread_things n false ha.thread ++ body_things n ha.work.rest) (thread_things n false x ++ body_things n hb.work.rest)) (sym e)
+      (subst (λ r. Rattle.rewrite_law.proofs.Below.stay_law.Alike.Alike code (thread_things n false ha.thread ++ body_things n ha.work.rest) (thread_things n false ha.thread ++ body_things n r)) (sym f) (itself (thread_things n false ha.thread ++ body_things n ha.work.rest)));
 }
 
 module _ (k : Cluster) (coherent : IsCoherent k) (s : Server) (here : server_at k.servers s.rest.number ≡ Some s) (t : ℕ) (y : ThreadState) (at : thread_in s.threads t ≡ Some y) where
@@ -79,7 +79,7 @@ module _ (k : Cluster) (coherent : IsCoherent k) (s : Server) (here : server_at 
       (slot_changes sums_kept n s.events t h i (value.Mut r) new u.1 (trade_none others) (in_turn (goes (borrows l r) refl) (comes (borrows l (record r { dirty = true })) refl)) g)
 
   -- the mark is a small step
-  pub mark_state : (h : Hand) (w : ℕ) (q : Option ℕ) → Walk k coherent s here t y at h (Rattle.server_model.specs.Places.in_cell w q) → State k coherent s here t y at (note_write q h)
+  pub mark_state : (h : Hand) (w : ℕ) (q : Option ℕ) → Walk k coherent s here t y at h (Rattle.rewrite_law.specs.Below.server_model.Places.in_cell w q) → State k coherent s here t y at (note_write q h)
   mark_state h w q walk = (marked k coherent s here t y at h w q walk.state walk.later walk.through (mark_fits h q walk.state.ok walk.through)).state
 
   abbrev P : Hand → Cluster

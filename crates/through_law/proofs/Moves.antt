@@ -1,28 +1,28 @@
 -- A move out through stars, whether it is done or asks.
 use Rattle.std.proofs.Common.{◌≡◌, ℕ, suc, true, if◌then◌else◌, [], ◌∷◌, ◌++◌, Option, Some, None, option_map, refl, sym, ap, subst, ◌∙◌}
 use Rattle.std.specs.Prelude.{slice_get}
-use Rattle.fr_base.specs.declared.name.ObjNo.{ObjNo}
-use Rattle.fr_base.specs.declared.place.Lval.{Lval}
-use Rattle.fr_base.specs.declared.instruction.Instr.{Instr}
-use Rattle.fr_base.specs.declared.instruction.Instr.TheVariants as instr
-use Rattle.heap_partition.specs.declared.value.Cell.{Cell}
-use Rattle.heap_partition.specs.declared.value.Owned.TheVariants as owned
-use Rattle.owner_box.specs.Partition.{stored}
-use Rattle.thread_state.specs.View.{ThreadState}
-use Rattle.thread_state.specs.declared.value.Value.TheVariants as value
-use Rattle.server_model.specs.declared.event.What.TheVariants.{Step}
-use Rattle.server_model.specs.Servers.{Server, Cluster, server_at}
-use Rattle.server_model.specs.Work.{Hand, Work, label_all, push_temp, thread_in, with_partition, working, then_some}
-use Rattle.server_model.specs.Places.{Spot, in_cell, cell_at, value_in as cell_value, load_at, note_write}
-use Rattle.server_model.specs.Commit.{store_labels, take_out, read}
-use Rattle.server_model.specs.Events.{enabled}
-use Rattle.heap_law.specs.Things.{Location, in_cell as in_object}
-use Rattle.type_law.specs.ClusterTypes.{IsCoherent}
-use Rattle.event_law.specs.Laws.{Gives, FewEvents}
-use Rattle.stay_law.proofs.Steps.{TakesNoneHere}
-use Rattle.result_law.proofs.Known.{Steps}
-use Rattle.write_law.proofs.Memory.{Leads, looks, leads_on}
-use Rattle.write_law.proofs.Route.{Writing, At, a_slot, a_cell}
+use Rattle.rewrite_law.specs.Below.fr_base.declared.name.ObjNo.{ObjNo}
+use Rattle.rewrite_law.specs.Below.fr_base.declared.place.Lval.{Lval}
+use Rattle.rewrite_law.specs.Below.fr_base.declared.instruction.Instr.{Instr}
+use Rattle.rewrite_law.specs.Below.fr_base.declared.instruction.Instr.TheVariants as instr
+use Rattle.rewrite_law.specs.Below.heap_partition.declared.value.Cell.{Cell}
+use Rattle.rewrite_law.specs.Below.heap_partition.declared.value.Owned.TheVariants as owned
+use Rattle.rewrite_law.specs.Below.owner_box.Partition.{stored}
+use Rattle.rewrite_law.specs.Below.thread_state.View.{ThreadState}
+use Rattle.rewrite_law.specs.Below.thread_state.declared.value.Value.TheVariants as value
+use Rattle.rewrite_law.specs.Below.server_model.declared.event.What.TheVariants.{Step}
+use Rattle.rewrite_law.specs.Below.server_model.Servers.{Server, Cluster, server_at}
+use Rattle.rewrite_law.specs.Below.server_model.Work.{Hand, Work, label_all, push_temp, thread_in, with_partition, working, then_some}
+use Rattle.rewrite_law.specs.Below.server_model.Places.{Spot, in_cell, cell_at, value_in as cell_value, load_at, note_write}
+use Rattle.rewrite_law.specs.Below.server_model.Commit.{store_labels, take_out, read}
+use Rattle.rewrite_law.specs.Below.server_model.Events.{enabled}
+use Rattle.rewrite_law.specs.Below.heap_law.Things.{Location, in_cell as in_object}
+use Rattle.rewrite_law.specs.Below.type_law.ClusterTypes.{IsCoherent}
+use Rattle.rewrite_law.specs.Below.event_law.Laws.{Gives, FewEvents}
+use Rattle.rewrite_law.proofs.Below.stay_law.Steps.{TakesNoneHere}
+use Rattle.rewrite_law.proofs.Below.result_law.Known.{Steps}
+use Rattle.rewrite_law.proofs.Below.write_law.Memory.{Leads, looks, leads_on}
+use Rattle.rewrite_law.proofs.Below.write_law.Route.{Writing, At, a_slot, a_cell}
 use Rattle.rewrite_law.specs.Writing.{moves}
 use Rattle.rewrite_law.proofs.Passing.{State}
 use Rattle.rewrite_law.proofs.Hops.{Walk}

@@ -1,33 +1,33 @@
 -- What is moved out through stars stands in a cell: its place leads over boxes alone.
 use Rattle.std.proofs.Common.{◌≡◌, ◌≤◌, ◌<◌, ℕ, zero, suc, ◌||◌, not, Bool, true, false, if◌then◌else◌, List, [], ◌∷◌, length, Some, refl, sym, ap, subst, ◌∙◌, arith}
 use Rattle.std.specs.Prelude.{slice_get}
-use Rattle.fr_base.specs.declared.place.Lval.{Lval}
-use Rattle.fr_base.specs.declared.name.ObjNo.{ObjNo}
-use Rattle.fr_base.specs.declared.instruction.Instr.{Instr}
-use Rattle.fr_base.specs.declared.instruction.Instr.TheVariants as instr
-use Rattle.fr_typing.proofs.PlaceLemmas.{eq_cases}
-use Rattle.fr_typing.specs.Kinds.{Piece, whole}
-use Rattle.fr_typing.specs.Places.{Env, Slot, Found, found, type_at, on_path, is_lent, is_mutable, is_own_path}
-use Rattle.fr_store.specs.Keys.{Key, slot_k}
-use Rattle.fr_store.specs.Store.{Place as StorePlace}
-use Rattle.fr_store.specs.Typed.{Exact, owns, refers, KeyTypes}
-use Rattle.fr_store.specs.Below.{ExactOf, SlotsBelow}
-use Rattle.fr_store.proofs.Below.{or_false}
-use Rattle.fr_store.proofs.ThreadKept.{lent_ref}
-use Rattle.fr_code.specs.CodeTypes.{Entry, Table, HasType, InstrTypes, i_move}
-use Rattle.thread_state.specs.View.{ThreadState}
-use Rattle.thread_state.specs.declared.value.Value.{Value}
-use Rattle.thread_state.specs.declared.value.Value.TheVariants as value
-use Rattle.server_model.specs.Servers.{Server, Cluster}
-use Rattle.heap_law.specs.Things.{Location, at_slot, in_cell}
-use Rattle.heap_law.specs.Follow.{Standing}
-use Rattle.path_law.specs.HeapStore.{GoesOn, HasPaths}
-use Rattle.path_law.proofs.Forms.{names as names_at, slots_below, slot_piece, HasPiece}
-use Rattle.path_law.proofs.MayWrites.{slot_there}
-use Rattle.result_law.proofs.Known.{Steps, paths, standing, goes, types, entry, typed}
-use Rattle.result_law.proofs.Readers.{to_entry}
-use Rattle.write_law.proofs.Route.{Route, Hop, by_slot, by_reference, by_box, by_cell}
-use Rattle.write_law.proofs.Writes.{Light, owned_value, nothing_left, light_form}
+use Rattle.rewrite_law.specs.Below.fr_base.declared.place.Lval.{Lval}
+use Rattle.rewrite_law.specs.Below.fr_base.declared.name.ObjNo.{ObjNo}
+use Rattle.rewrite_law.specs.Below.fr_base.declared.instruction.Instr.{Instr}
+use Rattle.rewrite_law.specs.Below.fr_base.declared.instruction.Instr.TheVariants as instr
+use Rattle.rewrite_law.proofs.Below.fr_typing.PlaceLemmas.{eq_cases}
+use Rattle.rewrite_law.specs.Below.fr_typing.Kinds.{Piece, whole}
+use Rattle.rewrite_law.specs.Below.fr_typing.Places.{Env, Slot, Found, found, type_at, on_path, is_lent, is_mutable, is_own_path}
+use Rattle.rewrite_law.specs.Below.fr_store.Keys.{Key, slot_k}
+use Rattle.rewrite_law.specs.Below.fr_store.Store.{Place as StorePlace}
+use Rattle.rewrite_law.specs.Below.fr_store.Typed.{Exact, owns, refers, KeyTypes}
+use Rattle.rewrite_law.specs.Below.fr_store.Below.{ExactOf, SlotsBelow}
+use Rattle.rewrite_law.proofs.Below.fr_store.Below.{or_false}
+use Rattle.rewrite_law.proofs.Below.fr_store.ThreadKept.{lent_ref}
+use Rattle.rewrite_law.specs.Below.fr_code.CodeTypes.{Entry, Table, HasType, InstrTypes, i_move}
+use Rattle.rewrite_law.specs.Below.thread_state.View.{ThreadState}
+use Rattle.rewrite_law.specs.Below.thread_state.declared.value.Value.{Value}
+use Rattle.rewrite_law.specs.Below.thread_state.declared.value.Value.TheVariants as value
+use Rattle.rewrite_law.specs.Below.server_model.Servers.{Server, Cluster}
+use Rattle.rewrite_law.specs.Below.heap_law.Things.{Location, at_slot, in_cell}
+use Rattle.rewrite_law.specs.Below.heap_law.Follow.{Standing}
+use Rattle.rewrite_law.specs.Below.path_law.HeapStore.{GoesOn, HasPaths}
+use Rattle.rewrite_law.proofs.Below.path_law.Forms.{names as names_at, slots_below, slot_piece, HasPiece}
+use Rattle.rewrite_law.proofs.Below.path_law.MayWrites.{slot_there}
+use Rattle.rewrite_law.proofs.Below.result_law.Known.{Steps, paths, standing, goes, types, entry, typed}
+use Rattle.rewrite_law.proofs.Below.result_law.Readers.{to_entry}
+use Rattle.rewrite_law.proofs.Below.write_law.Route.{Route, Hop, by_slot, by_reference, by_box, by_cell}
+use Rattle.rewrite_law.proofs.Below.write_law.Writes.{Light, owned_value, nothing_left, light_form}
 use Rattle.rewrite_law.specs.Writing.{moves}
 use Rattle.rewrite_law.proofs.Ways.{cell_there, place, route}
 
@@ -109,7 +109,7 @@ module _ (k : Cluster) (n t : ℕ) (s : Server) (y : ThreadState) (w : Lval) (d 
       by (owns tree) is q = light_none (value.MutSlot j) (light_form (names_at k c x on) q.piece tree (value.MutSlot j) (subst (ExactOf (slot_k y.number) E q.piece) is q.exact) q.form)
       by (refers m u) is q = no_reference m u is
 
-  abbrev C : ObjNo → Rattle.std.proofs.Common.Option Rattle.heap_partition.specs.declared.value.Cell.Cell
+  abbrev C : ObjNo → Rattle.std.proofs.Common.Option Rattle.rewrite_law.specs.Below.heap_partition.declared.value.Cell.Cell
   C = cell_there k n t s y i z w d (moves depth)
 
   abbrev leads : ℕ → Rattle.std.proofs.Common.Option Location

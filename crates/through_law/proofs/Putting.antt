@@ -3,44 +3,44 @@ use Rattle.std.proofs.Common.{◌≡◌, ◌⊎◌, inl, inr, ℕ, ◌+◌, ◌<
 use Rattle.std.specs.Prelude.{slice_get, slice_set}
 use Rattle.std.proofs.lemmas.Option.{slice_get_within}
 use Rattle.std.proofs.lemmas.List.{get_or-set_same}
-use Rattle.global_addr.specs.Words.{address_of}
-use Rattle.heap_partition.specs.declared.value.Cell.{Cell}
-use Rattle.heap_partition.specs.declared.value.Owned.{Owned}
-use Rattle.heap_partition.specs.declared.value.Owned.TheVariants as owned
-use Rattle.owner_box.specs.View.{PartitionState}
-use Rattle.owner_box.specs.Partition.{cell_of, with_value, stored}
-use Rattle.thread_state.specs.View.{ThreadState}
-use Rattle.thread_state.specs.declared.value.Value.{Value}
-use Rattle.thread_state.specs.declared.value.Value.TheVariants as value
-use Rattle.server_msgs.specs.declared.message.Message.{Message}
-use Rattle.server_model.specs.Servers.{Rest, Server, Cluster, server_at}
-use Rattle.server_model.specs.Work.{Hand, Work, sent_from, thread_in, without_thread, working, with_partition, with_temps, last_of, front_of, then_some}
-use Rattle.server_model.specs.Places.{owns_nothing, nowhere as no_spot}
-use Rattle.server_model.specs.Drop.{give_up, drop_value}
-use Rattle.heap_law.specs.Things.{in_cell, in_hand, holds, Thing, thread_things, servers_things}
-use Rattle.heap_law.specs.Coherent.{Holds, first_at_holder}
-use Rattle.type_law.specs.ClusterTypes.{IsCoherent}
-use Rattle.word_law.specs.Reworded.{HasPlaces}
-use Rattle.word_law.specs.Unmoved.{pointing, LeavesWords}
-use Rattle.event_law.specs.Sums.{Sums}
-use Rattle.event_law.proofs.Bags.{HandOk, all_standing, body_things}
-use Rattle.event_law.proofs.Drops.{drops_keep}
-use Rattle.event_law.proofs.Events.{others_of}
-use Rattle.event_law.proofs.Rules.{comes}
-use Rattle.event_law.proofs.RulesKeep.{sums_kept}
-use Rattle.event_law.proofs.Values.{last_split, pops_temp, some_come_by}
-use Rattle.stay_law.proofs.Alike.{Alike, itself, turned, beside, blank}
-use Rattle.stay_law.proofs.Servers.{held, held_if, given_up}
-use Rattle.stay_law.proofs.Steps.{TakesNoneHere}
-use Rattle.stay_law.proofs.Threads.{slots_of, temps_of, thread_alike}
-use Rattle.prepare_law.proofs.Hands.{put, places, stands}
+use Rattle.rewrite_law.specs.Below.global_addr.Words.{address_of}
+use Rattle.rewrite_law.specs.Below.heap_partition.declared.value.Cell.{Cell}
+use Rattle.rewrite_law.specs.Below.heap_partition.declared.value.Owned.{Owned}
+use Rattle.rewrite_law.specs.Below.heap_partition.declared.value.Owned.TheVariants as owned
+use Rattle.rewrite_law.specs.Below.owner_box.View.{PartitionState}
+use Rattle.rewrite_law.specs.Below.owner_box.Partition.{cell_of, with_value, stored}
+use Rattle.rewrite_law.specs.Below.thread_state.View.{ThreadState}
+use Rattle.rewrite_law.specs.Below.thread_state.declared.value.Value.{Value}
+use Rattle.rewrite_law.specs.Below.thread_state.declared.value.Value.TheVariants as value
+use Rattle.rewrite_law.specs.Below.server_msgs.declared.message.Message.{Message}
+use Rattle.rewrite_law.specs.Below.server_model.Servers.{Rest, Server, Cluster, server_at}
+use Rattle.rewrite_law.specs.Below.server_model.Work.{Hand, Work, sent_from, thread_in, without_thread, working, with_partition, with_temps, last_of, front_of, then_some}
+use Rattle.rewrite_law.specs.Below.server_model.Places.{owns_nothing, nowhere as no_spot}
+use Rattle.rewrite_law.specs.Below.server_model.Drop.{give_up, drop_value}
+use Rattle.rewrite_law.specs.Below.heap_law.Things.{in_cell, in_hand, holds, Thing, thread_things, servers_things}
+use Rattle.rewrite_law.specs.Below.heap_law.Coherent.{Holds, first_at_holder}
+use Rattle.rewrite_law.specs.Below.type_law.ClusterTypes.{IsCoherent}
+use Rattle.rewrite_law.specs.Below.word_law.Reworded.{HasPlaces}
+use Rattle.rewrite_law.specs.Below.word_law.Unmoved.{pointing, LeavesWords}
+use Rattle.rewrite_law.specs.Below.event_law.Sums.{Sums}
+use Rattle.rewrite_law.proofs.Below.event_law.Bags.{HandOk, all_standing, body_things}
+use Rattle.rewrite_law.proofs.Below.event_law.Drops.{drops_keep}
+use Rattle.rewrite_law.proofs.Below.event_law.Events.{others_of}
+use Rattle.rewrite_law.proofs.Below.event_law.Rules.{comes}
+use Rattle.rewrite_law.proofs.Below.event_law.RulesKeep.{sums_kept}
+use Rattle.rewrite_law.proofs.Below.event_law.Values.{last_split, pops_temp, some_come_by}
+use Rattle.rewrite_law.proofs.Below.stay_law.Alike.{Alike, itself, turned, beside, blank}
+use Rattle.rewrite_law.proofs.Below.stay_law.Servers.{held, held_if, given_up}
+use Rattle.rewrite_law.proofs.Below.stay_law.Steps.{TakesNoneHere}
+use Rattle.rewrite_law.proofs.Below.stay_law.Threads.{slots_of, temps_of, thread_alike}
+use Rattle.rewrite_law.proofs.Below.prepare_law.Hands.{put, places, stands}
 use Rattle.carry_law.specs.Carried.{Carried}
 use Rattle.carry_law.proofs.Carrying.{carried_stays}
 use Rattle.carry_law.proofs.Hands.{RootedIn, Together, Moved, seen, passed, moved_from, leaves_chain}
 use Rattle.carry_law.proofs.Passing.{slot, temp, nowhere}
 use Rattle.carry_law.proofs.Places.{set_twice, temp_to_gift}
 use Rattle.carry_law.proofs.Steps.{given_to_rest}
-use Rattle.write_law.proofs.Memory.{Leads, looks, leads_on}
+use Rattle.rewrite_law.proofs.Below.write_law.Memory.{Leads, looks, leads_on}
 use Rattle.rewrite_law.proofs.Passing.{State, Fits}
 use Rattle.through_law.proofs.Swapped.{emptied, given, Swapped, value_after, elsewhere, gift_stored}
 use Rattle.through_law.proofs.Unvisited.{comes_quiet}
@@ -53,7 +53,7 @@ use Rattle.through_law.proofs.Storing.{Tip, Reaches, half_ok, emptied_so}
 -- a cell that gets two values has the second one
 stored_twice : (p : PartitionState) (w : ℕ) (c : Cell) (a b : Owned) → cell_of p w ≡ Some c → stored (stored p w a) w b ≡ stored p w b
 stored_twice p w c a b e =
-    let within : address_of w < length p.cells = slice_get_within p.cells (address_of w) (Some c) (Rattle.event_law.proofs.Cells.indexed p.cells (address_of w) c e) in
+    let within : address_of w < length p.cells = slice_get_within p.cells (address_of w) (Some c) (Rattle.rewrite_law.proofs.Below.event_law.Cells.indexed p.cells (address_of w) c e) in
     let there : cell_of (stored p w a) w ≡ Some (record c { value = a }) = get_or-set_same p.cells (address_of w) (with_value a (cell_of p w)) None within ∙ ap (with_value a) e in
     ap (λ cs. record p { cells = cs })
     (ap (λ o. slice_set (slice_set p.cells (address_of w) (with_value a (cell_of p w))) (address_of w) (with_value b o)) there
@@ -62,42 +62,42 @@ stored_twice p w c a b e =
 -- it leads there still
 stored_leads : (p : PartitionState) (w : ℕ) (c : Cell) (v : Owned) → Leads p w c → Leads (stored p w v) w (record c { value = v })
 stored_leads p w c v l =
-    let within : address_of w < length p.cells = slice_get_within p.cells (address_of w) (Some c) (Rattle.event_law.proofs.Cells.indexed p.cells (address_of w) c l.there) in
+    let within : address_of w < length p.cells = slice_get_within p.cells (address_of w) (Some c) (Rattle.rewrite_law.proofs.Below.event_law.Cells.indexed p.cells (address_of w) c l.there) in
     record { server = l.server; there = get_or-set_same p.cells (address_of w) (with_value v (cell_of p w)) None within ∙ ap (with_value v) l.there; colour = l.colour }
 
 -- what is sent doesn't see the partition
 sent_with : (r : Rest) (p : PartitionState) (t : ℕ) (m : Message) → sent_from (record r { partition = p }) t m ≡ record (sent_from r t m) { partition = p }
 sent_with r p t m = by (t == r.number)
   where
-    by : (b : Bool) → (if b then Rattle.server_model.specs.Work.add_waiting m (record r { partition = p }) else record r { partition = p; outbox = r.outbox ++ record { target = t; message = m } ∷ [] })
-        ≡ record (if b then Rattle.server_model.specs.Work.add_waiting m r else record r { outbox = r.outbox ++ record { target = t; message = m } ∷ [] }) { partition = p }
+    by : (b : Bool) → (if b then Rattle.rewrite_law.specs.Below.server_model.Work.add_waiting m (record r { partition = p }) else record r { partition = p; outbox = r.outbox ++ record { target = t; message = m } ∷ [] })
+        ≡ record (if b then Rattle.rewrite_law.specs.Below.server_model.Work.add_waiting m r else record r { outbox = r.outbox ++ record { target = t; message = m } ∷ [] }) { partition = p }
     by true = refl
     by false = refl
 
 sent_same : (r : Rest) (t : ℕ) (m : Message) → (sent_from r t m).partition ≡ r.partition
 sent_same r t m = by (t == r.number)
   where
-    by : (b : Bool) → (if b then Rattle.server_model.specs.Work.add_waiting m r else record r { outbox = r.outbox ++ record { target = t; message = m } ∷ [] }).partition ≡ r.partition
+    by : (b : Bool) → (if b then Rattle.rewrite_law.specs.Below.server_model.Work.add_waiting m r else record r { outbox = r.outbox ++ record { target = t; message = m } ∷ [] }).partition ≡ r.partition
     by true = refl
     by false = refl
 
 -- nor does what is given up
 pub give_rest : (u : Owned) (a b : Work) (p : PartitionState) → b.rest ≡ record a.rest { partition = p } → (give_up u b).rest ≡ record (give_up u a).rest { partition = p }
-give_rest (owned.Box q) a b p e = ap (λ r. sent_from r (Rattle.global_addr.specs.Words.server_of q.word) (Rattle.server_msgs.specs.declared.message.Message.TheVariants.Drop q.word q.object)) e ∙ sent_with a.rest p (Rattle.global_addr.specs.Words.server_of q.word) (Rattle.server_msgs.specs.declared.message.Message.TheVariants.Drop q.word q.object)
+give_rest (owned.Box q) a b p e = ap (λ r. sent_from r (Rattle.rewrite_law.specs.Below.global_addr.Words.server_of q.word) (Rattle.rewrite_law.specs.Below.server_msgs.declared.message.Message.TheVariants.Drop q.word q.object)) e ∙ sent_with a.rest p (Rattle.rewrite_law.specs.Below.global_addr.Words.server_of q.word) (Rattle.rewrite_law.specs.Below.server_msgs.declared.message.Message.TheVariants.Drop q.word q.object)
 give_rest (owned.Mutex m) a b p e =
-    ap (λ r. sent_from r m.home (Rattle.server_msgs.specs.declared.message.Message.TheVariants.Release (Rattle.fr_base.specs.declared.release.Released.TheVariants.Mutex m))) e
-    ∙ sent_with a.rest p m.home (Rattle.server_msgs.specs.declared.message.Message.TheVariants.Release (Rattle.fr_base.specs.declared.release.Released.TheVariants.Mutex m))
+    ap (λ r. sent_from r m.home (Rattle.rewrite_law.specs.Below.server_msgs.declared.message.Message.TheVariants.Release (Rattle.rewrite_law.specs.Below.fr_base.declared.release.Released.TheVariants.Mutex m))) e
+    ∙ sent_with a.rest p m.home (Rattle.rewrite_law.specs.Below.server_msgs.declared.message.Message.TheVariants.Release (Rattle.rewrite_law.specs.Below.fr_base.declared.release.Released.TheVariants.Mutex m))
 give_rest (owned.Task t) a b p e =
-    ap (λ r. sent_from r (Rattle.server_model.specs.Drop.home_of t) (Rattle.server_msgs.specs.declared.message.Message.TheVariants.Release (Rattle.fr_base.specs.declared.release.Released.TheVariants.Task t))) e
-    ∙ sent_with a.rest p (Rattle.server_model.specs.Drop.home_of t) (Rattle.server_msgs.specs.declared.message.Message.TheVariants.Release (Rattle.fr_base.specs.declared.release.Released.TheVariants.Task t))
+    ap (λ r. sent_from r (Rattle.rewrite_law.specs.Below.server_model.Drop.home_of t) (Rattle.rewrite_law.specs.Below.server_msgs.declared.message.Message.TheVariants.Release (Rattle.rewrite_law.specs.Below.fr_base.declared.release.Released.TheVariants.Task t))) e
+    ∙ sent_with a.rest p (Rattle.rewrite_law.specs.Below.server_model.Drop.home_of t) (Rattle.rewrite_law.specs.Below.server_msgs.declared.message.Message.TheVariants.Release (Rattle.rewrite_law.specs.Below.fr_base.declared.release.Released.TheVariants.Task t))
 give_rest owned.Nothing a b p e = e
 give_rest owned.Unit a b p e = e
 give_rest (owned.Int i) a b p e = e
 
 pub give_partition : (u : Owned) (a : Work) → (give_up u a).rest.partition ≡ a.rest.partition
-give_partition (owned.Box q) a = sent_same a.rest (Rattle.global_addr.specs.Words.server_of q.word) (Rattle.server_msgs.specs.declared.message.Message.TheVariants.Drop q.word q.object)
-give_partition (owned.Mutex m) a = sent_same a.rest m.home (Rattle.server_msgs.specs.declared.message.Message.TheVariants.Release (Rattle.fr_base.specs.declared.release.Released.TheVariants.Mutex m))
-give_partition (owned.Task t) a = sent_same a.rest (Rattle.server_model.specs.Drop.home_of t) (Rattle.server_msgs.specs.declared.message.Message.TheVariants.Release (Rattle.fr_base.specs.declared.release.Released.TheVariants.Task t))
+give_partition (owned.Box q) a = sent_same a.rest (Rattle.rewrite_law.specs.Below.global_addr.Words.server_of q.word) (Rattle.rewrite_law.specs.Below.server_msgs.declared.message.Message.TheVariants.Drop q.word q.object)
+give_partition (owned.Mutex m) a = sent_same a.rest m.home (Rattle.rewrite_law.specs.Below.server_msgs.declared.message.Message.TheVariants.Release (Rattle.rewrite_law.specs.Below.fr_base.declared.release.Released.TheVariants.Mutex m))
+give_partition (owned.Task t) a = sent_same a.rest (Rattle.rewrite_law.specs.Below.server_model.Drop.home_of t) (Rattle.rewrite_law.specs.Below.server_msgs.declared.message.Message.TheVariants.Release (Rattle.rewrite_law.specs.Below.fr_base.declared.release.Released.TheVariants.Task t))
 give_partition owned.Nothing a = refl
 give_partition owned.Unit a = refl
 give_partition (owned.Int i) a = refl
@@ -113,7 +113,7 @@ pub data Operand (x : ThreadState) (v : Owned) : List Value → Type 0 where
   on_top : last_of x.temps ≡ Some (value.Own v) → Operand x v (front_of x.temps)
   plain : owns_nothing v ≡ true → Operand x v x.temps
 
-plain_held : {code : List Rattle.fr_base.specs.declared.instruction.Instr.Instr} (v : Owned) → owns_nothing v ≡ true → Alike code [] (held v)
+plain_held : {code : List Rattle.rewrite_law.specs.Below.fr_base.declared.instruction.Instr.Instr} (v : Owned) → owns_nothing v ≡ true → Alike code [] (held v)
 plain_held owned.Nothing e = turned (blank (holds in_hand owned.Nothing) (λ p f i. i))
 plain_held owned.Unit e = turned (blank (holds in_hand owned.Unit) (λ p f i. i))
 plain_held (owned.Int j) e = turned (blank (holds in_hand (owned.Int j)) (λ p f i. i))
@@ -180,7 +180,7 @@ module _ (k : Cluster) (coherent : IsCoherent k) (s : Server) (here : server_at 
     rooted2 : RootedIn (P h2)
     rooted2 = rooted_seen k coherent s here t y at h1 h2 (spread h1 first.fits) (spread h2 ok2) first.fits.number first.fits.thread (record { number = q.number ∙ sym st.ok.number; named = refl; alike = given_to_rest k.code n x x u empty.rest (give_up u empty).rest free (itself (thread_things n false x)) q.alike }) first.rooted
       where
-        q : Rattle.stay_law.proofs.Servers.RestAlike k.code n (held u ++ body_things n empty.rest) (give_up u empty).rest
+        q : Rattle.rewrite_law.proofs.Below.stay_law.Servers.RestAlike k.code n (held u ++ body_things n empty.rest) (give_up u empty).rest
         q = given_up {code = k.code} n (held u ++ body_things n empty.rest) u empty st.ok.number (itself (held u ++ body_things n empty.rest))
 
     -- the operand becomes the gift

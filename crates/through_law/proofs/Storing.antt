@@ -1,29 +1,29 @@
 -- A value is stored in a cell, or taken out of it: first what the cell has is its thread's gift, and the words stay.
 use Rattle.std.proofs.Common.{◌≡◌, ℕ, ◌+◌, ◌≤◌, if◌then◌else◌, List, ◌∷◌, ◌++◌, Some, None, refl, ap, ◌∙◌}
-use Rattle.fr_base.specs.declared.name.ObjNo.{ObjNo}
-use Rattle.global_addr.specs.Words.{address_of}
-use Rattle.heap_partition.specs.declared.value.Cell.{Cell}
-use Rattle.heap_partition.specs.declared.value.Owned.TheVariants as owned
-use Rattle.owner_box.specs.Partition.{stored}
-use Rattle.thread_state.specs.View.{ThreadState}
-use Rattle.server_model.specs.Servers.{Server, Cluster, server_at}
-use Rattle.server_model.specs.Work.{Hand, thread_in, without_thread}
-use Rattle.heap_law.specs.Names.{Among}
-use Rattle.heap_law.specs.Things.{in_cell, in_hand, holds, Thing, servers_things}
-use Rattle.heap_law.specs.Follow.{locate}
-use Rattle.heap_law.specs.Sight.{sight}
-use Rattle.type_law.specs.ClusterTypes.{IsCoherent}
-use Rattle.word_law.specs.Reworded.{HasPlaces}
-use Rattle.word_law.specs.Unmoved.{Taking, takings, LeavesWords}
-use Rattle.event_law.proofs.Bags.{all_standing, body_things}
-use Rattle.event_law.proofs.Events.{others_of}
-use Rattle.prepare_law.proofs.Hands.{put, places, stands}
+use Rattle.rewrite_law.specs.Below.fr_base.declared.name.ObjNo.{ObjNo}
+use Rattle.rewrite_law.specs.Below.global_addr.Words.{address_of}
+use Rattle.rewrite_law.specs.Below.heap_partition.declared.value.Cell.{Cell}
+use Rattle.rewrite_law.specs.Below.heap_partition.declared.value.Owned.TheVariants as owned
+use Rattle.rewrite_law.specs.Below.owner_box.Partition.{stored}
+use Rattle.rewrite_law.specs.Below.thread_state.View.{ThreadState}
+use Rattle.rewrite_law.specs.Below.server_model.Servers.{Server, Cluster, server_at}
+use Rattle.rewrite_law.specs.Below.server_model.Work.{Hand, thread_in, without_thread}
+use Rattle.rewrite_law.specs.Below.heap_law.Names.{Among}
+use Rattle.rewrite_law.specs.Below.heap_law.Things.{in_cell, in_hand, holds, Thing, servers_things}
+use Rattle.rewrite_law.specs.Below.heap_law.Follow.{locate}
+use Rattle.rewrite_law.specs.Below.heap_law.Sight.{sight}
+use Rattle.rewrite_law.specs.Below.type_law.ClusterTypes.{IsCoherent}
+use Rattle.rewrite_law.specs.Below.word_law.Reworded.{HasPlaces}
+use Rattle.rewrite_law.specs.Below.word_law.Unmoved.{Taking, takings, LeavesWords}
+use Rattle.rewrite_law.proofs.Below.event_law.Bags.{all_standing, body_things}
+use Rattle.rewrite_law.proofs.Below.event_law.Events.{others_of}
+use Rattle.rewrite_law.proofs.Below.prepare_law.Hands.{put, places, stands}
 use Rattle.carry_law.specs.Carried.{Carried}
 use Rattle.carry_law.proofs.Carrying.{carried_stays}
 use Rattle.carry_law.proofs.Hands.{RootedIn, rooted}
 use Rattle.carry_law.proofs.Owned.{OwnsAlone}
 use Rattle.carry_law.proofs.Passing.{Quiet}
-use Rattle.write_law.proofs.Memory.{Leads, looks, leads_on}
+use Rattle.rewrite_law.proofs.Below.write_law.Memory.{Leads, looks, leads_on}
 use Rattle.rewrite_law.proofs.Passing.{State, Fits}
 use Rattle.through_law.proofs.Swapped.{Swapped, value_before, elsewhere, cell_given}
 use Rattle.through_law.proofs.Unvisited.{goes_quiet}
@@ -73,7 +73,7 @@ module _ (k : Cluster) (coherent : IsCoherent k) (s : Server) (here : server_at 
     abbrev B : Cluster
     B = P without
 
-    pub half_ok : Rattle.event_law.proofs.Bags.HandOk Rattle.event_law.specs.Sums.Sums n s.events t (holds in_hand c.value ∷ others) half
+    pub half_ok : Rattle.rewrite_law.proofs.Below.event_law.Bags.HandOk Rattle.rewrite_law.specs.Below.event_law.Sums.Sums n s.events t (holds in_hand c.value ∷ others) half
     half_ok =
         cell_trades n s.events t others w c owned.Nothing h half (looks h.work.rest.partition w c leads) (ap (λ b. if b then Some half else None) (leads_on h.work.rest.partition w c leads)) (nothing_comes n s.events t others h st.ok)
 

@@ -1,29 +1,29 @@
 -- What a cell has becomes its thread's gift, or a gift comes to a cell: two clusters that have the same things but for the cell and the thread.
 use Rattle.std.proofs.Common.{◌≡◌, ◌⊎◌, inl, inr, ⊎_elim, ℕ, Bool, false, List, [], ◌∷◌, Option, Some, None, refl, sym, ap, subst, ◌∙◌}
 use Rattle.std.specs.Prelude.{slice_get}
-use Rattle.fr_base.specs.declared.instruction.Instr.{Instr}
-use Rattle.fr_base.specs.declared.name.ObjNo.{ObjNo}
-use Rattle.heap_partition.specs.declared.value.Cell.{Cell}
-use Rattle.heap_partition.specs.declared.value.Owned.{Owned}
-use Rattle.heap_partition.specs.declared.value.Owned.TheVariants as owned
-use Rattle.mut_borrow.specs.declared.mutable.MutRef.{MutRef}
-use Rattle.thread_state.specs.View.{ThreadState}
-use Rattle.thread_state.specs.declared.value.Value.{Value}
-use Rattle.thread_state.specs.declared.value.Value.TheVariants as value
-use Rattle.server_model.specs.Servers.{Cluster}
-use Rattle.heap_law.specs.Names.{Among}
-use Rattle.heap_law.specs.Things.{Location, at_slot, at_temp, in_cell, Thing, as_gift, holds, lies, stands, things_of}
-use Rattle.heap_law.specs.Follow.{Ground, Standing, threads_in, thread_at, cell_of, slot_of, temp_of, value_of, value_in}
-use Rattle.heap_law.specs.Sight.{Pointer, pointer_in, pointers_of, pointers_in, sight}
-use Rattle.heap_law.specs.Placing.{standing_of, standing_in}
-use Rattle.type_law.proofs.Branches.{found}
-use Rattle.path_law.proofs.Contained.{among_thread}
-use Rattle.path_law.proofs.Sole.{some_is}
-use Rattle.word_law.specs.Reworded.{HasPlaces, LiesThere}
-use Rattle.word_law.specs.Unmoved.{owning, seen_at, Taking, taking_by, taking_of, with_taking, takings}
-use Rattle.word_law.proofs.Alone.{of_standing}
-use Rattle.word_law.proofs.Loose.{box_nowhere}
-use Rattle.word_law.proofs.Standing.{CellOf, lying, flying, cell_found, cell_among, of_thing, pointers_among, standing_among, pointer_at, tells}
+use Rattle.rewrite_law.specs.Below.fr_base.declared.instruction.Instr.{Instr}
+use Rattle.rewrite_law.specs.Below.fr_base.declared.name.ObjNo.{ObjNo}
+use Rattle.rewrite_law.specs.Below.heap_partition.declared.value.Cell.{Cell}
+use Rattle.rewrite_law.specs.Below.heap_partition.declared.value.Owned.{Owned}
+use Rattle.rewrite_law.specs.Below.heap_partition.declared.value.Owned.TheVariants as owned
+use Rattle.rewrite_law.specs.Below.mut_borrow.declared.mutable.MutRef.{MutRef}
+use Rattle.rewrite_law.specs.Below.thread_state.View.{ThreadState}
+use Rattle.rewrite_law.specs.Below.thread_state.declared.value.Value.{Value}
+use Rattle.rewrite_law.specs.Below.thread_state.declared.value.Value.TheVariants as value
+use Rattle.rewrite_law.specs.Below.server_model.Servers.{Cluster}
+use Rattle.rewrite_law.specs.Below.heap_law.Names.{Among}
+use Rattle.rewrite_law.specs.Below.heap_law.Things.{Location, at_slot, at_temp, in_cell, Thing, as_gift, holds, lies, stands, things_of}
+use Rattle.rewrite_law.specs.Below.heap_law.Follow.{Ground, Standing, threads_in, thread_at, cell_of, slot_of, temp_of, value_of, value_in}
+use Rattle.rewrite_law.specs.Below.heap_law.Sight.{Pointer, pointer_in, pointers_of, pointers_in, sight}
+use Rattle.rewrite_law.specs.Below.heap_law.Placing.{standing_of, standing_in}
+use Rattle.rewrite_law.proofs.Below.type_law.Branches.{found}
+use Rattle.rewrite_law.proofs.Below.path_law.Contained.{among_thread}
+use Rattle.rewrite_law.proofs.Below.path_law.Sole.{some_is}
+use Rattle.rewrite_law.specs.Below.word_law.Reworded.{HasPlaces, LiesThere}
+use Rattle.rewrite_law.specs.Below.word_law.Unmoved.{owning, seen_at, Taking, taking_by, taking_of, with_taking, takings}
+use Rattle.rewrite_law.proofs.Below.word_law.Alone.{of_standing}
+use Rattle.rewrite_law.proofs.Below.word_law.Loose.{box_nowhere}
+use Rattle.rewrite_law.proofs.Below.word_law.Standing.{CellOf, lying, flying, cell_found, cell_among, of_thing, pointers_among, standing_among, pointer_at, tells}
 use Rattle.carry_law.specs.Carried.{Carried}
 use Rattle.carry_law.proofs.Passing.{Quiet}
 use Rattle.carry_law.proofs.Taken.{taker_of}
@@ -71,7 +71,7 @@ thing_thread s p t (_ ∷ b) (inr h) = thing_thread s p t b h
 lies_stands : {r a s : ℕ} {p : Bool} {c : Cell} {t : ThreadState} → lies r a c ≡ stands s p t → ⊥
 lies_stands e = absurd (cc e)
 
-holds_stands : {q : Rattle.heap_law.specs.Things.Spot} {u : Owned} {s : ℕ} {p : Bool} {t : ThreadState} → holds q u ≡ stands s p t → ⊥
+holds_stands : {q : Rattle.rewrite_law.specs.Below.heap_law.Things.Spot} {u : Owned} {s : ℕ} {p : Bool} {t : ThreadState} → holds q u ≡ stands s p t → ⊥
 holds_stands e = absurd (cc e)
 
 none_some : {A : Type 0} (x : A) → None ≡ Some x → ⊥
@@ -85,7 +85,7 @@ stands_no_cell : (c : Cell) (s : ℕ) (p : Bool) (t : ThreadState) (y : Thing) �
 stands_no_cell c s p t _ (lying r a) e = absurd (cc e)
 stands_no_cell c s p t _ (flying w) e = absurd (cc e)
 
-holds_no_cell : (c : Cell) (q : Rattle.heap_law.specs.Things.Spot) (u : Owned) (y : Thing) → CellOf c y → holds q u ≡ y → ⊥
+holds_no_cell : (c : Cell) (q : Rattle.rewrite_law.specs.Below.heap_law.Things.Spot) (u : Owned) (y : Thing) → CellOf c y → holds q u ≡ y → ⊥
 holds_no_cell c q u _ (lying r a) e = absurd (cc e)
 holds_no_cell c q u _ (flying w) e = absurd (cc e)
 

@@ -1,28 +1,28 @@
 -- An owned value is moved out of a cell: it becomes the thread's gift, and then its newest temporary value.
 use Rattle.std.proofs.Common.{◌≡◌, ◌⊎◌, inl, inr, ℕ, false, List, [], ◌∷◌, ◌++◌, length, Some, None, refl, subst}
 use Rattle.std.specs.Prelude.{slice_get}
-use Rattle.heap_partition.specs.declared.value.Cell.{Cell}
-use Rattle.heap_partition.specs.declared.value.Owned.{Owned}
-use Rattle.heap_partition.specs.declared.value.Owned.TheVariants as owned
-use Rattle.owner_box.specs.Partition.{stored}
-use Rattle.thread_state.specs.View.{ThreadState}
-use Rattle.thread_state.specs.declared.value.Value.TheVariants as value
-use Rattle.server_model.specs.Servers.{Server, Cluster, server_at}
-use Rattle.server_model.specs.Work.{Hand, Work, thread_in, without_thread}
-use Rattle.heap_law.specs.Things.{Thing, thread_things, servers_things}
-use Rattle.type_law.specs.ClusterTypes.{IsCoherent}
-use Rattle.word_law.specs.Reworded.{HasPlaces}
-use Rattle.word_law.specs.Unmoved.{pointing, LeavesWords}
-use Rattle.event_law.proofs.Bags.{all_standing, body_things}
-use Rattle.event_law.proofs.Events.{others_of}
-use Rattle.event_law.proofs.RulesKeep.{sums_kept}
-use Rattle.event_law.proofs.Values.{pushes_temp}
-use Rattle.stay_law.proofs.Alike.{itself}
-use Rattle.prepare_law.proofs.Hands.{put, places}
+use Rattle.rewrite_law.specs.Below.heap_partition.declared.value.Cell.{Cell}
+use Rattle.rewrite_law.specs.Below.heap_partition.declared.value.Owned.{Owned}
+use Rattle.rewrite_law.specs.Below.heap_partition.declared.value.Owned.TheVariants as owned
+use Rattle.rewrite_law.specs.Below.owner_box.Partition.{stored}
+use Rattle.rewrite_law.specs.Below.thread_state.View.{ThreadState}
+use Rattle.rewrite_law.specs.Below.thread_state.declared.value.Value.TheVariants as value
+use Rattle.rewrite_law.specs.Below.server_model.Servers.{Server, Cluster, server_at}
+use Rattle.rewrite_law.specs.Below.server_model.Work.{Hand, Work, thread_in, without_thread}
+use Rattle.rewrite_law.specs.Below.heap_law.Things.{Thing, thread_things, servers_things}
+use Rattle.rewrite_law.specs.Below.type_law.ClusterTypes.{IsCoherent}
+use Rattle.rewrite_law.specs.Below.word_law.Reworded.{HasPlaces}
+use Rattle.rewrite_law.specs.Below.word_law.Unmoved.{pointing, LeavesWords}
+use Rattle.rewrite_law.proofs.Below.event_law.Bags.{all_standing, body_things}
+use Rattle.rewrite_law.proofs.Below.event_law.Events.{others_of}
+use Rattle.rewrite_law.proofs.Below.event_law.RulesKeep.{sums_kept}
+use Rattle.rewrite_law.proofs.Below.event_law.Values.{pushes_temp}
+use Rattle.rewrite_law.proofs.Below.stay_law.Alike.{itself}
+use Rattle.rewrite_law.proofs.Below.prepare_law.Hands.{put, places}
 use Rattle.carry_law.proofs.Hands.{Moved, passed, moved_from, leaves_chain}
 use Rattle.carry_law.proofs.Passing.{slot, temp, nowhere}
 use Rattle.carry_law.proofs.Places.{gift_to_temp}
-use Rattle.write_law.proofs.Memory.{Leads}
+use Rattle.rewrite_law.proofs.Below.write_law.Memory.{Leads}
 use Rattle.rewrite_law.proofs.Passing.{State, Fits}
 use Rattle.through_law.proofs.Swapped.{given}
 use Rattle.through_law.proofs.Storing.{Tip, Reaches, half_ok, emptied_so}

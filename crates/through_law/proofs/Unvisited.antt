@@ -1,29 +1,29 @@
 -- Where holders are, and what threads have taken from, where a cell loses its value or gets one: no such place passes the cell.
 use Rattle.std.proofs.Common.{◌≡◌, ◌⊎◌, inl, inr, ⊎_elim, ℕ, zero, suc, ◌≤◌, ◌==◌, Bool, true, false, Option, Some, None, refl, sym, ap, subst, ◌∙◌, arith}
-use Rattle.fr_base.specs.declared.name.ObjNo.{ObjNo}
-use Rattle.fr_base.specs.declared.place.Lval.{Lval}
-use Rattle.heap_partition.specs.declared.value.BoxPtr.{BoxPtr}
-use Rattle.heap_partition.specs.declared.value.Cell.{Cell}
-use Rattle.heap_partition.specs.declared.value.Owned.{Owned}
-use Rattle.heap_partition.specs.declared.value.Owned.TheVariants as owned
-use Rattle.mut_borrow.specs.declared.mutable.MutRef.{MutRef}
-use Rattle.thread_state.specs.declared.value.Value.{Value}
-use Rattle.thread_state.specs.declared.value.Value.TheVariants as value
-use Rattle.server_model.specs.Servers.{Cluster}
-use Rattle.heap_law.specs.Names.{Among, other, same_object}
-use Rattle.heap_law.specs.Things.{Location, at_slot, at_temp, in_cell, things_of}
-use Rattle.heap_law.specs.Follow.{Ground, cell_of, value_of, value_in, value_behind, leads, locate}
-use Rattle.heap_law.specs.Stale.{Reference, references, holder_of, one_star_less}
-use Rattle.heap_law.specs.Sight.{sight}
-use Rattle.heap_law.specs.Placing.{is_first, other_first}
-use Rattle.heap_law.specs.Coherent.{Holds, first_at_holder}
-use Rattle.heap_law.proofs.Words.{none_at, named}
-use Rattle.path_law.proofs.Climbs.{and_second}
-use Rattle.path_law.proofs.Contained.{reference_there}
-use Rattle.path_law.proofs.Sole.{some_is}
-use Rattle.end_law.specs.Dropped.{box_leads, boxes_below}
-use Rattle.word_law.specs.Unmoved.{Taking, takings}
-use Rattle.word_law.proofs.Grounds.{same_place}
+use Rattle.rewrite_law.specs.Below.fr_base.declared.name.ObjNo.{ObjNo}
+use Rattle.rewrite_law.specs.Below.fr_base.declared.place.Lval.{Lval}
+use Rattle.rewrite_law.specs.Below.heap_partition.declared.value.BoxPtr.{BoxPtr}
+use Rattle.rewrite_law.specs.Below.heap_partition.declared.value.Cell.{Cell}
+use Rattle.rewrite_law.specs.Below.heap_partition.declared.value.Owned.{Owned}
+use Rattle.rewrite_law.specs.Below.heap_partition.declared.value.Owned.TheVariants as owned
+use Rattle.rewrite_law.specs.Below.mut_borrow.declared.mutable.MutRef.{MutRef}
+use Rattle.rewrite_law.specs.Below.thread_state.declared.value.Value.{Value}
+use Rattle.rewrite_law.specs.Below.thread_state.declared.value.Value.TheVariants as value
+use Rattle.rewrite_law.specs.Below.server_model.Servers.{Cluster}
+use Rattle.rewrite_law.specs.Below.heap_law.Names.{Among, other, same_object}
+use Rattle.rewrite_law.specs.Below.heap_law.Things.{Location, at_slot, at_temp, in_cell, things_of}
+use Rattle.rewrite_law.specs.Below.heap_law.Follow.{Ground, cell_of, value_of, value_in, value_behind, leads, locate}
+use Rattle.rewrite_law.specs.Below.heap_law.Stale.{Reference, references, holder_of, one_star_less}
+use Rattle.rewrite_law.specs.Below.heap_law.Sight.{sight}
+use Rattle.rewrite_law.specs.Below.heap_law.Placing.{is_first, other_first}
+use Rattle.rewrite_law.specs.Below.heap_law.Coherent.{Holds, first_at_holder}
+use Rattle.rewrite_law.proofs.Below.heap_law.Words.{none_at, named}
+use Rattle.rewrite_law.proofs.Below.path_law.Climbs.{and_second}
+use Rattle.rewrite_law.proofs.Below.path_law.Contained.{reference_there}
+use Rattle.rewrite_law.proofs.Below.path_law.Sole.{some_is}
+use Rattle.carry_law.specs.Below.end_law.Dropped.{box_leads, boxes_below}
+use Rattle.rewrite_law.specs.Below.word_law.Unmoved.{Taking, takings}
+use Rattle.rewrite_law.proofs.Below.word_law.Grounds.{same_place}
 use Rattle.carry_law.proofs.Hands.{RootedIn}
 use Rattle.carry_law.proofs.Owned.{OwnsAlone, IsOwned, owns, none, Visits}
 use Rattle.carry_law.proofs.Passing.{Quiet}

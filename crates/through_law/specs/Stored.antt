@@ -1,17 +1,17 @@
 -- A WRITE THROUGH STARS THAT IS DONE keeps the words (this project's rules).
 use Rattle.std.specs.Prelude.{◌≡◌, ℕ, suc, true, Some, slice_get}
-use Rattle.fr_base.specs.declared.instruction.Operand.{Operand}
-use Rattle.fr_base.specs.declared.instruction.Instr.TheVariants as instr
-use Rattle.fr_base.specs.declared.place.Lval.{Lval}
-use Rattle.journal.specs.View.{EntryView}
-use Rattle.thread_state.specs.View.{ThreadState}
-use Rattle.server_model.specs.declared.event.What.TheVariants.{Step}
-use Rattle.server_model.specs.Servers.{Server, Cluster, server_at}
-use Rattle.server_model.specs.Work.{thread_in}
-use Rattle.server_model.specs.Clusters.{apply}
-use Rattle.type_law.specs.ClusterTypes.{IsCoherent}
-use Rattle.event_law.specs.Laws.{Gives, FewEvents}
-use Rattle.prepare_law.specs.Requests.{WordsRise}
+use Rattle.rewrite_law.specs.Below.fr_base.declared.instruction.Operand.{Operand}
+use Rattle.rewrite_law.specs.Below.fr_base.declared.instruction.Instr.TheVariants as instr
+use Rattle.rewrite_law.specs.Below.fr_base.declared.place.Lval.{Lval}
+use Rattle.rewrite_law.specs.Below.journal.View.{EntryView}
+use Rattle.rewrite_law.specs.Below.thread_state.View.{ThreadState}
+use Rattle.rewrite_law.specs.Below.server_model.declared.event.What.TheVariants.{Step}
+use Rattle.rewrite_law.specs.Below.server_model.Servers.{Server, Cluster, server_at}
+use Rattle.rewrite_law.specs.Below.server_model.Work.{thread_in}
+use Rattle.rewrite_law.specs.Below.server_model.Clusters.{apply}
+use Rattle.rewrite_law.specs.Below.type_law.ClusterTypes.{IsCoherent}
+use Rattle.rewrite_law.specs.Below.event_law.Laws.{Gives, FewEvents}
+use Rattle.rewrite_law.specs.Below.prepare_law.Requests.{WordsRise}
 
 -- the step of a thread that assigns through stars, whether it does its plain step or asks
 abbrev pub AssignmentsKeep : Type 0

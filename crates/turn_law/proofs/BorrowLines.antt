@@ -2,51 +2,51 @@
 use Rattle.std.proofs.Common.{◌≡◌, ℕ, suc, ◌+◌, ◌==◌, ◌&&◌, nat_lt, Bool, true, false, if◌then◌else◌, ◌++◌, length, Option, Some, None, option_map, refl, sym, ap, ap₂, subst, ◌∙◌, arith}
 use Rattle.std.specs.Prelude.{slice_set}
 use Rattle.std.specs.Bool.{⊤}
-use Rattle.fr_base.specs.declared.label.Plain.TheVariants as plain
-use Rattle.fr_base.specs.declared.place.Lval.{Lval}
-use Rattle.fr_base.specs.declared.instruction.Instr.{Instr}
-use Rattle.fr_base.specs.declared.instruction.Instr.TheVariants as instr
-use Rattle.fr_plain.specs.declared.value.Value.{Value as PlainValue}
-use Rattle.fr_plain.specs.declared.value.Value.TheVariants as plain_v
-use Rattle.fr_plain.specs.MachineActs.{do_borrow, reference}
-use Rattle.fr_plain.specs.MachineThreads.{going}
-use Rattle.fr_code.specs.Steps.{over_at, loud, run_instr}
-use Rattle.global_addr.specs.Words.{colour_of, server_of}
-use Rattle.heap_partition.specs.declared.value.Cell.{Cell}
-use Rattle.heap_partition.specs.declared.value.Owned.TheVariants as owned
-use Rattle.heap_partition.specs.declared.value.BoxPtr.{BoxPtr}
-use Rattle.owner_box.specs.Partition.{freed, renewed, new_word}
-use Rattle.read_cache.specs.Cache.{hit}
-use Rattle.migration.specs.Packing.{unpinned}
-use Rattle.journal.specs.declared.act.Act.TheVariants as act
-use Rattle.mut_borrow.specs.Refs.{cleaned_answer}
-use Rattle.mut_borrow.specs.declared.mutable.MutRef.{MutRef}
-use Rattle.mut_borrow.specs.declared.mutable.Cleaned.{Cleaned}
-use Rattle.mut_borrow.specs.declared.mutable.Cleaned.TheVariants as cleaned
-use Rattle.place_walk.specs.declared.hop.Hop.{Hop}
-use Rattle.place_walk.specs.declared.hop.Hop.TheVariants as hop
-use Rattle.place_walk.specs.Hops.{write_hop}
-use Rattle.thread_state.specs.View.{ThreadState}
-use Rattle.thread_state.specs.declared.phase.Phase.{Phase}
-use Rattle.thread_state.specs.declared.phase.Phase.TheVariants as phase
-use Rattle.thread_state.specs.declared.value.Value.{Value}
-use Rattle.thread_state.specs.declared.value.Value.TheVariants as value
-use Rattle.server_model.specs.declared.event.Event.{Event}
-use Rattle.server_model.specs.Servers.{Server, Cluster}
-use Rattle.server_model.specs.Work.{Hand, with_slots, push_temp, then_some}
-use Rattle.server_model.specs.NewWords.{NewWord, issue_tint, issue_renewal, can_grow, is_last}
-use Rattle.server_model.specs.Work as work
-use Rattle.server_model.specs.Places.{Spot, in_slot, on_top, in_cell, in_copy, nowhere, value_in as cell_value, value_at, load_at, pointer_of, took, put_word, put_slot, with_word}
-use Rattle.server_model.specs.Prepare.{ReadPointer, LendTo, Prepared, ready, requested, nothing, and_then, ready_at, ask_object, request_by, box_of, clean_last, cleaned_by, clean, clean_value, read_stars, read_pointer, is_taken, lend_by, lend_value, lend_pointer, prepare}
-use Rattle.server_model.specs.Commit.{goes_on, shared_from, lent_word, mutable_from, borrow_from, borrow_mut_from}
-use Rattle.server_model.specs.Events.{committed, prepared, step}
-use Rattle.heap_law.specs.Things.{Location, at_slot, in_cell as at_cell}
-use Rattle.heap_law.specs.Follow.{Ground, value_in, value_behind, leads, locate}
-use Rattle.heap_law.specs.Sight.{sight}
-use Rattle.heap_law.specs.OneHeap.{Node, one_heap, plain_value}
-use Rattle.type_law.specs.ClusterTypes.{IsCoherent}
-use Rattle.event_law.specs.Laws.{Gives}
-use Rattle.event_law.proofs.Results.{then_gives, over_gives, weaker}
+use Rattle.read_law.specs.Below.fr_base.declared.label.Plain.TheVariants as plain
+use Rattle.read_law.specs.Below.fr_base.declared.place.Lval.{Lval}
+use Rattle.read_law.specs.Below.fr_base.declared.instruction.Instr.{Instr}
+use Rattle.read_law.specs.Below.fr_base.declared.instruction.Instr.TheVariants as instr
+use Rattle.read_law.specs.Below.fr_plain.declared.value.Value.{Value as PlainValue}
+use Rattle.read_law.specs.Below.fr_plain.declared.value.Value.TheVariants as plain_v
+use Rattle.read_law.specs.Below.fr_plain.MachineActs.{do_borrow, reference}
+use Rattle.read_law.specs.Below.fr_plain.MachineThreads.{going}
+use Rattle.read_law.specs.Below.fr_code.Steps.{over_at, loud, run_instr}
+use Rattle.read_law.specs.Below.global_addr.Words.{colour_of, server_of}
+use Rattle.read_law.specs.Below.heap_partition.declared.value.Cell.{Cell}
+use Rattle.read_law.specs.Below.heap_partition.declared.value.Owned.TheVariants as owned
+use Rattle.read_law.specs.Below.heap_partition.declared.value.BoxPtr.{BoxPtr}
+use Rattle.read_law.specs.Below.owner_box.Partition.{freed, renewed, new_word}
+use Rattle.read_law.specs.Below.read_cache.Cache.{hit}
+use Rattle.read_law.specs.Below.migration.Packing.{unpinned}
+use Rattle.read_law.specs.Below.journal.declared.act.Act.TheVariants as act
+use Rattle.read_law.specs.Below.mut_borrow.Refs.{cleaned_answer}
+use Rattle.read_law.specs.Below.mut_borrow.declared.mutable.MutRef.{MutRef}
+use Rattle.read_law.specs.Below.mut_borrow.declared.mutable.Cleaned.{Cleaned}
+use Rattle.read_law.specs.Below.mut_borrow.declared.mutable.Cleaned.TheVariants as cleaned
+use Rattle.read_law.specs.Below.place_walk.declared.hop.Hop.{Hop}
+use Rattle.read_law.specs.Below.place_walk.declared.hop.Hop.TheVariants as hop
+use Rattle.read_law.specs.Below.place_walk.Hops.{write_hop}
+use Rattle.read_law.specs.Below.thread_state.View.{ThreadState}
+use Rattle.read_law.specs.Below.thread_state.declared.phase.Phase.{Phase}
+use Rattle.read_law.specs.Below.thread_state.declared.phase.Phase.TheVariants as phase
+use Rattle.read_law.specs.Below.thread_state.declared.value.Value.{Value}
+use Rattle.read_law.specs.Below.thread_state.declared.value.Value.TheVariants as value
+use Rattle.read_law.specs.Below.server_model.declared.event.Event.{Event}
+use Rattle.read_law.specs.Below.server_model.Servers.{Server, Cluster}
+use Rattle.read_law.specs.Below.server_model.Work.{Hand, with_slots, push_temp, then_some}
+use Rattle.read_law.specs.Below.server_model.NewWords.{NewWord, issue_tint, issue_renewal, can_grow, is_last}
+use Rattle.read_law.specs.Below.server_model.Work as work
+use Rattle.read_law.specs.Below.server_model.Places.{Spot, in_slot, on_top, in_cell, in_copy, nowhere, value_in as cell_value, value_at, load_at, pointer_of, took, put_word, put_slot, with_word}
+use Rattle.read_law.specs.Below.server_model.Prepare.{ReadPointer, LendTo, Prepared, ready, requested, nothing, and_then, ready_at, ask_object, request_by, box_of, clean_last, cleaned_by, clean, clean_value, read_stars, read_pointer, is_taken, lend_by, lend_value, lend_pointer, prepare}
+use Rattle.read_law.specs.Below.server_model.Commit.{goes_on, shared_from, lent_word, mutable_from, borrow_from, borrow_mut_from}
+use Rattle.read_law.specs.Below.server_model.Events.{committed, prepared, step}
+use Rattle.read_law.specs.Below.heap_law.Things.{Location, at_slot, in_cell as at_cell}
+use Rattle.read_law.specs.Below.heap_law.Follow.{Ground, value_in, value_behind, leads, locate}
+use Rattle.read_law.specs.Below.heap_law.Sight.{sight}
+use Rattle.read_law.specs.Below.heap_law.OneHeap.{Node, one_heap, plain_value}
+use Rattle.read_law.specs.Below.type_law.ClusterTypes.{IsCoherent}
+use Rattle.read_law.specs.Below.event_law.Laws.{Gives}
+use Rattle.read_law.proofs.Below.event_law.Results.{then_gives, over_gives, weaker}
 use Rattle.read_law.specs.Reading.{Reads, shares, lends}
 use Rattle.still_law.proofs.Prepares.{Fine}
 use Rattle.still_law.proofs.Readied.{Readied}

@@ -1,24 +1,24 @@
 -- Each kind of instruction whose line stands.
 use Rattle.std.proofs.Common.{◌≡◌, ℕ, zero, suc, ◌==◌, true, false, Some, refl, sym, ap, ◌∙◌, subst}
 use Rattle.std.specs.Prelude.{slice_get}
-use Rattle.fr_typing.proofs.PlaceLemmas.{eq_cases}
-use Rattle.fr_base.specs.Lists.{last_of}
-use Rattle.fr_base.specs.declared.place.Lval.{Lval}
-use Rattle.fr_base.specs.declared.instruction.Operand.{Operand}
-use Rattle.fr_base.specs.declared.instruction.Instr.{Instr}
-use Rattle.fr_base.specs.declared.instruction.Instr.TheVariants as instr
-use Rattle.server_model.specs.declared.event.Event.{Event}
-use Rattle.thread_state.specs.View.{ThreadState}
-use Rattle.server_model.specs.Servers.{Server, Cluster}
-use Rattle.server_model.specs.Work.{then_some}
-use Rattle.server_model.specs.Clusters.{apply}
-use Rattle.heap_law.specs.Coherent.{IsSound}
-use Rattle.heap_law.proofs.Names.{and_left, and_right}
-use Rattle.event_law.specs.Laws.{Gives}
+use Rattle.read_law.proofs.Below.fr_typing.PlaceLemmas.{eq_cases}
+use Rattle.read_law.specs.Below.fr_base.Lists.{last_of}
+use Rattle.read_law.specs.Below.fr_base.declared.place.Lval.{Lval}
+use Rattle.read_law.specs.Below.fr_base.declared.instruction.Operand.{Operand}
+use Rattle.read_law.specs.Below.fr_base.declared.instruction.Instr.{Instr}
+use Rattle.read_law.specs.Below.fr_base.declared.instruction.Instr.TheVariants as instr
+use Rattle.read_law.specs.Below.server_model.declared.event.Event.{Event}
+use Rattle.read_law.specs.Below.thread_state.View.{ThreadState}
+use Rattle.read_law.specs.Below.server_model.Servers.{Server, Cluster}
+use Rattle.read_law.specs.Below.server_model.Work.{then_some}
+use Rattle.read_law.specs.Below.server_model.Clusters.{apply}
+use Rattle.read_law.specs.Below.heap_law.Coherent.{IsSound}
+use Rattle.read_law.proofs.Below.heap_law.Names.{and_left, and_right}
+use Rattle.read_law.specs.Below.event_law.Laws.{Gives}
 use Rattle.turn_law.specs.Turns.{IsPlainStep, instr_of, ArePlainSteps, is_let, is_arith, is_print, reads_slot, borrows_slot, copies_place, borrows_place, lends_place, none_goes, discards_none, drops_none, replaces_none, thread_at, thread_of, ArePlainStepsWhere}
 use Rattle.turn_law.proofs.Instructions.{lets as let_line, prints as print_line, sums as arith_line, shared_borrows, mutable_borrows}
 use Rattle.turn_law.proofs.SlotReads.{reads as read_line}
-use Rattle.type_law.specs.ClusterTypes.{IsCoherent}
+use Rattle.read_law.specs.Below.type_law.ClusterTypes.{IsCoherent}
 use Rattle.turn_law.proofs.StarLines.{copy_line}
 use Rattle.turn_law.proofs.BorrowLines.{shared_line, mutable_line}
 use Rattle.turn_law.proofs.DropLines.{discard_line, drop_line, assign_line}

@@ -3,52 +3,52 @@ use Rattle.std.proofs.Common.{◌≡◌, ℕ, zero, suc, ◌+◌, ◌-◌, nat_l
 use Rattle.std.specs.Prelude.{slice_get, slice_set}
 use Rattle.std.specs.Bool.{⊤}
 use Rattle.std.proofs.lemmas.Option.{slice_get-map}
-use Rattle.fr_base.specs.Lists.{last_of}
-use Rattle.fr_base.specs.declared.label.Plain.{Plain}
-use Rattle.fr_base.specs.declared.label.Plain.TheVariants as plain
-use Rattle.fr_base.specs.declared.place.Lval.{Lval}
-use Rattle.fr_base.specs.declared.step.Fresh.{Fresh}
-use Rattle.fr_base.specs.declared.step.Fresh.TheVariants as fresh
-use Rattle.fr_base.specs.declared.instruction.Instr.{Instr}
-use Rattle.fr_base.specs.declared.instruction.Instr.TheVariants as instr
-use Rattle.fr_base.specs.declared.instruction.Operand.{Operand}
-use Rattle.fr_plain.specs.declared.value.Value.{Value as PlainValue}
-use Rattle.fr_plain.specs.declared.value.Value.TheVariants as plain_v
-use Rattle.fr_plain.specs.Heap.{Heap, drop_links, last_link, live}
-use Rattle.fr_plain.specs.State.{State, drops, without, with_slot}
-use Rattle.fr_plain.specs.State as state
-use Rattle.fr_plain.specs.MachineActs.{do_discard, do_drop, do_assign, end_of, drop_did, assign_did}
-use Rattle.fr_plain.specs.MachineActs as acts
-use Rattle.fr_plain.specs.MachineThreads.{going, Move, release_by}
-use Rattle.fr_plain.specs.Machine.{alone_stepped, done_act}
-use Rattle.fr_code.specs.Steps.{Place, over_at, quiet, run_instr, code_moves}
-use Rattle.fr_code.specs.Machine.{CodeLife, CodeThread, CodeWhole}
-use Rattle.owner_box.specs.Partition.{stored}
-use Rattle.heap_partition.specs.declared.value.Owned.TheVariants as owned
-use Rattle.mut_borrow.specs.Refs.{finish_word}
-use Rattle.read_cache.specs.Cache.{can_unpin, unpin}
-use Rattle.thread_state.specs.View.{ThreadState}
-use Rattle.thread_state.specs.declared.value.Value.{Value}
-use Rattle.thread_state.specs.declared.value.Value.TheVariants as value
-use Rattle.server_model.specs.declared.event.Event.{Event}
-use Rattle.server_model.specs.Servers.{Rest, Server, Cluster}
-use Rattle.server_model.specs.Work.{Hand, Popped, with_partition, working, with_slots, with_temps, front_of, leads_here, pop, then_some}
-use Rattle.server_model.specs.Places.{Spot, in_slot, on_top, in_cell, in_copy, nowhere, value_at, put_at, put_slot, note_write, set_pointer, with_word}
-use Rattle.server_model.specs.Drop.{drop_labels, unpin_ref, finished_at, drop_value}
-use Rattle.server_model.specs.Prepare.{Access, ending, Prepared, ready, requested, nothing, and_then, unlabelled, prepare}
-use Rattle.server_model.specs.Commit.{goes_on, label_dropped, replace_slot, assign, discard, drop_slot}
-use Rattle.server_model.specs.Events.{Stepped, begin_work, committed, prepared, step}
-use Rattle.heap_law.specs.Names.{one}
-use Rattle.heap_law.specs.OneHeap.{Node, one_heap, plain_value, running_at}
-use Rattle.heap_law.specs.Coherent.{IsSound}
-use Rattle.event_law.specs.Laws.{Gives}
-use Rattle.event_law.proofs.Results.{then_gives, bind_gives, test_gives, both_give, weaker}
-use Rattle.event_law.proofs.Values.{last_split}
+use Rattle.read_law.specs.Below.fr_base.Lists.{last_of}
+use Rattle.read_law.specs.Below.fr_base.declared.label.Plain.{Plain}
+use Rattle.read_law.specs.Below.fr_base.declared.label.Plain.TheVariants as plain
+use Rattle.read_law.specs.Below.fr_base.declared.place.Lval.{Lval}
+use Rattle.read_law.specs.Below.fr_base.declared.step.Fresh.{Fresh}
+use Rattle.read_law.specs.Below.fr_base.declared.step.Fresh.TheVariants as fresh
+use Rattle.read_law.specs.Below.fr_base.declared.instruction.Instr.{Instr}
+use Rattle.read_law.specs.Below.fr_base.declared.instruction.Instr.TheVariants as instr
+use Rattle.read_law.specs.Below.fr_base.declared.instruction.Operand.{Operand}
+use Rattle.read_law.specs.Below.fr_plain.declared.value.Value.{Value as PlainValue}
+use Rattle.read_law.specs.Below.fr_plain.declared.value.Value.TheVariants as plain_v
+use Rattle.read_law.specs.Below.fr_plain.Heap.{Heap, drop_links, last_link, live}
+use Rattle.read_law.specs.Below.fr_plain.State.{State, drops, without, with_slot}
+use Rattle.read_law.specs.Below.fr_plain.State as state
+use Rattle.read_law.specs.Below.fr_plain.MachineActs.{do_discard, do_drop, do_assign, end_of, drop_did, assign_did}
+use Rattle.read_law.specs.Below.fr_plain.MachineActs as acts
+use Rattle.read_law.specs.Below.fr_plain.MachineThreads.{going, Move, release_by}
+use Rattle.read_law.specs.Below.fr_plain.Machine.{alone_stepped, done_act}
+use Rattle.read_law.specs.Below.fr_code.Steps.{Place, over_at, quiet, run_instr, code_moves}
+use Rattle.read_law.specs.Below.fr_code.Machine.{CodeLife, CodeThread, CodeWhole}
+use Rattle.read_law.specs.Below.owner_box.Partition.{stored}
+use Rattle.read_law.specs.Below.heap_partition.declared.value.Owned.TheVariants as owned
+use Rattle.read_law.specs.Below.mut_borrow.Refs.{finish_word}
+use Rattle.read_law.specs.Below.read_cache.Cache.{can_unpin, unpin}
+use Rattle.read_law.specs.Below.thread_state.View.{ThreadState}
+use Rattle.read_law.specs.Below.thread_state.declared.value.Value.{Value}
+use Rattle.read_law.specs.Below.thread_state.declared.value.Value.TheVariants as value
+use Rattle.read_law.specs.Below.server_model.declared.event.Event.{Event}
+use Rattle.read_law.specs.Below.server_model.Servers.{Rest, Server, Cluster}
+use Rattle.read_law.specs.Below.server_model.Work.{Hand, Popped, with_partition, working, with_slots, with_temps, front_of, leads_here, pop, then_some}
+use Rattle.read_law.specs.Below.server_model.Places.{Spot, in_slot, on_top, in_cell, in_copy, nowhere, value_at, put_at, put_slot, note_write, set_pointer, with_word}
+use Rattle.read_law.specs.Below.server_model.Drop.{drop_labels, unpin_ref, finished_at, drop_value}
+use Rattle.read_law.specs.Below.server_model.Prepare.{Access, ending, Prepared, ready, requested, nothing, and_then, unlabelled, prepare}
+use Rattle.read_law.specs.Below.server_model.Commit.{goes_on, label_dropped, replace_slot, assign, discard, drop_slot}
+use Rattle.read_law.specs.Below.server_model.Events.{Stepped, begin_work, committed, prepared, step}
+use Rattle.read_law.specs.Below.heap_law.Names.{one}
+use Rattle.read_law.specs.Below.heap_law.OneHeap.{Node, one_heap, plain_value, running_at}
+use Rattle.read_law.specs.Below.heap_law.Coherent.{IsSound}
+use Rattle.read_law.specs.Below.event_law.Laws.{Gives}
+use Rattle.read_law.proofs.Below.event_law.Results.{then_gives, bind_gives, test_gives, both_give, weaker}
+use Rattle.read_law.proofs.Below.event_law.Values.{last_split}
 use Rattle.still_law.proofs.Addresses.{in_place}
 use Rattle.still_law.proofs.Leaving.{others, placed_here}
 use Rattle.still_law.proofs.Prepares.{Fine, prepare_shows}
 use Rattle.still_law.proofs.Readied.{Readied, readied_slots, readied_temps, same_ready, copies_ready, set_ready}
-use Rattle.path_law.proofs.Shown.{shown_value}
+use Rattle.read_law.proofs.Below.path_law.Shown.{shown_value}
 use Rattle.turn_law.specs.Turns.{lets_none_go, none_goes}
 use Rattle.turn_law.proofs.Parts.{value_owns, owned_in}
 use Rattle.turn_law.proofs.OneTurn.{after}

@@ -1,45 +1,45 @@
 -- From an instruction's line to the event: it is that plain step on the cluster's one heap.
 use Rattle.std.proofs.Common.{◌≡◌, ℕ, ◌+◌, ◌≤◌, ◌==◌, ◌&&◌, ◌||◌, not, Bool, true, false, if◌then◌else◌, List, [], ◌∷◌, ◌++◌, length, take, drop, Option, Some, None, is_some, option_map, refl, sym, ap, ap₂, ◌∙◌, subst, arith}
 use Rattle.std.specs.Prelude.{slice_get}
-use Rattle.fr_typing.proofs.PlaceLemmas.{eq_cases}
-use Rattle.fr_base.specs.declared.step.Fresh.{Fresh}
-use Rattle.fr_base.specs.declared.step.Fresh.TheVariants as fresh
-use Rattle.fr_base.specs.declared.instruction.Instr.{Instr}
-use Rattle.fr_plain.specs.PlainState.{SameState, plain_state}
-use Rattle.fr_code.specs.Machine.{CodeState}
-use Rattle.join_home.specs.Tasks.{Task, TaskState, going, let_go, kept, asked, in_pair}
-use Rattle.journal.specs.View.{EntryView}
-use Rattle.server_msgs.specs.declared.message.Message.{Message}
-use Rattle.server_msgs.specs.declared.message.Message.TheVariants as message
-use Rattle.heap_partition.specs.declared.value.Owned.{Owned}
-use Rattle.thread_state.specs.View.{ThreadState, is_over}
-use Rattle.thread_state.specs.declared.phase.Phase.{Phase}
-use Rattle.thread_state.specs.declared.phase.Phase.TheVariants as phase
-use Rattle.server_model.specs.declared.event.Event.{Event}
-use Rattle.server_model.specs.declared.event.What.{What}
-use Rattle.server_model.specs.declared.event.What.TheVariants.{Step, Deliver, Evict, Migrate}
-use Rattle.server_model.specs.Servers.{Rest, Server, Cluster, server_at}
-use Rattle.server_model.specs.Work.{thread_in, set_thread, put_back, then_some}
-use Rattle.server_model.specs.Events.{Stepped, can_step, has_phase, enabled, begin_work, step, step_in, stepped, does}
-use Rattle.server_model.specs.Clusters.{with_server, hand_over_newer, done_at, apply}
-use Rattle.heap_law.specs.Names.{tot, one, other, some, if_so}
-use Rattle.heap_law.specs.Things.{Spot, in_slot, in_temp, as_gift, as_content, as_result, in_hand, Thing, holds, sent, stands, noted, thread_things, server_things, things_of}
-use Rattle.heap_law.specs.Sight.{sight, with_things}
-use Rattle.heap_law.specs.Requests.{home_of, is_par, is_par_end, same_truth, par_end}
-use Rattle.heap_law.specs.Naming.{count_of, threads, started_at, uncounted_thread, zeroth_thread, named_mutexes, uncounted_mutex, zeroth_mutex}
-use Rattle.heap_law.specs.Weights.{is_thread}
-use Rattle.heap_law.specs.OneHeap.{two_in, is_given_thread, running_at, one_heap, state_of}
-use Rattle.heap_law.specs.Coherent.{IsSound}
-use Rattle.event_law.specs.Laws.{Gives, GoTo, FewEvents}
-use Rattle.event_law.proofs.Trades.{tot-append}
-use Rattle.event_law.proofs.Bags.{all_standing, rest_things}
-use Rattle.event_law.proofs.Events.{tot-server}
-use Rattle.event_law.proofs.Applied.{go_with}
-use Rattle.event_law.proofs.Handing.{hand_over_newer_law}
-use Rattle.event_law.proofs.Sending.{each_event_sends}
-use Rattle.event_law.proofs.GiftsTaken.{none_here, gift_fits}
-use Rattle.event_law.proofs.QuietSteps.{GiftFits}
-use Rattle.event_law.proofs.Results.{both_give, then_gives, over_gives, test_gives, weaker}
+use Rattle.read_law.proofs.Below.fr_typing.PlaceLemmas.{eq_cases}
+use Rattle.read_law.specs.Below.fr_base.declared.step.Fresh.{Fresh}
+use Rattle.read_law.specs.Below.fr_base.declared.step.Fresh.TheVariants as fresh
+use Rattle.read_law.specs.Below.fr_base.declared.instruction.Instr.{Instr}
+use Rattle.read_law.specs.Below.fr_plain.PlainState.{SameState, plain_state}
+use Rattle.read_law.specs.Below.fr_code.Machine.{CodeState}
+use Rattle.read_law.specs.Below.join_home.Tasks.{Task, TaskState, going, let_go, kept, asked, in_pair}
+use Rattle.read_law.specs.Below.journal.View.{EntryView}
+use Rattle.read_law.specs.Below.server_msgs.declared.message.Message.{Message}
+use Rattle.read_law.specs.Below.server_msgs.declared.message.Message.TheVariants as message
+use Rattle.read_law.specs.Below.heap_partition.declared.value.Owned.{Owned}
+use Rattle.read_law.specs.Below.thread_state.View.{ThreadState, is_over}
+use Rattle.read_law.specs.Below.thread_state.declared.phase.Phase.{Phase}
+use Rattle.read_law.specs.Below.thread_state.declared.phase.Phase.TheVariants as phase
+use Rattle.read_law.specs.Below.server_model.declared.event.Event.{Event}
+use Rattle.read_law.specs.Below.server_model.declared.event.What.{What}
+use Rattle.read_law.specs.Below.server_model.declared.event.What.TheVariants.{Step, Deliver, Evict, Migrate}
+use Rattle.read_law.specs.Below.server_model.Servers.{Rest, Server, Cluster, server_at}
+use Rattle.read_law.specs.Below.server_model.Work.{thread_in, set_thread, put_back, then_some}
+use Rattle.read_law.specs.Below.server_model.Events.{Stepped, can_step, has_phase, enabled, begin_work, step, step_in, stepped, does}
+use Rattle.read_law.specs.Below.server_model.Clusters.{with_server, hand_over_newer, done_at, apply}
+use Rattle.read_law.specs.Below.heap_law.Names.{tot, one, other, some, if_so}
+use Rattle.read_law.specs.Below.heap_law.Things.{Spot, in_slot, in_temp, as_gift, as_content, as_result, in_hand, Thing, holds, sent, stands, noted, thread_things, server_things, things_of}
+use Rattle.read_law.specs.Below.heap_law.Sight.{sight, with_things}
+use Rattle.read_law.specs.Below.heap_law.Requests.{home_of, is_par, is_par_end, same_truth, par_end}
+use Rattle.read_law.specs.Below.heap_law.Naming.{count_of, threads, started_at, uncounted_thread, zeroth_thread, named_mutexes, uncounted_mutex, zeroth_mutex}
+use Rattle.read_law.specs.Below.heap_law.Weights.{is_thread}
+use Rattle.read_law.specs.Below.heap_law.OneHeap.{two_in, is_given_thread, running_at, one_heap, state_of}
+use Rattle.read_law.specs.Below.heap_law.Coherent.{IsSound}
+use Rattle.read_law.specs.Below.event_law.Laws.{Gives, GoTo, FewEvents}
+use Rattle.read_law.proofs.Below.event_law.Trades.{tot-append}
+use Rattle.read_law.proofs.Below.event_law.Bags.{all_standing, rest_things}
+use Rattle.read_law.proofs.Below.event_law.Events.{tot-server}
+use Rattle.read_law.proofs.Below.event_law.Applied.{go_with}
+use Rattle.read_law.proofs.Below.event_law.Handing.{hand_over_newer_law}
+use Rattle.read_law.proofs.Below.event_law.Sending.{each_event_sends}
+use Rattle.read_law.proofs.Below.event_law.GiftsTaken.{none_here, gift_fits}
+use Rattle.read_law.proofs.Below.event_law.QuietSteps.{GiftFits}
+use Rattle.read_law.proofs.Below.event_law.Results.{both_give, then_gives, over_gives, test_gives, weaker}
 use Rattle.still_law.specs.Shows.{sign_of, ShowAlike}
 use Rattle.still_law.proofs.Alike.{Once, same_heap}
 use Rattle.still_law.proofs.Gifts.{placed, telling, places_told}

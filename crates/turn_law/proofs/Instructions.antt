@@ -2,41 +2,41 @@
 use Rattle.std.proofs.Common.{◌≡◌, ℕ, ℤ, ◌+◌, true, false, List, [], ◌∷◌, ◌++◌, reverse, map, Option, Some, None, option_map, refl, sym, ap, ◌∙◌, subst, arith}
 use Rattle.std.specs.Prelude.{slice_get}
 use Rattle.std.proofs.lemmas.List.{map-append, reverse-append}
-use Rattle.fr_base.specs.declared.label.Label.TheVariants as label
-use Rattle.fr_base.specs.declared.label.Plain.TheVariants as plain
-use Rattle.fr_base.specs.declared.place.Lval.{Lval}
-use Rattle.fr_base.specs.declared.place.Op.{Op}
-use Rattle.fr_base.specs.declared.step.Fresh.TheVariants as fresh
-use Rattle.fr_base.specs.declared.instruction.Instr.{Instr}
-use Rattle.fr_base.specs.declared.instruction.Instr.TheVariants as instr
-use Rattle.fr_base.specs.declared.instruction.Operand.{Operand}
-use Rattle.fr_base.specs.declared.instruction.Operand.TheVariants as operand
-use Rattle.fr_plain.specs.declared.value.Value.{Value as PlainValue}
-use Rattle.fr_plain.specs.declared.value.Value.TheVariants.{Own}
-use Rattle.fr_plain.specs.Acts.{result_of}
-use Rattle.fr_plain.specs.MachineActs.{do_let, do_arith, do_print, do_borrow}
-use Rattle.fr_plain.specs.MachineActs as acts
-use Rattle.fr_code.specs.Steps.{Place, CodeMove, over_at, with_operand, loud, quiet, run_instr, code_moves}
-use Rattle.fr_plain.specs.MachineThreads.{going, Move}
-use Rattle.fr_plain.specs.Machine.{alone_stepped, done_act}
-use Rattle.fr_code.specs.Machine.{CodeLife, CodeThread, CodeWhole, CodeState}
-use Rattle.heap_partition.specs.declared.value.Owned.TheVariants as owned
-use Rattle.read_cache.specs.Cache.{Copy}
-use Rattle.migration.specs.Packing.{unpin_all}
-use Rattle.thread_state.specs.View.{ThreadState}
-use Rattle.thread_state.specs.declared.value.Value.{Value}
-use Rattle.thread_state.specs.declared.value.Value.TheVariants as value
-use Rattle.server_model.specs.Servers.{Rest}
-use Rattle.server_model.specs.Work.{Hand, Popped, with_cache, with_temps, pop, pop_int, int_of, taken_as, last_of, front_of, push_slot, push_temp, working, label_all}
-use Rattle.server_model.specs.Commit.{goes_on, go_on, let_slot, arith as arith_step, print}
-use Rattle.server_model.specs.Events.{Stepped, begin_work, committed, step}
-use Rattle.heap_law.specs.Names.{tot, one}
-use Rattle.heap_law.specs.OneHeap.{Node, object_n, mutex_n, task_n, owns, plain_value, running_at}
-use Rattle.event_law.specs.Laws.{Gives}
-use Rattle.event_law.proofs.Results.{map_gives, over_gives, bind_gives}
-use Rattle.event_law.proofs.Values.{last_split}
-use Rattle.event_law.proofs.Bags.{rest_things}
-use Rattle.event_law.proofs.Trades.{tot-append}
+use Rattle.read_law.specs.Below.fr_base.declared.label.Label.TheVariants as label
+use Rattle.read_law.specs.Below.fr_base.declared.label.Plain.TheVariants as plain
+use Rattle.read_law.specs.Below.fr_base.declared.place.Lval.{Lval}
+use Rattle.read_law.specs.Below.fr_base.declared.place.Op.{Op}
+use Rattle.read_law.specs.Below.fr_base.declared.step.Fresh.TheVariants as fresh
+use Rattle.read_law.specs.Below.fr_base.declared.instruction.Instr.{Instr}
+use Rattle.read_law.specs.Below.fr_base.declared.instruction.Instr.TheVariants as instr
+use Rattle.read_law.specs.Below.fr_base.declared.instruction.Operand.{Operand}
+use Rattle.read_law.specs.Below.fr_base.declared.instruction.Operand.TheVariants as operand
+use Rattle.read_law.specs.Below.fr_plain.declared.value.Value.{Value as PlainValue}
+use Rattle.read_law.specs.Below.fr_plain.declared.value.Value.TheVariants.{Own}
+use Rattle.read_law.specs.Below.fr_plain.Acts.{result_of}
+use Rattle.read_law.specs.Below.fr_plain.MachineActs.{do_let, do_arith, do_print, do_borrow}
+use Rattle.read_law.specs.Below.fr_plain.MachineActs as acts
+use Rattle.read_law.specs.Below.fr_code.Steps.{Place, CodeMove, over_at, with_operand, loud, quiet, run_instr, code_moves}
+use Rattle.read_law.specs.Below.fr_plain.MachineThreads.{going, Move}
+use Rattle.read_law.specs.Below.fr_plain.Machine.{alone_stepped, done_act}
+use Rattle.read_law.specs.Below.fr_code.Machine.{CodeLife, CodeThread, CodeWhole, CodeState}
+use Rattle.read_law.specs.Below.heap_partition.declared.value.Owned.TheVariants as owned
+use Rattle.read_law.specs.Below.read_cache.Cache.{Copy}
+use Rattle.read_law.specs.Below.migration.Packing.{unpin_all}
+use Rattle.read_law.specs.Below.thread_state.View.{ThreadState}
+use Rattle.read_law.specs.Below.thread_state.declared.value.Value.{Value}
+use Rattle.read_law.specs.Below.thread_state.declared.value.Value.TheVariants as value
+use Rattle.read_law.specs.Below.server_model.Servers.{Rest}
+use Rattle.read_law.specs.Below.server_model.Work.{Hand, Popped, with_cache, with_temps, pop, pop_int, int_of, taken_as, last_of, front_of, push_slot, push_temp, working, label_all}
+use Rattle.read_law.specs.Below.server_model.Commit.{goes_on, go_on, let_slot, arith as arith_step, print}
+use Rattle.read_law.specs.Below.server_model.Events.{Stepped, begin_work, committed, step}
+use Rattle.read_law.specs.Below.heap_law.Names.{tot, one}
+use Rattle.read_law.specs.Below.heap_law.OneHeap.{Node, object_n, mutex_n, task_n, owns, plain_value, running_at}
+use Rattle.read_law.specs.Below.event_law.Laws.{Gives}
+use Rattle.read_law.proofs.Below.event_law.Results.{map_gives, over_gives, bind_gives}
+use Rattle.read_law.proofs.Below.event_law.Values.{last_split}
+use Rattle.read_law.proofs.Below.event_law.Bags.{rest_things}
+use Rattle.read_law.proofs.Below.event_law.Trades.{tot-append}
 use Rattle.still_law.specs.Shows.{sign_of}
 use Rattle.still_law.proofs.Arrivals.{cache_shown}
 use Rattle.still_law.proofs.Sites.{Moves}

@@ -1,39 +1,39 @@
 -- What one thread's turn leaves of the one heap: where it goes on with other slots and temporary values that own the same, all else is as it was.
 use Rattle.std.proofs.Common.{◌≡◌, ◌≢◌, ℕ, zero, suc, ◌+◌, ◌==◌, ◌||◌, not, Bool, true, false, if◌then◌else◌, List, [], ◌∷◌, ◌++◌, length, Option, Some, None, is_some, refl, sym, ap, ap₂, ◌∙◌, subst, arith}
 use Rattle.std.specs.Prelude.{◌%◌, ◌^◌, ◌&&◌}
-use Rattle.fr_typing.proofs.PlaceLemmas.{eq_cases}
-use Rattle.fr_base.specs.declared.name.MutexNo.{MutexNo}
-use Rattle.fr_base.specs.declared.name.ObjNo.{ObjNo}
-use Rattle.fr_base.specs.declared.label.Plain.TheVariants as plain
-use Rattle.fr_base.specs.declared.instruction.Instr.{Instr}
-use Rattle.fr_base.specs.declared.instruction.Instr.TheVariants as instr
-use Rattle.fr_plain.specs.MachineThreads.{Life, alive, owing, loose}
-use Rattle.fr_code.specs.Machine.{CodeState, CodeRunning}
-use Rattle.heap_partition.specs.Plain.{plain_of}
-use Rattle.thread_state.specs.View.{ThreadState, is_over}
-use Rattle.thread_state.specs.declared.phase.Phase.{Phase}
-use Rattle.thread_state.specs.declared.phase.Phase.TheVariants as phase
-use Rattle.thread_state.specs.declared.value.Value.{Value}
-use Rattle.thread_state.specs.declared.value.Value.TheVariants as value
-use Rattle.heap_partition.specs.declared.value.Owned.TheVariants as owned
-use Rattle.server_model.specs.Servers.{Cluster}
-use Rattle.heap_law.specs.Names.{tot, one, some, if_so}
-use Rattle.heap_law.specs.Things.{in_slot, in_temp, as_gift, as_content, as_result, in_hand, Thing, holds, stands, thread_things}
-use Rattle.heap_law.specs.Follow.{Standing, threads_in, thread_at, cells_in, cell_of, value_of, slot_of, value_behind, leads, locate}
-use Rattle.heap_law.specs.Sight.{Sight, with_things}
-use Rattle.heap_law.specs.Walking.{instr_of}
-use Rattle.heap_law.specs.Requests.{home_of, mutex_of, locked_mutex, is_mutex}
-use Rattle.heap_law.specs.Sharing.{got_phase, has_ended}
-use Rattle.heap_law.specs.Naming.{started_at, made_at}
-use Rattle.heap_law.specs.Weights.{is_thread}
-use Rattle.heap_law.specs.OneHeap.{Node, object_n, mutex_n, task_n, a_thread, owns, content_owner, gift_owner, gift_owner_of, owner_of, names, owner_in, named_in, any_named, in_state_by, is_in_state, if_in, cell_value, or_else, first_shown, object_value, is_gift_of, content_value, share_in, if_there, in_pair_of, is_branch, branch_result, is_joined_by, result_value, result_of, ended_with, going_on, running_at, life_of, life_at, made_of, two_in, pair_of, was_let_go, is_given_thread, is_given_mutex, if_given, state_of}
-use Rattle.event_law.proofs.Bags.{had_by}
-use Rattle.event_law.proofs.Trades.{tot-append}
+use Rattle.read_law.proofs.Below.fr_typing.PlaceLemmas.{eq_cases}
+use Rattle.read_law.specs.Below.fr_base.declared.name.MutexNo.{MutexNo}
+use Rattle.read_law.specs.Below.fr_base.declared.name.ObjNo.{ObjNo}
+use Rattle.read_law.specs.Below.fr_base.declared.label.Plain.TheVariants as plain
+use Rattle.read_law.specs.Below.fr_base.declared.instruction.Instr.{Instr}
+use Rattle.read_law.specs.Below.fr_base.declared.instruction.Instr.TheVariants as instr
+use Rattle.read_law.specs.Below.fr_plain.MachineThreads.{Life, alive, owing, loose}
+use Rattle.read_law.specs.Below.fr_code.Machine.{CodeState, CodeRunning}
+use Rattle.read_law.specs.Below.heap_partition.Plain.{plain_of}
+use Rattle.read_law.specs.Below.thread_state.View.{ThreadState, is_over}
+use Rattle.read_law.specs.Below.thread_state.declared.phase.Phase.{Phase}
+use Rattle.read_law.specs.Below.thread_state.declared.phase.Phase.TheVariants as phase
+use Rattle.read_law.specs.Below.thread_state.declared.value.Value.{Value}
+use Rattle.read_law.specs.Below.thread_state.declared.value.Value.TheVariants as value
+use Rattle.read_law.specs.Below.heap_partition.declared.value.Owned.TheVariants as owned
+use Rattle.read_law.specs.Below.server_model.Servers.{Cluster}
+use Rattle.read_law.specs.Below.heap_law.Names.{tot, one, some, if_so}
+use Rattle.read_law.specs.Below.heap_law.Things.{in_slot, in_temp, as_gift, as_content, as_result, in_hand, Thing, holds, stands, thread_things}
+use Rattle.read_law.specs.Below.heap_law.Follow.{Standing, threads_in, thread_at, cells_in, cell_of, value_of, slot_of, value_behind, leads, locate}
+use Rattle.read_law.specs.Below.heap_law.Sight.{Sight, with_things}
+use Rattle.read_law.specs.Below.heap_law.Walking.{instr_of}
+use Rattle.read_law.specs.Below.heap_law.Requests.{home_of, mutex_of, locked_mutex, is_mutex}
+use Rattle.read_law.specs.Below.heap_law.Sharing.{got_phase, has_ended}
+use Rattle.read_law.specs.Below.heap_law.Naming.{started_at, made_at}
+use Rattle.read_law.specs.Below.heap_law.Weights.{is_thread}
+use Rattle.read_law.specs.Below.heap_law.OneHeap.{Node, object_n, mutex_n, task_n, a_thread, owns, content_owner, gift_owner, gift_owner_of, owner_of, names, owner_in, named_in, any_named, in_state_by, is_in_state, if_in, cell_value, or_else, first_shown, object_value, is_gift_of, content_value, share_in, if_there, in_pair_of, is_branch, branch_result, is_joined_by, result_value, result_of, ended_with, going_on, running_at, life_of, life_at, made_of, two_in, pair_of, was_let_go, is_given_thread, is_given_mutex, if_given, state_of}
+use Rattle.read_law.proofs.Below.event_law.Bags.{had_by}
+use Rattle.read_law.proofs.Below.event_law.Trades.{tot-append}
 use Rattle.still_law.proofs.Counting.{shown_result}
 use Rattle.still_law.proofs.Alike.{Once}
 use Rattle.still_law.proofs.Rounds.{owner_same, named_alike, enough}
 use Rattle.still_law.proofs.Told.{told, ones}
-use Rattle.path_law.proofs.Contained.{among_thread}
+use Rattle.read_law.proofs.Below.path_law.Contained.{among_thread}
 use Rattle.turn_law.proofs.Parts.{shown_both, any_both, threads_both, cells_both, thread_both, Own, own_all, none_shown, same_counted, none_counted, no_threads, no_cells, any_told, owned_in, own_named}
 
 -- THE WAY A THREAD GOES ON

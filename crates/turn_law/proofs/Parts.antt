@@ -1,21 +1,21 @@
 -- Things in two parts, and the things that a thread has beside itself.
 use Rattle.std.proofs.Common.{◌≡◌, ℕ, ◌+◌, ◌||◌, Bool, true, false, if◌then◌else◌, List, [], ◌∷◌, ◌++◌, Option, Some, None, refl, sym, ap, ap₂, ◌∙◌, subst, arith}
 use Rattle.std.specs.List.{AllByRecursion}
-use Rattle.fr_typing.proofs.PlaceLemmas.{eq_cases}
-use Rattle.fr_base.specs.declared.name.MutexNo.{MutexNo}
-use Rattle.heap_partition.specs.declared.value.Owned.{Owned}
-use Rattle.mut_borrow.specs.declared.mutable.MutRef.{MutRef}
-use Rattle.mut_borrow.specs.declared.shared.SharedRef.{SharedRef}
-use Rattle.thread_state.specs.View.{ThreadState}
-use Rattle.thread_state.specs.declared.value.Value.{Value}
-use Rattle.thread_state.specs.declared.value.Value.TheVariants as value
-use Rattle.heap_law.specs.Names.{tot, one, some}
-use Rattle.heap_law.specs.Things.{Location, at_slot, at_temp, Spot, in_slot, in_temp, Thing, holds, shares, borrows, locks, uses, lies, flies, stands, things_at, pin_things, value_things, slot_things, temp_things, gift_things, walk_things}
-use Rattle.heap_law.specs.Follow.{Standing, threads_in, thread_at, cells_in}
-use Rattle.heap_law.specs.Sight.{Sight}
-use Rattle.heap_law.specs.OneHeap.{Node, owns, names, owner_of, named_in, any_named, or_else, first_shown}
-use Rattle.event_law.proofs.Bags.{had_by}
-use Rattle.event_law.proofs.Trades.{tot-append}
+use Rattle.read_law.proofs.Below.fr_typing.PlaceLemmas.{eq_cases}
+use Rattle.read_law.specs.Below.fr_base.declared.name.MutexNo.{MutexNo}
+use Rattle.read_law.specs.Below.heap_partition.declared.value.Owned.{Owned}
+use Rattle.read_law.specs.Below.mut_borrow.declared.mutable.MutRef.{MutRef}
+use Rattle.read_law.specs.Below.mut_borrow.declared.shared.SharedRef.{SharedRef}
+use Rattle.read_law.specs.Below.thread_state.View.{ThreadState}
+use Rattle.read_law.specs.Below.thread_state.declared.value.Value.{Value}
+use Rattle.read_law.specs.Below.thread_state.declared.value.Value.TheVariants as value
+use Rattle.read_law.specs.Below.heap_law.Names.{tot, one, some}
+use Rattle.read_law.specs.Below.heap_law.Things.{Location, at_slot, at_temp, Spot, in_slot, in_temp, Thing, holds, shares, borrows, locks, uses, lies, flies, stands, things_at, pin_things, value_things, slot_things, temp_things, gift_things, walk_things}
+use Rattle.read_law.specs.Below.heap_law.Follow.{Standing, threads_in, thread_at, cells_in}
+use Rattle.read_law.specs.Below.heap_law.Sight.{Sight}
+use Rattle.read_law.specs.Below.heap_law.OneHeap.{Node, owns, names, owner_of, named_in, any_named, or_else, first_shown}
+use Rattle.read_law.proofs.Below.event_law.Bags.{had_by}
+use Rattle.read_law.proofs.Below.event_law.Trades.{tot-append}
 use Rattle.still_law.proofs.Told.{some_or}
 
 -- LISTS IN TWO PARTS

@@ -1,38 +1,38 @@
 -- Places in a state of the plain machine that shows a coherent cluster's one heap: they lead where they lead in the cluster, with its loads.
 use Rattle.std.proofs.Common.{◌≡◌, ℕ, zero, suc, Bool, false, List, [], ◌∷◌, ◌++◌, Option, Some, None, option_map, refl, sym, ap, ◌∙◌}
-use Rattle.fr_base.specs.declared.label.Label.{Label}
-use Rattle.fr_base.specs.declared.label.Label.TheVariants as label
-use Rattle.fr_base.specs.declared.label.Plain.{Plain}
-use Rattle.fr_base.specs.declared.name.MutexNo.{MutexNo}
-use Rattle.fr_base.specs.declared.name.ObjNo.{ObjNo}
-use Rattle.fr_base.specs.declared.place.Lval.{Lval}
-use Rattle.fr_plain.specs.declared.value.Value.TheVariants as plain_v
-use Rattle.fr_plain.specs.Heap.{cell_at}
-use Rattle.fr_plain.specs.State.{State, Reached, loads, led, stars, then_reached}
-use Rattle.fr_plain.specs.State as state
-use Rattle.fr_plain.specs.PlainState.{SameState, plain_state}
-use Rattle.fr_plain.specs.MachineActs.{Did, do_read, do_borrow, read_did, borrow_did, reference}
-use Rattle.fr_plain.specs.MachineActs as acts
-use Rattle.fr_plain.specs.Machine.{mutex_value, mutex_behind}
-use Rattle.fr_sound.specs.Seen.{seen_cell}
-use Rattle.fr_code.specs.Steps.{Place}
-use Rattle.fr_code.specs.Machine.{CodeWhole}
-use Rattle.heap_partition.specs.Plain.{plain_of}
-use Rattle.heap_partition.specs.declared.value.Cell.{Cell}
-use Rattle.heap_partition.specs.declared.value.Owned.TheVariants as owned
-use Rattle.thread_state.specs.declared.value.Value.{Value}
-use Rattle.thread_state.specs.declared.value.Value.TheVariants as value
-use Rattle.server_model.specs.Servers.{Cluster}
-use Rattle.server_model.specs.Places.{load_of}
-use Rattle.heap_law.specs.Things.{Location, at_slot, at_temp, in_cell, things_of}
-use Rattle.heap_law.specs.Follow.{Standing, Ground, cell_of, slot_of, value_of, value_in, value_behind, leads, locate}
-use Rattle.heap_law.specs.Sight.{sight}
-use Rattle.heap_law.specs.OneHeap.{one_heap, object_value, plain_value}
-use Rattle.type_law.specs.ClusterTypes.{IsCoherent}
-use Rattle.path_law.specs.HeapStore.{GoesOn, HasPaths}
-use Rattle.path_law.proofs.Shown.{shown_value, object_shown, stands_there}
-use Rattle.path_law.proofs.Alike.{IsShown, a_slot, an_object, leads_in_heap, coherent_has_paths}
-use Rattle.word_law.proofs.Standing.{cell_among}
+use Rattle.read_law.specs.Below.fr_base.declared.label.Label.{Label}
+use Rattle.read_law.specs.Below.fr_base.declared.label.Label.TheVariants as label
+use Rattle.read_law.specs.Below.fr_base.declared.label.Plain.{Plain}
+use Rattle.read_law.specs.Below.fr_base.declared.name.MutexNo.{MutexNo}
+use Rattle.read_law.specs.Below.fr_base.declared.name.ObjNo.{ObjNo}
+use Rattle.read_law.specs.Below.fr_base.declared.place.Lval.{Lval}
+use Rattle.read_law.specs.Below.fr_plain.declared.value.Value.TheVariants as plain_v
+use Rattle.read_law.specs.Below.fr_plain.Heap.{cell_at}
+use Rattle.read_law.specs.Below.fr_plain.State.{State, Reached, loads, led, stars, then_reached}
+use Rattle.read_law.specs.Below.fr_plain.State as state
+use Rattle.read_law.specs.Below.fr_plain.PlainState.{SameState, plain_state}
+use Rattle.read_law.specs.Below.fr_plain.MachineActs.{Did, do_read, do_borrow, read_did, borrow_did, reference}
+use Rattle.read_law.specs.Below.fr_plain.MachineActs as acts
+use Rattle.read_law.specs.Below.fr_plain.Machine.{mutex_value, mutex_behind}
+use Rattle.read_law.specs.Below.fr_sound.Seen.{seen_cell}
+use Rattle.read_law.specs.Below.fr_code.Steps.{Place}
+use Rattle.read_law.specs.Below.fr_code.Machine.{CodeWhole}
+use Rattle.read_law.specs.Below.heap_partition.Plain.{plain_of}
+use Rattle.read_law.specs.Below.heap_partition.declared.value.Cell.{Cell}
+use Rattle.read_law.specs.Below.heap_partition.declared.value.Owned.TheVariants as owned
+use Rattle.read_law.specs.Below.thread_state.declared.value.Value.{Value}
+use Rattle.read_law.specs.Below.thread_state.declared.value.Value.TheVariants as value
+use Rattle.read_law.specs.Below.server_model.Servers.{Cluster}
+use Rattle.read_law.specs.Below.server_model.Places.{load_of}
+use Rattle.read_law.specs.Below.heap_law.Things.{Location, at_slot, at_temp, in_cell, things_of}
+use Rattle.read_law.specs.Below.heap_law.Follow.{Standing, Ground, cell_of, slot_of, value_of, value_in, value_behind, leads, locate}
+use Rattle.read_law.specs.Below.heap_law.Sight.{sight}
+use Rattle.read_law.specs.Below.heap_law.OneHeap.{one_heap, object_value, plain_value}
+use Rattle.read_law.specs.Below.type_law.ClusterTypes.{IsCoherent}
+use Rattle.read_law.specs.Below.path_law.HeapStore.{GoesOn, HasPaths}
+use Rattle.read_law.proofs.Below.path_law.Shown.{shown_value, object_shown, stands_there}
+use Rattle.read_law.proofs.Below.path_law.Alike.{IsShown, a_slot, an_object, leads_in_heap, coherent_has_paths}
+use Rattle.read_law.proofs.Below.word_law.Standing.{cell_among}
 use Rattle.turn_law.proofs.PlainTurn.{state_at}
 use Rattle.turn_law.proofs.Instructions.{shown_last}
 use Rattle.turn_law.proofs.ReadWalk.{loads_of, loads_behind, passed_loads}

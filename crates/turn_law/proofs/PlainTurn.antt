@@ -1,21 +1,21 @@
 -- A turn of one thread of the plain machine, with what that thread alone does.
 use Rattle.std.proofs.Common.{◌≡◌, ℕ, zero, suc, false, if◌then◌else◌, List, ◌++◌, length, Option, Some, None, refl, sym, ap, ap₂, ◌∙◌, subst}
 use Rattle.std.specs.Prelude.{slice_get}
-use Rattle.fr_typing.proofs.PlaceLemmas.{eq_cases}
-use Rattle.fr_base.specs.declared.label.Label.{Label}
-use Rattle.fr_base.specs.declared.label.Plain.TheVariants as plain
-use Rattle.fr_base.specs.declared.step.Fresh.TheVariants as fresh
-use Rattle.fr_base.specs.declared.instruction.Instr.{Instr}
-use Rattle.fr_plain.specs.declared.value.Value.{Value}
-use Rattle.fr_plain.specs.Heap.{made_by}
-use Rattle.fr_plain.specs.State.{State}
-use Rattle.fr_plain.specs.MachineActs.{act, drops_last, do_end, do_finish, do_leave}
-use Rattle.fr_plain.specs.MachineThreads.{alive, over, owing, loose, ended, going, on_value, alone, next, Move, thread_at, with_thread, is_over, pair_of, release_by, count_both, settle_life, life_move}
-use Rattle.fr_plain.specs.Machine.{prints, alone_stepped, done_act, moved, then_released, stepped, step_of}
-use Rattle.fr_plain.specs.PlainState.{SameState, running, running_in, is_over_in, two_of, plain_state}
-use Rattle.fr_plain.proofs.ByName.{put_in, put_at, put_off, found_number}
-use Rattle.fr_code.specs.Machine.{CodeLife, CodeThread, CodeWhole, CodeStepped, CodeRunning, CodeState}
-use Rattle.fr_code.specs.Steps.{Place, CodeAct, code_move, code_moves, over_at}
+use Rattle.read_law.proofs.Below.fr_typing.PlaceLemmas.{eq_cases}
+use Rattle.read_law.specs.Below.fr_base.declared.label.Label.{Label}
+use Rattle.read_law.specs.Below.fr_base.declared.label.Plain.TheVariants as plain
+use Rattle.read_law.specs.Below.fr_base.declared.step.Fresh.TheVariants as fresh
+use Rattle.read_law.specs.Below.fr_base.declared.instruction.Instr.{Instr}
+use Rattle.read_law.specs.Below.fr_plain.declared.value.Value.{Value}
+use Rattle.read_law.specs.Below.fr_plain.Heap.{made_by}
+use Rattle.read_law.specs.Below.fr_plain.State.{State}
+use Rattle.read_law.specs.Below.fr_plain.MachineActs.{act, drops_last, do_end, do_finish, do_leave}
+use Rattle.read_law.specs.Below.fr_plain.MachineThreads.{alive, over, owing, loose, ended, going, on_value, alone, next, Move, thread_at, with_thread, is_over, pair_of, release_by, count_both, settle_life, life_move}
+use Rattle.read_law.specs.Below.fr_plain.Machine.{prints, alone_stepped, done_act, moved, then_released, stepped, step_of}
+use Rattle.read_law.specs.Below.fr_plain.PlainState.{SameState, running, running_in, is_over_in, two_of, plain_state}
+use Rattle.read_law.proofs.Below.fr_plain.ByName.{put_in, put_at, put_off, found_number}
+use Rattle.read_law.specs.Below.fr_code.Machine.{CodeLife, CodeThread, CodeWhole, CodeStepped, CodeRunning, CodeState}
+use Rattle.read_law.specs.Below.fr_code.Steps.{Place, CodeAct, code_move, code_moves, over_at}
 use Rattle.turn_law.specs.Turns.{StepsTo}
 use Rattle.turn_law.proofs.OneTurn.{Going, as_main, as_owing, as_loose, life_as, TurnOf}
 

@@ -5,39 +5,39 @@ use Rattle.std.specs.Prelude.{slice_get, slice_set}
 use Rattle.std.specs.Bool.{⊤}
 use Rattle.std.proofs.lemmas.Option.{slice_get-map}
 use Rattle.std.proofs.lemmas.Bool.{eqb-true}
-use Rattle.fr_typing.proofs.PlaceLemmas.{eq_cases}
-use Rattle.fr_base.specs.Lists.{is_in}
-use Rattle.fr_base.specs.declared.label.Label.{Label}
-use Rattle.fr_base.specs.declared.name.ObjNo.{ObjNo}
-use Rattle.fr_base.specs.declared.place.Lval.{Lval}
-use Rattle.global_addr.specs.Words.{colour_of, server_of, next_word}
-use Rattle.heap_partition.specs.declared.value.BoxPtr.{BoxPtr}
-use Rattle.heap_partition.specs.declared.value.Cell.{Cell}
-use Rattle.heap_partition.specs.declared.value.Owned.TheVariants as owned
-use Rattle.read_cache.specs.Cache.{Copy, copy_of, cell_in, hit, is_cached, with_users, users, can_pin, pin}
-use Rattle.mut_borrow.specs.Refs.{cleaned_answer}
-use Rattle.mut_borrow.specs.declared.shared.SharedRef.{SharedRef}
-use Rattle.mut_borrow.specs.declared.mutable.MutRef.{MutRef}
-use Rattle.mut_borrow.specs.declared.mutable.Cleaned.TheVariants as cleaned
-use Rattle.migration.specs.Packing.{unpinned}
-use Rattle.place_walk.specs.declared.hop.Hop.{Hop}
-use Rattle.place_walk.specs.declared.hop.Hop.TheVariants as hop
-use Rattle.place_walk.specs.Hops.{by_copy, clean_hop, dirty_hop, read_hop}
-use Rattle.thread_state.specs.View.{ThreadState}
-use Rattle.thread_state.specs.declared.value.Value.{Value}
-use Rattle.thread_state.specs.declared.value.Value.TheVariants as value
-use Rattle.journal.specs.declared.act.Act.TheVariants as act
-use Rattle.server_model.specs.Servers.{Rest}
-use Rattle.server_model.specs.Work.{Hand, note, with_cache, working, with_slots, look, then_some, used_once}
-use Rattle.server_model.specs.NewWords.{issue_tint, issue_renewal}
-use Rattle.server_model.specs.Places.{Spot, in_slot, on_top, in_cell, in_copy, nowhere, cell_at, value_in as cell_value, value_at, load_of, load_at, put_at, pointer_of, took, with_word, put_word}
-use Rattle.server_model.specs.Prepare.{Prepared, ready, requested, nothing, and_then, ready_at, ask_copy, ask_object, request_by, box_of, clean_last, cleaned_by, clean, clean_value, pinned_once, use_copy, hopped, local, hit_by, read_by, read_value, read_clean, tinted_first, read_star, read_stars}
-use Rattle.server_model.specs.Events.{begin_work}
-use Rattle.heap_law.specs.Things.{Location, at_slot, in_cell as at_cell}
-use Rattle.heap_law.specs.Follow.{Ground, cell_of, value_of, value_in, value_behind, leads, locate}
-use Rattle.event_law.specs.Laws.{Gives}
-use Rattle.event_law.proofs.Known.{next_server}
-use Rattle.event_law.proofs.Results.{test_gives}
+use Rattle.read_law.proofs.Below.fr_typing.PlaceLemmas.{eq_cases}
+use Rattle.read_law.specs.Below.fr_base.Lists.{is_in}
+use Rattle.read_law.specs.Below.fr_base.declared.label.Label.{Label}
+use Rattle.read_law.specs.Below.fr_base.declared.name.ObjNo.{ObjNo}
+use Rattle.read_law.specs.Below.fr_base.declared.place.Lval.{Lval}
+use Rattle.read_law.specs.Below.global_addr.Words.{colour_of, server_of, next_word}
+use Rattle.read_law.specs.Below.heap_partition.declared.value.BoxPtr.{BoxPtr}
+use Rattle.read_law.specs.Below.heap_partition.declared.value.Cell.{Cell}
+use Rattle.read_law.specs.Below.heap_partition.declared.value.Owned.TheVariants as owned
+use Rattle.read_law.specs.Below.read_cache.Cache.{Copy, copy_of, cell_in, hit, is_cached, with_users, users, can_pin, pin}
+use Rattle.read_law.specs.Below.mut_borrow.Refs.{cleaned_answer}
+use Rattle.read_law.specs.Below.mut_borrow.declared.shared.SharedRef.{SharedRef}
+use Rattle.read_law.specs.Below.mut_borrow.declared.mutable.MutRef.{MutRef}
+use Rattle.read_law.specs.Below.mut_borrow.declared.mutable.Cleaned.TheVariants as cleaned
+use Rattle.read_law.specs.Below.migration.Packing.{unpinned}
+use Rattle.read_law.specs.Below.place_walk.declared.hop.Hop.{Hop}
+use Rattle.read_law.specs.Below.place_walk.declared.hop.Hop.TheVariants as hop
+use Rattle.read_law.specs.Below.place_walk.Hops.{by_copy, clean_hop, dirty_hop, read_hop}
+use Rattle.read_law.specs.Below.thread_state.View.{ThreadState}
+use Rattle.read_law.specs.Below.thread_state.declared.value.Value.{Value}
+use Rattle.read_law.specs.Below.thread_state.declared.value.Value.TheVariants as value
+use Rattle.read_law.specs.Below.journal.declared.act.Act.TheVariants as act
+use Rattle.read_law.specs.Below.server_model.Servers.{Rest}
+use Rattle.read_law.specs.Below.server_model.Work.{Hand, note, with_cache, working, with_slots, look, then_some, used_once}
+use Rattle.read_law.specs.Below.server_model.NewWords.{issue_tint, issue_renewal}
+use Rattle.read_law.specs.Below.server_model.Places.{Spot, in_slot, on_top, in_cell, in_copy, nowhere, cell_at, value_in as cell_value, value_at, load_of, load_at, put_at, pointer_of, took, with_word, put_word}
+use Rattle.read_law.specs.Below.server_model.Prepare.{Prepared, ready, requested, nothing, and_then, ready_at, ask_copy, ask_object, request_by, box_of, clean_last, cleaned_by, clean, clean_value, pinned_once, use_copy, hopped, local, hit_by, read_by, read_value, read_clean, tinted_first, read_star, read_stars}
+use Rattle.read_law.specs.Below.server_model.Events.{begin_work}
+use Rattle.read_law.specs.Below.heap_law.Things.{Location, at_slot, in_cell as at_cell}
+use Rattle.read_law.specs.Below.heap_law.Follow.{Ground, cell_of, value_of, value_in, value_behind, leads, locate}
+use Rattle.read_law.specs.Below.event_law.Laws.{Gives}
+use Rattle.read_law.proofs.Below.event_law.Known.{next_server}
+use Rattle.read_law.proofs.Below.event_law.Results.{test_gives}
 use Rattle.read_law.proofs.Homes.{pointer_leads}
 
 -- THE LOADS ON THE WAY

@@ -2,28 +2,28 @@
 use Rattle.std.proofs.Common.{◌≡◌, ℕ, zero, suc, ◌+◌, Bool, true, false, if◌then◌else◌, List, [], ◌∷◌, ◌++◌, length, map, Some, None, option_map, refl, sym, ap, ◌∙◌, subst, arith}
 use Rattle.std.specs.Prelude.{slice_get, slice_set, nat_lt}
 use Rattle.std.proofs.lemmas.List.{reverse-append}
-use Rattle.fr_typing.proofs.PlaceLemmas.{eq_cases}
-use Rattle.fr_base.specs.declared.instruction.Instr.TheVariants as instr
-use Rattle.fr_plain.specs.declared.value.Value.{Value as PlainValue}
-use Rattle.fr_plain.specs.State.{gone, with_slot, Reached}
-use Rattle.fr_plain.specs.State as state
-use Rattle.fr_plain.specs.MachineActs.{do_read, read_did}
-use Rattle.fr_code.specs.Steps.{over_at, run_instr}
-use Rattle.heap_partition.specs.declared.value.Owned.TheVariants as owned
-use Rattle.thread_state.specs.View.{ThreadState}
-use Rattle.thread_state.specs.declared.value.Value.{Value}
-use Rattle.thread_state.specs.declared.value.Value.TheVariants as value
-use Rattle.fr_base.specs.declared.instruction.Instr.{Instr}
-use Rattle.server_model.specs.Servers.{Rest}
-use Rattle.server_model.specs.Work.{push_temp, with_slots}
-use Rattle.server_model.specs.Places.{in_slot, second_of}
-use Rattle.server_model.specs.Commit.{read, read_as}
-use Rattle.server_model.specs.Events.{step}
-use Rattle.heap_law.specs.Names.{one}
-use Rattle.heap_law.specs.OneHeap.{Node, object_n, mutex_n, task_n, owns, plain_value, running_at}
-use Rattle.event_law.specs.Laws.{Gives}
-use Rattle.event_law.proofs.Results.{then_gives, over_gives}
-use Rattle.path_law.proofs.Shown.{shown_value}
+use Rattle.read_law.proofs.Below.fr_typing.PlaceLemmas.{eq_cases}
+use Rattle.read_law.specs.Below.fr_base.declared.instruction.Instr.TheVariants as instr
+use Rattle.read_law.specs.Below.fr_plain.declared.value.Value.{Value as PlainValue}
+use Rattle.read_law.specs.Below.fr_plain.State.{gone, with_slot, Reached}
+use Rattle.read_law.specs.Below.fr_plain.State as state
+use Rattle.read_law.specs.Below.fr_plain.MachineActs.{do_read, read_did}
+use Rattle.read_law.specs.Below.fr_code.Steps.{over_at, run_instr}
+use Rattle.read_law.specs.Below.heap_partition.declared.value.Owned.TheVariants as owned
+use Rattle.read_law.specs.Below.thread_state.View.{ThreadState}
+use Rattle.read_law.specs.Below.thread_state.declared.value.Value.{Value}
+use Rattle.read_law.specs.Below.thread_state.declared.value.Value.TheVariants as value
+use Rattle.read_law.specs.Below.fr_base.declared.instruction.Instr.{Instr}
+use Rattle.read_law.specs.Below.server_model.Servers.{Rest}
+use Rattle.read_law.specs.Below.server_model.Work.{push_temp, with_slots}
+use Rattle.read_law.specs.Below.server_model.Places.{in_slot, second_of}
+use Rattle.read_law.specs.Below.server_model.Commit.{read, read_as}
+use Rattle.read_law.specs.Below.server_model.Events.{step}
+use Rattle.read_law.specs.Below.heap_law.Names.{one}
+use Rattle.read_law.specs.Below.heap_law.OneHeap.{Node, object_n, mutex_n, task_n, owns, plain_value, running_at}
+use Rattle.read_law.specs.Below.event_law.Laws.{Gives}
+use Rattle.read_law.proofs.Below.event_law.Results.{then_gives, over_gives}
+use Rattle.read_law.proofs.Below.path_law.Shown.{shown_value}
 use Rattle.turn_law.proofs.Parts.{value_owns, owned_in}
 use Rattle.turn_law.proofs.PlainTurn.{Does, state_at, alone_does}
 use Rattle.turn_law.proofs.Instructions.{shown_last, shown_push, owned_push, int_owns, unit_owns, Turn, Quick, h0, settles, variable, pushes, loud_does}

@@ -1,43 +1,43 @@
 -- Copies and borrows through stars, at the server and on the plain machine.
 use Rattle.std.proofs.Common.{◌≡◌, ◌<◌, ℕ, zero, suc, ◌+◌, true, false, List, [], ◌∷◌, ◌++◌, map, reverse, Option, Some, option_map, refl, sym, ap, ap₂, subst, ◌∙◌, arith}
-use Rattle.fr_base.specs.declared.label.Label.{Label}
-use Rattle.fr_base.specs.declared.label.Plain.TheVariants as plain
-use Rattle.fr_base.specs.declared.place.Lval.{Lval}
-use Rattle.fr_base.specs.declared.step.Fresh.{Fresh}
-use Rattle.fr_base.specs.declared.step.Fresh.TheVariants as fresh
-use Rattle.fr_base.specs.declared.instruction.Instr.{Instr}
-use Rattle.fr_base.specs.declared.instruction.Instr.TheVariants as instr
-use Rattle.fr_plain.specs.PlainState.{SameState, plain_state}
-use Rattle.fr_plain.specs.MachineActs.{do_read, do_borrow, reference}
-use Rattle.fr_plain.specs.MachineActs as acts
-use Rattle.fr_plain.specs.MachineThreads.{going, Move}
-use Rattle.fr_plain.specs.Machine.{alone_stepped, done_act}
-use Rattle.fr_code.specs.Steps.{Place, over_at, loud, run_instr, code_moves}
-use Rattle.fr_code.specs.Machine.{CodeLife, CodeThread, CodeWhole}
-use Rattle.heap_partition.specs.declared.value.BoxPtr.{BoxPtr}
-use Rattle.migration.specs.Packing.{unpinned}
-use Rattle.thread_state.specs.View.{ThreadState}
-use Rattle.thread_state.specs.declared.phase.Phase.TheVariants as phase
-use Rattle.thread_state.specs.declared.value.Value.{Value}
-use Rattle.thread_state.specs.declared.value.Value.TheVariants as value
-use Rattle.server_model.specs.declared.event.Event.{Event}
-use Rattle.server_model.specs.Servers.{Server, Cluster}
-use Rattle.server_model.specs.Work.{Hand, push_temp, thread_in}
-use Rattle.server_model.specs.Places.{Spot, value_at, load_at, second_of, pointer_of}
-use Rattle.server_model.specs.Prepare.{Access, ReadTo, read_or_taken, Prepared, ready, requested, nothing, prepare}
-use Rattle.server_model.specs.Commit.{goes_on, read, read_as}
-use Rattle.server_model.specs.Events.{Stepped, can_step, begin_work, committed, prepared, step}
-use Rattle.heap_law.specs.Names.{one}
-use Rattle.heap_law.specs.Things.{Location, things_of}
-use Rattle.heap_law.specs.Follow.{Standing, Ground, threads_in, thread_at, cell_of, slot_of, value_in, locate}
-use Rattle.heap_law.specs.Sight.{sight}
-use Rattle.heap_law.specs.OneHeap.{Node, one_heap, plain_value, running_at}
-use Rattle.type_law.specs.ClusterTypes.{IsCoherent}
-use Rattle.event_law.specs.Laws.{Gives}
-use Rattle.event_law.proofs.Results.{then_gives, over_gives, weaker}
-use Rattle.event_law.proofs.ThreadThere.{thread_there}
-use Rattle.path_law.specs.HeapStore.{GoesOn}
-use Rattle.path_law.proofs.Contained.{among_thread}
+use Rattle.read_law.specs.Below.fr_base.declared.label.Label.{Label}
+use Rattle.read_law.specs.Below.fr_base.declared.label.Plain.TheVariants as plain
+use Rattle.read_law.specs.Below.fr_base.declared.place.Lval.{Lval}
+use Rattle.read_law.specs.Below.fr_base.declared.step.Fresh.{Fresh}
+use Rattle.read_law.specs.Below.fr_base.declared.step.Fresh.TheVariants as fresh
+use Rattle.read_law.specs.Below.fr_base.declared.instruction.Instr.{Instr}
+use Rattle.read_law.specs.Below.fr_base.declared.instruction.Instr.TheVariants as instr
+use Rattle.read_law.specs.Below.fr_plain.PlainState.{SameState, plain_state}
+use Rattle.read_law.specs.Below.fr_plain.MachineActs.{do_read, do_borrow, reference}
+use Rattle.read_law.specs.Below.fr_plain.MachineActs as acts
+use Rattle.read_law.specs.Below.fr_plain.MachineThreads.{going, Move}
+use Rattle.read_law.specs.Below.fr_plain.Machine.{alone_stepped, done_act}
+use Rattle.read_law.specs.Below.fr_code.Steps.{Place, over_at, loud, run_instr, code_moves}
+use Rattle.read_law.specs.Below.fr_code.Machine.{CodeLife, CodeThread, CodeWhole}
+use Rattle.read_law.specs.Below.heap_partition.declared.value.BoxPtr.{BoxPtr}
+use Rattle.read_law.specs.Below.migration.Packing.{unpinned}
+use Rattle.read_law.specs.Below.thread_state.View.{ThreadState}
+use Rattle.read_law.specs.Below.thread_state.declared.phase.Phase.TheVariants as phase
+use Rattle.read_law.specs.Below.thread_state.declared.value.Value.{Value}
+use Rattle.read_law.specs.Below.thread_state.declared.value.Value.TheVariants as value
+use Rattle.read_law.specs.Below.server_model.declared.event.Event.{Event}
+use Rattle.read_law.specs.Below.server_model.Servers.{Server, Cluster}
+use Rattle.read_law.specs.Below.server_model.Work.{Hand, push_temp, thread_in}
+use Rattle.read_law.specs.Below.server_model.Places.{Spot, value_at, load_at, second_of, pointer_of}
+use Rattle.read_law.specs.Below.server_model.Prepare.{Access, ReadTo, read_or_taken, Prepared, ready, requested, nothing, prepare}
+use Rattle.read_law.specs.Below.server_model.Commit.{goes_on, read, read_as}
+use Rattle.read_law.specs.Below.server_model.Events.{Stepped, can_step, begin_work, committed, prepared, step}
+use Rattle.read_law.specs.Below.heap_law.Names.{one}
+use Rattle.read_law.specs.Below.heap_law.Things.{Location, things_of}
+use Rattle.read_law.specs.Below.heap_law.Follow.{Standing, Ground, threads_in, thread_at, cell_of, slot_of, value_in, locate}
+use Rattle.read_law.specs.Below.heap_law.Sight.{sight}
+use Rattle.read_law.specs.Below.heap_law.OneHeap.{Node, one_heap, plain_value, running_at}
+use Rattle.read_law.specs.Below.type_law.ClusterTypes.{IsCoherent}
+use Rattle.read_law.specs.Below.event_law.Laws.{Gives}
+use Rattle.read_law.proofs.Below.event_law.Results.{then_gives, over_gives, weaker}
+use Rattle.read_law.proofs.Below.event_law.ThreadThere.{thread_there}
+use Rattle.read_law.specs.Below.path_law.HeapStore.{GoesOn}
+use Rattle.read_law.proofs.Below.path_law.Contained.{among_thread}
 use Rattle.read_law.specs.Reading.{Reads, copies}
 use Rattle.read_law.proofs.Homes.{home}
 use Rattle.read_law.proofs.Lookups.{direct, copied_is, uncached}

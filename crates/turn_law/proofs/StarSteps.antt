@@ -1,29 +1,29 @@
 -- A step that follows a place for reading, at the server and on the plain machine: from the hand in which the place is ready to the turn.
 use Rattle.std.proofs.Common.{◌≡◌, ℕ, ◌+◌, ◌==◌, Bool, false, List, [], ◌∷◌, map, reverse, Option, Some, None, option_map, refl, sym, ap, ap₂, subst, ◌∙◌, arith}
-use Rattle.fr_base.specs.Names.{same_object, same_mutex}
-use Rattle.fr_base.specs.declared.label.Plain.{Plain}
-use Rattle.fr_base.specs.declared.label.Plain.TheVariants as plain
-use Rattle.fr_base.specs.declared.step.Fresh.TheVariants as fresh
-use Rattle.fr_base.specs.declared.instruction.Instr.{Instr}
-use Rattle.fr_plain.specs.declared.value.Value.{Value as PlainValue}
-use Rattle.fr_plain.specs.declared.value.Value.TheVariants.{Own}
-use Rattle.fr_code.specs.Machine.{CodeState}
-use Rattle.heap_partition.specs.Plain.{plain_of}
-use Rattle.heap_partition.specs.declared.value.Owned.{Owned}
-use Rattle.heap_partition.specs.declared.value.Owned.TheVariants as owned
-use Rattle.read_cache.specs.Cache.{Copy}
-use Rattle.migration.specs.Packing.{unpin_all}
-use Rattle.thread_state.specs.View.{ThreadState}
-use Rattle.thread_state.specs.declared.value.Value.{Value}
-use Rattle.thread_state.specs.declared.value.Value.TheVariants as value
-use Rattle.server_model.specs.Servers.{Rest}
-use Rattle.server_model.specs.Work.{Hand, with_cache}
-use Rattle.server_model.specs.Commit.{goes_on, go_on}
-use Rattle.server_model.specs.Events.{begin_work, committed}
-use Rattle.heap_law.specs.Names.{tot, one}
-use Rattle.heap_law.specs.OneHeap.{Node, object_n, mutex_n, task_n, owns, plain_value, running_at}
-use Rattle.event_law.specs.Laws.{Gives}
-use Rattle.event_law.proofs.Bags.{rest_things}
+use Rattle.read_law.specs.Below.fr_base.Names.{same_object, same_mutex}
+use Rattle.read_law.specs.Below.fr_base.declared.label.Plain.{Plain}
+use Rattle.read_law.specs.Below.fr_base.declared.label.Plain.TheVariants as plain
+use Rattle.read_law.specs.Below.fr_base.declared.step.Fresh.TheVariants as fresh
+use Rattle.read_law.specs.Below.fr_base.declared.instruction.Instr.{Instr}
+use Rattle.read_law.specs.Below.fr_plain.declared.value.Value.{Value as PlainValue}
+use Rattle.read_law.specs.Below.fr_plain.declared.value.Value.TheVariants.{Own}
+use Rattle.read_law.specs.Below.fr_code.Machine.{CodeState}
+use Rattle.read_law.specs.Below.heap_partition.Plain.{plain_of}
+use Rattle.read_law.specs.Below.heap_partition.declared.value.Owned.{Owned}
+use Rattle.read_law.specs.Below.heap_partition.declared.value.Owned.TheVariants as owned
+use Rattle.read_law.specs.Below.read_cache.Cache.{Copy}
+use Rattle.read_law.specs.Below.migration.Packing.{unpin_all}
+use Rattle.read_law.specs.Below.thread_state.View.{ThreadState}
+use Rattle.read_law.specs.Below.thread_state.declared.value.Value.{Value}
+use Rattle.read_law.specs.Below.thread_state.declared.value.Value.TheVariants as value
+use Rattle.read_law.specs.Below.server_model.Servers.{Rest}
+use Rattle.read_law.specs.Below.server_model.Work.{Hand, with_cache}
+use Rattle.read_law.specs.Below.server_model.Commit.{goes_on, go_on}
+use Rattle.read_law.specs.Below.server_model.Events.{begin_work, committed}
+use Rattle.read_law.specs.Below.heap_law.Names.{tot, one}
+use Rattle.read_law.specs.Below.heap_law.OneHeap.{Node, object_n, mutex_n, task_n, owns, plain_value, running_at}
+use Rattle.read_law.specs.Below.event_law.Laws.{Gives}
+use Rattle.read_law.proofs.Below.event_law.Bags.{rest_things}
 use Rattle.still_law.specs.Shows.{Sign, nothing, sign_of}
 use Rattle.still_law.proofs.Sites.{shown, Moves}
 use Rattle.still_law.proofs.Readied.{Readied, readied_slots, readied_temps, then_ready, copies_ready}

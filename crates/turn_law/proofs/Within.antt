@@ -1,13 +1,13 @@
 -- A thread's things among those of its cluster: where the thread changes in its place, all others stay where they are.
 use Rattle.std.proofs.Common.{◌≡◌, ℕ, ◌+◌, false, if◌then◌else◌, List, [], ◌∷◌, ◌++◌, Some, refl, sym, ap, ◌∙◌, subst}
 use Rattle.std.proofs.lemmas.List.{append_assoc}
-use Rattle.fr_typing.proofs.PlaceLemmas.{eq_cases}
-use Rattle.thread_state.specs.View.{ThreadState}
-use Rattle.server_model.specs.Servers.{Server, server_at}
-use Rattle.server_model.specs.Work.{thread_in, set_thread}
-use Rattle.server_model.specs.Clusters.{with_server}
-use Rattle.heap_law.specs.Things.{Thing, things_at, partition_things, copy_things, mutex_things, task_things, thread_things, standing_things, waiting_things, leaving_things, server_things, servers_things}
-use Rattle.event_law.proofs.Bags.{counts_of}
+use Rattle.read_law.proofs.Below.fr_typing.PlaceLemmas.{eq_cases}
+use Rattle.read_law.specs.Below.thread_state.View.{ThreadState}
+use Rattle.read_law.specs.Below.server_model.Servers.{Server, server_at}
+use Rattle.read_law.specs.Below.server_model.Work.{thread_in, set_thread}
+use Rattle.read_law.specs.Below.server_model.Clusters.{with_server}
+use Rattle.read_law.specs.Below.heap_law.Things.{Thing, things_at, partition_things, copy_things, mutex_things, task_things, thread_things, standing_things, waiting_things, leaving_things, server_things, servers_things}
+use Rattle.read_law.proofs.Below.event_law.Bags.{counts_of}
 
 -- one list has the first things, and the other the second ones, between the same things
 pub record Within (x y a b : List Thing) : Type 0 where

@@ -1,17 +1,17 @@
 -- A run of one thread whose steps are all of the kinds that the law covers, computed: no sentence is broken before a step, and each event has a `done`.
 use Rattle.std.specs.Prelude.{◌≡◌, ℕ, pos, false, List, [], ◌∷◌, map, Option, Some, None}
-use Rattle.fr_base.specs.declared.label.Label.{Label}
-use Rattle.fr_base.specs.declared.label.Label.TheVariants as label
-use Rattle.fr_base.specs.declared.place.Op.TheVariants as op
-use Rattle.fr_base.specs.declared.step.Fresh.{Fresh}
-use Rattle.fr_base.specs.declared.step.Fresh.TheVariants as fresh
-use Rattle.fr_base.specs.declared.instruction.Operand.TheVariants as operand
-use Rattle.fr_base.specs.declared.instruction.Instr.{Instr}
-use Rattle.fr_base.specs.declared.instruction.Instr.TheVariants as instr
-use Rattle.journal.specs.View.{EntryView}
-use Rattle.server_model.specs.Figures.{Ran, run, steps_of}
-use Rattle.heap_law.specs.Clusters.{place, options}
-use Rattle.heap_law.specs.Coherent.{Sentence, broken}
+use Rattle.read_law.specs.Below.fr_base.declared.label.Label.{Label}
+use Rattle.read_law.specs.Below.fr_base.declared.label.Label.TheVariants as label
+use Rattle.read_law.specs.Below.fr_base.declared.place.Op.TheVariants as op
+use Rattle.read_law.specs.Below.fr_base.declared.step.Fresh.{Fresh}
+use Rattle.read_law.specs.Below.fr_base.declared.step.Fresh.TheVariants as fresh
+use Rattle.read_law.specs.Below.fr_base.declared.instruction.Operand.TheVariants as operand
+use Rattle.read_law.specs.Below.fr_base.declared.instruction.Instr.{Instr}
+use Rattle.read_law.specs.Below.fr_base.declared.instruction.Instr.TheVariants as instr
+use Rattle.read_law.specs.Below.journal.View.{EntryView}
+use Rattle.read_law.specs.Below.server_model.Figures.{Ran, run, steps_of}
+use Rattle.read_law.specs.Below.heap_law.Clusters.{place, options}
+use Rattle.read_law.specs.Below.heap_law.Coherent.{Sentence, broken}
 
 -- `let mut x = 1; print(x + 2)`, and two references to x
 abbrev pub counting : List Instr

@@ -1,25 +1,25 @@
 -- ONE STEP: an event that has a `done` of its thread is exactly that step of the plain machine on the cluster's one heap (this project's rule).
 use Rattle.std.specs.Prelude.{◌≡◌, ℕ, ◌==◌, ◌&&◌, Bool, true, false, Option, Some, None, List, slice_get}
-use Rattle.fr_base.specs.Lists.{last_of}
-use Rattle.fr_base.specs.declared.label.Label.{Label}
-use Rattle.fr_base.specs.declared.step.Fresh.{Fresh}
-use Rattle.fr_base.specs.declared.instruction.Instr.{Instr}
-use Rattle.fr_base.specs.declared.instruction.Instr.TheVariants as instr
-use Rattle.fr_plain.specs.PlainState.{SameState, plain_state}
-use Rattle.fr_code.specs.Machine.{CodeWhole, CodeStepped, CodeState, code_step}
-use Rattle.journal.specs.View.{EntryView}
-use Rattle.thread_state.specs.View.{ThreadState}
-use Rattle.thread_state.specs.declared.value.Value.{Value}
-use Rattle.thread_state.specs.declared.value.Value.TheVariants as value
-use Rattle.server_model.specs.Places.{owns_nothing}
-use Rattle.server_model.specs.declared.event.Event.{Event}
-use Rattle.server_model.specs.declared.event.What.{What}
-use Rattle.server_model.specs.declared.event.What.TheVariants.{Step}
-use Rattle.server_model.specs.Servers.{Server, Cluster, server_at}
-use Rattle.server_model.specs.Work.{then_some, thread_in}
-use Rattle.server_model.specs.Clusters.{apply}
-use Rattle.heap_law.specs.OneHeap.{one_heap}
-use Rattle.event_law.specs.Laws.{Gives, FewEvents}
+use Rattle.read_law.specs.Below.fr_base.Lists.{last_of}
+use Rattle.read_law.specs.Below.fr_base.declared.label.Label.{Label}
+use Rattle.read_law.specs.Below.fr_base.declared.step.Fresh.{Fresh}
+use Rattle.read_law.specs.Below.fr_base.declared.instruction.Instr.{Instr}
+use Rattle.read_law.specs.Below.fr_base.declared.instruction.Instr.TheVariants as instr
+use Rattle.read_law.specs.Below.fr_plain.PlainState.{SameState, plain_state}
+use Rattle.read_law.specs.Below.fr_code.Machine.{CodeWhole, CodeStepped, CodeState, code_step}
+use Rattle.read_law.specs.Below.journal.View.{EntryView}
+use Rattle.read_law.specs.Below.thread_state.View.{ThreadState}
+use Rattle.read_law.specs.Below.thread_state.declared.value.Value.{Value}
+use Rattle.read_law.specs.Below.thread_state.declared.value.Value.TheVariants as value
+use Rattle.read_law.specs.Below.server_model.Places.{owns_nothing}
+use Rattle.read_law.specs.Below.server_model.declared.event.Event.{Event}
+use Rattle.read_law.specs.Below.server_model.declared.event.What.{What}
+use Rattle.read_law.specs.Below.server_model.declared.event.What.TheVariants.{Step}
+use Rattle.read_law.specs.Below.server_model.Servers.{Server, Cluster, server_at}
+use Rattle.read_law.specs.Below.server_model.Work.{then_some, thread_in}
+use Rattle.read_law.specs.Below.server_model.Clusters.{apply}
+use Rattle.read_law.specs.Below.heap_law.OneHeap.{one_heap}
+use Rattle.read_law.specs.Below.event_law.Laws.{Gives, FewEvents}
 
 -- a plain step of the thread with these new names is there; it leads to that state, name by name, with these labels
 pub record StepsTo (code : List Instr) (c : CodeWhole) (t : ℕ) (names : Fresh) (s : CodeState) (labels : List Label) : Type 0 where

@@ -1,9 +1,9 @@
 //! Laws of events that do a plain step.
 
-ghost use Rattle.heap_law.specs.Coherent.{IsSound};
+ghost use Rattle.read_law.specs.Below.heap_law.Coherent.{IsSound};
 ghost use Rattle.turn_law.specs.Rows.{RowsCompute};
 ghost use Rattle.turn_law.specs.Turns.{ArePlainSteps, ArePlainStepsWhere, borrows_place, borrows_slot, copies_place, discards_none, drops_none, is_arith, is_let, is_print, lends_place, reads_slot, replaces_none};
-ghost use Rattle.type_law.specs.ClusterTypes.{IsCoherent};
+ghost use Rattle.read_law.specs.Below.type_law.ClusterTypes.{IsCoherent};
 
 /// From a sound cluster, each of these steps is the plain step of its thread on the one heap, with the entry's names and labels, its messages handed over:
 /// a new variable, arithmetic, a print, and reads and borrows of a variable.

@@ -1,9 +1,9 @@
 -- A plain state in which main is the only thread.
 use Rattle.std.proofs.Common.{◌≡◌, ◌≢◌, ◌∙◌, ℕ, zero, suc, Some, None, sym, ap, subst}
-use Rattle.fr_plain.specs.declared.value.Value.{Value}
-use Rattle.fr_plain.specs.MachineThreads.{alive, ended}
-use Rattle.fr_plain.specs.PlainState.{place_in}
-use Rattle.fr_code.specs.Machine.{CodeRunning, CodeState}
+use Rattle.heap_law.specs.Below.fr_plain.declared.value.Value.{Value}
+use Rattle.heap_law.specs.Below.fr_plain.MachineThreads.{alive, ended}
+use Rattle.heap_law.specs.Below.fr_plain.PlainState.{place_in}
+use Rattle.heap_law.specs.Below.fr_code.Machine.{CodeRunning, CodeState}
 use Rattle.fr_sound.specs.States.{Typing, IsKept, IsOwed, IsBranch}
 
 no_some : {A : Type 0} {x : A} → None ≡ Some x → ⊥

@@ -1,27 +1,27 @@
 -- The boxed code after two events has types.
 use Rattle.std.proofs.Common.{◌≡◌, ◌<◌, ◌≤◌, ◌⊎◌, inl, inr, ◌∙◌, ◌&&◌, if◌then◌else◌, pos, ℕ, zero, suc, ◌==◌, ◌%◌, ◌/◌, ◌^◌, true, false, List, [], ◌∷◌, Option, Some, None, refl, sym, ap, subst, arith}
-use Rattle.fr_base.specs.declared.name.ObjNo.{ObjNo}
-use Rattle.fr_base.specs.declared.name.MutexNo.{MutexNo}
-use Rattle.fr_base.specs.declared.label.Plain.{Plain}
-use Rattle.fr_base.specs.declared.label.Plain.TheVariants as plain
-use Rattle.fr_typing.specs.Kinds.{Owned, unit, int}
-use Rattle.fr_store.specs.Keys.{Key, slot_k, temp_k, content_k, result_k, hand_k}
-use Rattle.fr_store.specs.Store.{Val, Location, at_key, at_object, box_v, int_v, ref_v, gone_v, mutex_v, task_v, Store, value_at}
-use Rattle.fr_store.specs.Typed.{Tree, hole, int_tree, box_tree, Exact, owns, KeyTypes, exact_under, Stands, Typed}
+use Rattle.heap_law.specs.Below.fr_base.declared.name.ObjNo.{ObjNo}
+use Rattle.heap_law.specs.Below.fr_base.declared.name.MutexNo.{MutexNo}
+use Rattle.heap_law.specs.Below.fr_base.declared.label.Plain.{Plain}
+use Rattle.heap_law.specs.Below.fr_base.declared.label.Plain.TheVariants as plain
+use Rattle.heap_law.specs.Below.fr_typing.Kinds.{Owned, unit, int}
+use Rattle.heap_law.specs.Below.fr_store.Keys.{Key, slot_k, temp_k, content_k, result_k, hand_k}
+use Rattle.heap_law.specs.Below.fr_store.Store.{Val, Location, at_key, at_object, box_v, int_v, ref_v, gone_v, mutex_v, task_v, Store, value_at}
+use Rattle.heap_law.specs.Below.fr_store.Typed.{Tree, hole, int_tree, box_tree, Exact, owns, KeyTypes, exact_under, Stands, Typed}
 use Rattle.heap_law.specs.Below.server_model.Figures.{run, steps_of}
 use Rattle.heap_law.specs.Sight.{sight}
 use Rattle.heap_law.specs.Clusters.{options, boxed_code}
-use Rattle.fr_plain.specs.MachineThreads.{alive}
-use Rattle.fr_plain.specs.PlainState.{place_in}
-use Rattle.fr_plain.specs.declared.value.Value.{Value}
-use Rattle.fr_plain.specs.declared.value.Value.TheVariants.{Own, Held}
-use Rattle.fr_plain.specs.State.{slot_at}
-use Rattle.fr_code.specs.Steps.{Place as CodePlace}
-use Rattle.fr_code.specs.Machine.{CodeRunning}
+use Rattle.heap_law.specs.Below.fr_plain.MachineThreads.{alive}
+use Rattle.heap_law.specs.Below.fr_plain.PlainState.{place_in}
+use Rattle.heap_law.specs.Below.fr_plain.declared.value.Value.{Value}
+use Rattle.heap_law.specs.Below.fr_plain.declared.value.Value.TheVariants.{Own, Held}
+use Rattle.heap_law.specs.Below.fr_plain.State.{slot_at}
+use Rattle.heap_law.specs.Below.fr_code.Steps.{Place as CodePlace}
+use Rattle.heap_law.specs.Below.fr_code.Machine.{CodeRunning}
 use Rattle.fr_sound.specs.Seen.{Gives}
 use Rattle.fr_sound.specs.States.{Typing, store_of, RunningTyped, part_at, is_reference, is_hidden, is_held, env_at, IsLower}
 use Rattle.heap_law.specs.OneHeap.{one_heap, is_given_thread}
-use Rattle.fr_code.specs.CodeTypes.{going}
+use Rattle.heap_law.specs.Below.fr_code.CodeTypes.{going}
 use Rattle.type_law.specs.ClusterTypes.{KnownAt, CodeStateTypes, Types}
 use Rattle.type_law.specs.Codes.{boxed_table, box_slot}
 use Rattle.type_law.specs.Typed.{boxed_cluster, cluster_of}

@@ -2,11 +2,11 @@
 use Rattle.std.proofs.Common.{◌≡◌, ◌⊎◌, inl, inr, ⊎_elim, ℕ, zero, suc, ◌+◌, ◌≤◌, ◌&&◌, Bool, true, false, if◌then◌else◌, List, [], ◌∷◌, Some, refl, sym, ap, subst, arith}
 use Rattle.std.specs.Prelude.{◌==◌}
 use Rattle.std.proofs.lemmas.Bool.Decides.{nat_tests}
-use Rattle.fr_typing.proofs.PlaceLemmas.{eq_cases}
-use Rattle.thread_state.specs.View.{ThreadState}
-use Rattle.thread_state.specs.declared.phase.Phase.{Phase}
-use Rattle.thread_state.specs.declared.phase.Phase.TheVariants as phase
-use Rattle.join_home.specs.Tasks.{Task, TaskState, in_pair}
+use Rattle.heap_law.proofs.Below.fr_typing.PlaceLemmas.{eq_cases}
+use Rattle.heap_law.specs.Below.thread_state.View.{ThreadState}
+use Rattle.heap_law.specs.Below.thread_state.declared.phase.Phase.{Phase}
+use Rattle.heap_law.specs.Below.thread_state.declared.phase.Phase.TheVariants as phase
+use Rattle.heap_law.specs.Below.join_home.Tasks.{Task, TaskState, in_pair}
 use Rattle.heap_law.specs.Below.server_model.Servers.{Cluster}
 use Rattle.heap_law.specs.Names.{tot, one, if_so, Among}
 use Rattle.heap_law.specs.Things.{Thing, stands, noted, things_of}

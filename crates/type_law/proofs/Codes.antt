@@ -1,18 +1,18 @@
 -- The codes of the examples.
 use Rattle.std.proofs.Common.{◌≡◌, refl, sym, ap, ◌∙◌, subst, pos, ℕ, ◌+◌, [], ◌∷◌, Option, Some, None, true, arith}
 use Rattle.std.specs.Prelude.{slice_get}
-use Rattle.fr_base.specs.declared.instruction.Operand.{Operand}
-use Rattle.fr_base.specs.declared.instruction.Operand.TheVariants as operand
-use Rattle.fr_base.specs.declared.instruction.Instr.{Instr}
-use Rattle.fr_base.specs.declared.instruction.Instr.TheVariants as instr
-use Rattle.fr_typing.specs.Kinds.{Kind, unit, Piece, whole, gone, boxed, join_kind, join_piece, map_some}
-use Rattle.fr_typing.specs.Places.{Slot, Env, found, alike, type_at, put_at}
-use Rattle.fr_store.specs.JoinRows.{join_env}
+use Rattle.heap_law.specs.Below.fr_base.declared.instruction.Operand.{Operand}
+use Rattle.heap_law.specs.Below.fr_base.declared.instruction.Operand.TheVariants as operand
+use Rattle.heap_law.specs.Below.fr_base.declared.instruction.Instr.{Instr}
+use Rattle.heap_law.specs.Below.fr_base.declared.instruction.Instr.TheVariants as instr
+use Rattle.heap_law.specs.Below.fr_typing.Kinds.{Kind, unit, Piece, whole, gone, boxed, join_kind, join_piece, map_some}
+use Rattle.heap_law.specs.Below.fr_typing.Places.{Slot, Env, found, alike, type_at, put_at}
+use Rattle.heap_law.specs.Below.fr_store.JoinRows.{join_env}
 use Rattle.heap_law.specs.Clusters.{place, boxed_code}
-use Rattle.fr_code.specs.CodeTypes.{Table, Entry, going, takes_const, takes_unit, takes_pop, i_let, i_assign, i_copy, i_move, i_box, i_print, i_discard, i_drop}
-use Rattle.fr_code.specs.Joins.{JoinsTo, alone, first, second}
-use Rattle.fr_code.specs.CodeTable.{Successors, Leads, to_next, AllEnter, IsTable}
-use Rattle.fr_code.proofs.Chains.{leads, stops, chained}
+use Rattle.heap_law.specs.Below.fr_code.CodeTypes.{Table, Entry, going, takes_const, takes_unit, takes_pop, i_let, i_assign, i_copy, i_move, i_box, i_print, i_discard, i_drop}
+use Rattle.heap_law.specs.Below.fr_code.Joins.{JoinsTo, alone, first, second}
+use Rattle.heap_law.specs.Below.fr_code.CodeTable.{Successors, Leads, to_next, AllEnter, IsTable}
+use Rattle.heap_law.proofs.Below.fr_code.Chains.{leads, stops, chained}
 use Rattle.type_law.specs.Codes.{boxed_entries, boxed_table, moved_code, CodesCompute}
 
 pub boxed_is_typed : IsTable boxed_code boxed_table

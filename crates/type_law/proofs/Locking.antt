@@ -2,31 +2,31 @@
 use Rattle.std.proofs.Common.{◌≡◌, ◌≢◌, ◌<◌, ◌≤◌, ◌⊎◌, inl, inr, ◌∙◌, ◌==◌, ◌/◌, ◌%◌, ◌^◌, ◌++◌, pos, ℕ, zero, suc, true, false, Bool, List, [], ◌∷◌, Option, Some, None, refl, sym, ap, subst, arith}
 use Rattle.std.specs.Prelude.{slice_get}
 use Rattle.std.proofs.lemmas.Bool.Decides.{nat_tests}
-use Rattle.fr_base.specs.declared.name.ObjNo.{ObjNo}
-use Rattle.fr_base.specs.declared.name.MutexNo.{MutexNo}
-use Rattle.fr_base.specs.declared.label.Plain.TheVariants as plain
-use Rattle.fr_typing.specs.Kinds.{Owned, unit, int}
-use Rattle.fr_store.specs.Keys.{Key, slot_k, temp_k, content_k, result_k, hand_k}
-use Rattle.fr_store.specs.Store.{Val, Location, at_key, at_object, box_v, int_v, ref_v, gone_v, mutex_v, task_v, Store, value_at, Place}
-use Rattle.fr_store.specs.Typed.{Tree, hole, int_tree, mutex_tree, Exact, owns, refers, KeyTypes, exact_under, here, Stands, Typed, Unnamed}
+use Rattle.heap_law.specs.Below.fr_base.declared.name.ObjNo.{ObjNo}
+use Rattle.heap_law.specs.Below.fr_base.declared.name.MutexNo.{MutexNo}
+use Rattle.heap_law.specs.Below.fr_base.declared.label.Plain.TheVariants as plain
+use Rattle.heap_law.specs.Below.fr_typing.Kinds.{Owned, unit, int}
+use Rattle.heap_law.specs.Below.fr_store.Keys.{Key, slot_k, temp_k, content_k, result_k, hand_k}
+use Rattle.heap_law.specs.Below.fr_store.Store.{Val, Location, at_key, at_object, box_v, int_v, ref_v, gone_v, mutex_v, task_v, Store, value_at, Place}
+use Rattle.heap_law.specs.Below.fr_store.Typed.{Tree, hole, int_tree, mutex_tree, Exact, owns, refers, KeyTypes, exact_under, here, Stands, Typed, Unnamed}
 use Rattle.heap_law.specs.Below.server_model.Figures.{run, steps_of, deliver}
 use Rattle.heap_law.specs.Below.server_model.Programs.{with_servers, locked_twice}
 use Rattle.heap_law.specs.Clusters.{place, the_mutex}
 use Rattle.heap_law.specs.Sight.{sight}
-use Rattle.fr_plain.specs.MachineThreads.{alive}
-use Rattle.fr_plain.specs.PlainState.{place_in}
-use Rattle.fr_plain.specs.declared.value.Value.{Value}
-use Rattle.fr_plain.specs.declared.value.Value.TheVariants.{Own, Held}
-use Rattle.fr_plain.specs.State.{slot_at}
-use Rattle.fr_plain.specs.MachineThreads.{Shared}
-use Rattle.fr_code.specs.Steps.{Place as CodePlace}
-use Rattle.fr_code.specs.Machine.{CodeRunning}
+use Rattle.heap_law.specs.Below.fr_plain.MachineThreads.{alive}
+use Rattle.heap_law.specs.Below.fr_plain.PlainState.{place_in}
+use Rattle.heap_law.specs.Below.fr_plain.declared.value.Value.{Value}
+use Rattle.heap_law.specs.Below.fr_plain.declared.value.Value.TheVariants.{Own, Held}
+use Rattle.heap_law.specs.Below.fr_plain.State.{slot_at}
+use Rattle.heap_law.specs.Below.fr_plain.MachineThreads.{Shared}
+use Rattle.heap_law.specs.Below.fr_code.Steps.{Place as CodePlace}
+use Rattle.heap_law.specs.Below.fr_code.Machine.{CodeRunning}
 use Rattle.fr_sound.specs.Seen.{Gives}
 use Rattle.fr_sound.specs.States.{Typing, store_of, content_val, RunningTyped, part_at, is_reference, is_hidden, is_held, env_at, IsLower, IsLock, IsShare, IsMark, IsNear, MutexTyped}
 use Rattle.heap_law.specs.OneHeap.{one_heap, is_given_thread}
-use Rattle.fr_code.specs.CodeTypes.{going, takes_const, takes_unit, takes_pop, i_mutex, i_let, i_lock, i_copy, i_print, i_unlock, i_drop}
-use Rattle.fr_code.specs.CodeTable.{IsTable}
-use Rattle.fr_code.proofs.Chains.{leads, stops, chained}
+use Rattle.heap_law.specs.Below.fr_code.CodeTypes.{going, takes_const, takes_unit, takes_pop, i_mutex, i_let, i_lock, i_copy, i_print, i_unlock, i_drop}
+use Rattle.heap_law.specs.Below.fr_code.CodeTable.{IsTable}
+use Rattle.heap_law.proofs.Below.fr_code.Chains.{leads, stops, chained}
 use Rattle.type_law.specs.ClusterTypes.{KnownAt, CodeStateTypes, Types}
 use Rattle.type_law.specs.Tables.{x_name, r_name, c_name}
 use Rattle.type_law.specs.Typed.{cluster_of}

@@ -1,17 +1,17 @@
 -- What an owned value names has a type of fewer levels, so none owns itself.
 use Rattle.std.proofs.Common.{◌≡◌, inl, inr, ◌<◌, ℕ, suc, ◌+◌, ◌&&◌, Bool, true, false, List, [], ◌∷◌, reverse, Option, Some, None, is_some, not, refl, ap, subst, arith}
-use Rattle.coloured_heap.proofs.Times.{both, number_is, object_is, mutex_is}
-use Rattle.fr_base.specs.declared.name.ObjNo.{ObjNo}
-use Rattle.fr_base.specs.declared.name.MutexNo.{MutexNo}
-use Rattle.heap_partition.specs.declared.value.BoxPtr.{BoxPtr}
-use Rattle.heap_partition.specs.declared.value.Owned.{Owned as Value}
-use Rattle.heap_partition.specs.declared.value.Owned.TheVariants as owned
-use Rattle.fr_typing.specs.Kinds.{Owned, unit, int, box, mutex, task, same_owned, own, shared, mutable, view, Piece, whole, gone, boxed}
-use Rattle.fr_typing.specs.Places.{Slot, Env}
-use Rattle.fr_typing.specs.Checks.{owned_levels}
-use Rattle.thread_state.specs.View.{ThreadState, is_over}
-use Rattle.thread_state.specs.declared.value.Value.{Value as Any}
-use Rattle.thread_state.specs.declared.value.Value.TheVariants as value
+use Rattle.heap_law.proofs.Below.coloured_heap.Times.{both, number_is, object_is, mutex_is}
+use Rattle.heap_law.specs.Below.fr_base.declared.name.ObjNo.{ObjNo}
+use Rattle.heap_law.specs.Below.fr_base.declared.name.MutexNo.{MutexNo}
+use Rattle.heap_law.specs.Below.heap_partition.declared.value.BoxPtr.{BoxPtr}
+use Rattle.heap_law.specs.Below.heap_partition.declared.value.Owned.{Owned as Value}
+use Rattle.heap_law.specs.Below.heap_partition.declared.value.Owned.TheVariants as owned
+use Rattle.heap_law.specs.Below.fr_typing.Kinds.{Owned, unit, int, box, mutex, task, same_owned, own, shared, mutable, view, Piece, whole, gone, boxed}
+use Rattle.heap_law.specs.Below.fr_typing.Places.{Slot, Env}
+use Rattle.heap_law.specs.Below.fr_typing.Checks.{owned_levels}
+use Rattle.heap_law.specs.Below.thread_state.View.{ThreadState, is_over}
+use Rattle.heap_law.specs.Below.thread_state.declared.value.Value.{Value as Any}
+use Rattle.heap_law.specs.Below.thread_state.declared.value.Value.TheVariants as value
 use Rattle.heap_law.specs.Names.{tot, other, if_so, Among}
 use Rattle.heap_law.specs.Things.{as_content, as_result, holds, lies, flies}
 use Rattle.heap_law.specs.Sight.{Sight, sight}
@@ -19,7 +19,7 @@ use Rattle.heap_law.specs.Walking.{instr_of}
 use Rattle.heap_law.specs.Paths.{joined_thread}
 use Rattle.heap_law.specs.Requests.{locked_mutex}
 use Rattle.heap_law.specs.OneHeap.{Node, object_n, mutex_n, task_n, owns}
-use Rattle.fr_code.specs.CodeTypes.{Entry, Table}
+use Rattle.heap_law.specs.Below.fr_code.CodeTypes.{Entry, Table}
 use Rattle.fr_sound.specs.States.{owned_part}
 use Rattle.type_law.specs.Names.{NameTypes, names_of, fits, fits_some, is_there, is_type}
 use Rattle.type_law.specs.ClusterTypes.{misfit, content_gift, result_gift, gift_misfit, has_form, slot_form, slots_wrong, temps_wrong, forms_of, forms_wrong, entry_wrong, above_mark, locked_of, locked_wrong}

@@ -1,31 +1,31 @@
 -- The cluster with a parent that waits and two branches has types.
 use Rattle.std.proofs.Common.{◌≡◌, ◌≢◌, ◌<◌, ◌≤◌, ◌⊎◌, inl, inr, ◌∙◌, ◌+◌, ◌==◌, if◌then◌else◌, pos, ℕ, zero, suc, true, false, Bool, List, [], ◌∷◌, ◌++◌, Option, Some, None, refl, sym, ap, subst, arith}
 use Rattle.std.proofs.lemmas.Bool.Decides.{nat_tests}
-use Rattle.fr_base.specs.declared.name.ObjNo.{ObjNo}
-use Rattle.fr_base.specs.declared.name.MutexNo.{MutexNo}
-use Rattle.fr_base.specs.declared.label.Plain.{Plain}
-use Rattle.fr_base.specs.declared.label.Plain.TheVariants as plain
-use Rattle.fr_typing.specs.Kinds.{Owned, unit, int, view, whole}
-use Rattle.fr_typing.specs.Places.{Env}
-use Rattle.fr_store.specs.Keys.{Key, slot_k, temp_k, content_k, result_k, hand_k}
-use Rattle.fr_store.specs.Store.{Val, Location, at_key, at_object, box_v, int_v, ref_v, gone_v, mutex_v, task_v, Store, value_at, Place}
-use Rattle.fr_store.specs.Typed.{Tree, hole, int_tree, box_tree, Exact, owns, refers, KeyTypes, exact_under, here, Stands, Typed}
-use Rattle.fr_store.specs.Below.{Seen}
+use Rattle.heap_law.specs.Below.fr_base.declared.name.ObjNo.{ObjNo}
+use Rattle.heap_law.specs.Below.fr_base.declared.name.MutexNo.{MutexNo}
+use Rattle.heap_law.specs.Below.fr_base.declared.label.Plain.{Plain}
+use Rattle.heap_law.specs.Below.fr_base.declared.label.Plain.TheVariants as plain
+use Rattle.heap_law.specs.Below.fr_typing.Kinds.{Owned, unit, int, view, whole}
+use Rattle.heap_law.specs.Below.fr_typing.Places.{Env}
+use Rattle.heap_law.specs.Below.fr_store.Keys.{Key, slot_k, temp_k, content_k, result_k, hand_k}
+use Rattle.heap_law.specs.Below.fr_store.Store.{Val, Location, at_key, at_object, box_v, int_v, ref_v, gone_v, mutex_v, task_v, Store, value_at, Place}
+use Rattle.heap_law.specs.Below.fr_store.Typed.{Tree, hole, int_tree, box_tree, Exact, owns, refers, KeyTypes, exact_under, here, Stands, Typed}
+use Rattle.heap_law.specs.Below.fr_store.Below.{Seen}
 use Rattle.heap_law.specs.Below.server_model.Figures.{run, steps_of, deliver}
 use Rattle.heap_law.specs.Below.server_model.Programs.{with_servers, read_by_pairs}
 use Rattle.heap_law.specs.Clusters.{place}
 use Rattle.heap_law.specs.Sight.{sight}
-use Rattle.fr_plain.specs.MachineThreads.{alive, over, owing, ended}
-use Rattle.fr_plain.specs.PlainState.{place_in}
-use Rattle.fr_plain.specs.declared.value.Value.{Value}
-use Rattle.fr_plain.specs.declared.value.Value.TheVariants.{Own, ToObject, Held}
-use Rattle.fr_plain.specs.State.{slot_at}
-use Rattle.fr_code.specs.Steps.{Place as CodePlace}
-use Rattle.fr_code.specs.Machine.{CodeRunning, CodeState}
+use Rattle.heap_law.specs.Below.fr_plain.MachineThreads.{alive, over, owing, ended}
+use Rattle.heap_law.specs.Below.fr_plain.PlainState.{place_in}
+use Rattle.heap_law.specs.Below.fr_plain.declared.value.Value.{Value}
+use Rattle.heap_law.specs.Below.fr_plain.declared.value.Value.TheVariants.{Own, ToObject, Held}
+use Rattle.heap_law.specs.Below.fr_plain.State.{slot_at}
+use Rattle.heap_law.specs.Below.fr_code.Steps.{Place as CodePlace}
+use Rattle.heap_law.specs.Below.fr_code.Machine.{CodeRunning, CodeState}
 use Rattle.fr_sound.specs.Seen.{Gives}
 use Rattle.fr_sound.specs.States.{Typing, store_of, slot_val, temp_val, result_val, RunningTyped, env_at, part_at, is_reference, is_hidden, is_held, IsLower, by_boxes, WaitsFor, directly, IsKept, IsBranch, IsOwed, IsNear}
 use Rattle.heap_law.specs.OneHeap.{PlainLife, one_heap, is_given_thread}
-use Rattle.fr_code.specs.CodeTypes.{going, forked_at}
+use Rattle.heap_law.specs.Below.fr_code.CodeTypes.{going, forked_at}
 use Rattle.type_law.specs.ClusterTypes.{KnownAt, CodeStateTypes, Types}
 use Rattle.type_law.specs.Tables.{r_name, slot, two_slots, pairs_table}
 use Rattle.type_law.specs.Typed.{cluster_of}

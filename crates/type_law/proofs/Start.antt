@@ -1,14 +1,14 @@
 -- The start of a code that has a table has types, on however many servers.
 use Rattle.std.proofs.Common.{◌≡◌, ℕ, zero, suc, ◌+◌, ◌==◌, ◌≤◌, ◌%◌, ◌/◌, ◌^◌, ◌&&◌, not, Bool, true, false, List, [], Option, Some, None, refl, ap, ◌∙◌, subst, arith, nat_le, reverse}
-use Rattle.fr_base.specs.declared.name.ObjNo.{ObjNo}
-use Rattle.fr_base.specs.declared.name.MutexNo.{MutexNo}
-use Rattle.fr_base.specs.declared.instruction.Instr.{Instr}
-use Rattle.fr_base.specs.declared.settings.Options.{Options}
-use Rattle.fr_plain.specs.declared.value.Value.{Value}
-use Rattle.fr_typing.specs.Kinds.{Owned, unit, int, box, mutex, task, same_owned}
-use Rattle.fr_store.specs.Keys.{Key, slot_k, temp_k, content_k, result_k, hand_k}
-use Rattle.fr_store.specs.Store.{Location, at_key, at_object, Val, box_v, gone_v, mutex_v, task_v, Store, value_at}
-use Rattle.fr_store.specs.Typed.{hole, Exact, owns, KeyTypes, exact_under, Stands, Typed}
+use Rattle.heap_law.specs.Below.fr_base.declared.name.ObjNo.{ObjNo}
+use Rattle.heap_law.specs.Below.fr_base.declared.name.MutexNo.{MutexNo}
+use Rattle.heap_law.specs.Below.fr_base.declared.instruction.Instr.{Instr}
+use Rattle.heap_law.specs.Below.fr_base.declared.settings.Options.{Options}
+use Rattle.heap_law.specs.Below.fr_plain.declared.value.Value.{Value}
+use Rattle.heap_law.specs.Below.fr_typing.Kinds.{Owned, unit, int, box, mutex, task, same_owned}
+use Rattle.heap_law.specs.Below.fr_store.Keys.{Key, slot_k, temp_k, content_k, result_k, hand_k}
+use Rattle.heap_law.specs.Below.fr_store.Store.{Location, at_key, at_object, Val, box_v, gone_v, mutex_v, task_v, Store, value_at}
+use Rattle.heap_law.specs.Below.fr_store.Typed.{hole, Exact, owns, KeyTypes, exact_under, Stands, Typed}
 use Rattle.heap_law.specs.Below.server_model.Servers.{Cluster, start_of, main_thread, with_main, empty_servers}
 use Rattle.heap_law.specs.Names.{tot, one, some, other, if_so}
 use Rattle.heap_law.specs.Things.{Thing, counts, servers_things}
@@ -18,15 +18,15 @@ use Rattle.heap_law.specs.Walking.{sum_threads, instr_of}
 use Rattle.heap_law.specs.Requests.{locked_mutex}
 use Rattle.heap_law.specs.Paths.{joined_thread}
 use Rattle.heap_law.specs.Naming.{started_at}
-use Rattle.fr_plain.specs.MachineThreads.{alive}
-use Rattle.fr_code.specs.Steps.{Place as CodePlace}
-use Rattle.fr_code.specs.Machine.{CodeRunning}
+use Rattle.heap_law.specs.Below.fr_plain.MachineThreads.{alive}
+use Rattle.heap_law.specs.Below.fr_code.Steps.{Place as CodePlace}
+use Rattle.heap_law.specs.Below.fr_code.Machine.{CodeRunning}
 use Rattle.fr_sound.specs.Seen.{Gives}
 use Rattle.fr_sound.specs.States.{Typing, store_of, RunningTyped}
 use Rattle.heap_law.specs.OneHeap.{one_heap, is_given_thread, Node, object_n, mutex_n, any_named, is_in_state, pair_of}
-use Rattle.thread_state.specs.View.{is_over}
-use Rattle.fr_code.specs.CodeTypes.{Entry, Table, going}
-use Rattle.fr_code.specs.CodeTable.{IsTable}
+use Rattle.heap_law.specs.Below.thread_state.View.{is_over}
+use Rattle.heap_law.specs.Below.fr_code.CodeTypes.{Entry, Table, going}
+use Rattle.heap_law.specs.Below.fr_code.CodeTable.{IsTable}
 use Rattle.heap_law.specs.Clusters.{options, boxed_code}
 use Rattle.type_law.specs.Codes.{boxed_table}
 use Rattle.type_law.specs.Typed.{StartHasTypes}

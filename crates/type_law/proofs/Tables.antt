@@ -1,11 +1,11 @@
 -- The tables of the examples, row by row.
 use Rattle.std.proofs.Common.{refl, arith}
-use Rattle.fr_typing.specs.Kinds.{unit}
-use Rattle.fr_typing.specs.Captures.{captures_copy, captures_move}
+use Rattle.heap_law.specs.Below.fr_typing.Kinds.{unit}
+use Rattle.heap_law.specs.Below.fr_typing.Captures.{captures_copy, captures_move}
 use Rattle.heap_law.specs.Below.server_model.Programs.{read_by_pairs, locked_elsewhere, lent_box}
-use Rattle.fr_code.specs.CodeTypes.{takes_const, takes_unit, takes_pop, passes, pass_none, pass_next, i_let, i_assign, i_copy, i_move, i_borrow, i_borrow_mut, i_box, i_print, i_drop, i_spawn, i_join, i_mutex, i_lock, i_unlock, i_par, i_par_end}
-use Rattle.fr_code.specs.CodeTable.{IsTable}
-use Rattle.fr_code.proofs.Chains.{leads, stops, chained}
+use Rattle.heap_law.specs.Below.fr_code.CodeTypes.{takes_const, takes_unit, takes_pop, passes, pass_none, pass_next, i_let, i_assign, i_copy, i_move, i_borrow, i_borrow_mut, i_box, i_print, i_drop, i_spawn, i_join, i_mutex, i_lock, i_unlock, i_par, i_par_end}
+use Rattle.heap_law.specs.Below.fr_code.CodeTable.{IsTable}
+use Rattle.heap_law.proofs.Below.fr_code.Chains.{leads, stops, chained}
 use Rattle.type_law.specs.Tables.{x_name, r_name, c_name, pairs_entries, locks_entries, lent_entries, pairs_table, locks_table, lent_table, TablesCompute}
 
 pub pairs_typed : IsTable read_by_pairs pairs_table

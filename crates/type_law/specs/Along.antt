@@ -1,12 +1,12 @@
 -- Whole runs keep what can be counted of types, after each event.
 use Rattle.std.specs.Prelude.{◌≡◌, ℕ, ◌+◌, false, List, [], ◌∷◌, ◌++◌, Option, Some, None}
-use Rattle.fr_base.specs.declared.instruction.Instr.{Instr}
-use Rattle.fr_base.specs.declared.settings.Options.{Options}
-use Rattle.fr_base.specs.declared.place.Lval.{Lval}
-use Rattle.journal.specs.View.{EntryView}
-use Rattle.fr_typing.specs.Kinds.{unit, int, box, shared, mutable, Piece, whole}
-use Rattle.fr_store.specs.Keys.{slot_k}
-use Rattle.fr_store.specs.Typed.{Exact, owns, refers, hole, KeyTypes}
+use Rattle.heap_law.specs.Below.fr_base.declared.instruction.Instr.{Instr}
+use Rattle.heap_law.specs.Below.fr_base.declared.settings.Options.{Options}
+use Rattle.heap_law.specs.Below.fr_base.declared.place.Lval.{Lval}
+use Rattle.heap_law.specs.Below.journal.View.{EntryView}
+use Rattle.heap_law.specs.Below.fr_typing.Kinds.{unit, int, box, shared, mutable, Piece, whole}
+use Rattle.heap_law.specs.Below.fr_store.Keys.{slot_k}
+use Rattle.heap_law.specs.Below.fr_store.Typed.{Exact, owns, refers, hole, KeyTypes}
 use Rattle.heap_law.specs.Below.server_model.declared.event.Event.{Event}
 use Rattle.heap_law.specs.Below.server_model.Servers.{Cluster, start_of}
 use Rattle.heap_law.specs.Below.server_model.Clusters.{apply}
@@ -16,7 +16,7 @@ use Rattle.heap_law.specs.Below.server_model.Rows.{reading_by_pairs, moving, loc
 use Rattle.heap_law.specs.Follow.{Standing, thread_at}
 use Rattle.heap_law.specs.Sight.{Sight, sight}
 use Rattle.type_law.specs.Names.{NameTypes}
-use Rattle.fr_code.specs.CodeTypes.{Table, Entry as Types}
+use Rattle.heap_law.specs.Below.fr_code.CodeTypes.{Table, Entry as Types}
 use Rattle.fr_sound.specs.States.{part_at}
 use Rattle.type_law.specs.ClusterTypes.{misfits, forms_wrong, locked_wrong, leads_wrong, views_wrong, ends_wrong}
 use Rattle.type_law.specs.Tables.{pairs_table, locks_table, lent_table}

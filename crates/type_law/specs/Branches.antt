@@ -1,8 +1,8 @@
 -- What the types of a cluster say of the branches of pairs (this project's rules): the typed one heap says it of parents that wait, and homes note
 -- these branches alone.
 use Rattle.std.specs.Prelude.{◌≡◌, ℕ, ◌<◌, Bool, Some}
-use Rattle.fr_typing.specs.Kinds.{unit}
-use Rattle.join_home.specs.Tasks.{Task, in_pair}
+use Rattle.heap_law.specs.Below.fr_typing.Kinds.{unit}
+use Rattle.heap_law.specs.Below.join_home.Tasks.{Task, in_pair}
 use Rattle.heap_law.specs.Below.server_model.Servers.{Cluster}
 use Rattle.heap_law.specs.Names.{Among}
 use Rattle.heap_law.specs.Things.{noted, things_of}

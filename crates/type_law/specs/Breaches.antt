@@ -1,21 +1,21 @@
 -- Clusters that break what is counted of types, a sentence each.
 use Rattle.std.specs.Prelude.{◌≡◌, ℕ, false, List, [], ◌∷◌, Some}
-use Rattle.global_addr.specs.Words.{word_of}
-use Rattle.fr_base.specs.declared.place.Lval.{Lval}
-use Rattle.heap_partition.specs.declared.value.Owned.TheVariants as owned
-use Rattle.thread_state.specs.View.{ThreadState, new_thread}
-use Rattle.thread_state.specs.declared.value.Value.{Value}
-use Rattle.thread_state.specs.declared.value.Value.TheVariants as value
-use Rattle.fr_typing.specs.Kinds.{unit, int, mutable, own, whole}
-use Rattle.fr_typing.specs.Kinds as kind
-use Rattle.fr_typing.specs.Places.{Env}
+use Rattle.heap_law.specs.Below.global_addr.Words.{word_of}
+use Rattle.heap_law.specs.Below.fr_base.declared.place.Lval.{Lval}
+use Rattle.heap_law.specs.Below.heap_partition.declared.value.Owned.TheVariants as owned
+use Rattle.heap_law.specs.Below.thread_state.View.{ThreadState, new_thread}
+use Rattle.heap_law.specs.Below.thread_state.declared.value.Value.{Value}
+use Rattle.heap_law.specs.Below.thread_state.declared.value.Value.TheVariants as value
+use Rattle.heap_law.specs.Below.fr_typing.Kinds.{unit, int, mutable, own, whole}
+use Rattle.heap_law.specs.Below.fr_typing.Kinds as kind
+use Rattle.heap_law.specs.Below.fr_typing.Places.{Env}
 use Rattle.heap_law.specs.Below.server_model.Servers.{Server, Cluster}
 use Rattle.heap_law.specs.Below.server_model.Programs.{lent_box}
 use Rattle.heap_law.specs.Clusters.{cell, int as one_int, box, object, place, the_mutex}
 use Rattle.heap_law.specs.Chosen.{lent_deep}
 use Rattle.heap_law.specs.Sight.{sight}
 use Rattle.type_law.specs.Names.{NameTypes}
-use Rattle.fr_code.specs.CodeTypes.{Table, going}
+use Rattle.heap_law.specs.Below.fr_code.CodeTypes.{Table, going}
 use Rattle.type_law.specs.ClusterTypes.{misfits, forms_wrong, locked_wrong, leads_wrong, views_wrong, ends_wrong}
 use Rattle.type_law.specs.Codes.{boxed_table}
 use Rattle.type_law.specs.Tables.{x_name, r_name, c_name, slot, pairs_table, lent_table}

@@ -1,20 +1,20 @@
 -- TYPES: the last part of coherent memory (Featherweight Rust's types over the things of a cluster; threads, mutexes and views are this project's).
 -- What can be counted is counted, as in the other parts: the number of things that break a sentence is 0.
 use Rattle.std.specs.Prelude.{◌≡◌, ℕ, zero, suc, ◌+◌, ◌==◌, Bool, true, false, not, ◌&&◌, ◌||◌, List, [], ◌∷◌, reverse, Option, Some, None, is_some}
-use Rattle.fr_base.specs.declared.name.ObjNo.{ObjNo}
-use Rattle.fr_base.specs.declared.name.MutexNo.{MutexNo}
-use Rattle.fr_base.specs.declared.place.Lval.{Lval}
-use Rattle.heap_partition.specs.declared.value.Owned.{Owned}
-use Rattle.heap_partition.specs.declared.value.Owned.TheVariants as owned
-use Rattle.thread_state.specs.View.{ThreadState, is_over}
-use Rattle.thread_state.specs.declared.value.Value.{Value}
-use Rattle.thread_state.specs.declared.value.Value.TheVariants as value
-use Rattle.thread_state.specs.declared.phase.Phase.{Phase}
-use Rattle.thread_state.specs.declared.phase.Phase.TheVariants as phase
-use Rattle.fr_typing.specs.Kinds.{Owned as OwnedType, same_owned, Kind, own, shared, mutable, view, Piece, whole, gone, boxed}
-use Rattle.fr_typing.specs.Places.{Slot}
-use Rattle.fr_store.specs.Keys.{Key, slot_k, temp_k}
-use Rattle.fr_store.specs.Typed.{Exact, owns, refers, KeyTypes}
+use Rattle.heap_law.specs.Below.fr_base.declared.name.ObjNo.{ObjNo}
+use Rattle.heap_law.specs.Below.fr_base.declared.name.MutexNo.{MutexNo}
+use Rattle.heap_law.specs.Below.fr_base.declared.place.Lval.{Lval}
+use Rattle.heap_law.specs.Below.heap_partition.declared.value.Owned.{Owned}
+use Rattle.heap_law.specs.Below.heap_partition.declared.value.Owned.TheVariants as owned
+use Rattle.heap_law.specs.Below.thread_state.View.{ThreadState, is_over}
+use Rattle.heap_law.specs.Below.thread_state.declared.value.Value.{Value}
+use Rattle.heap_law.specs.Below.thread_state.declared.value.Value.TheVariants as value
+use Rattle.heap_law.specs.Below.thread_state.declared.phase.Phase.{Phase}
+use Rattle.heap_law.specs.Below.thread_state.declared.phase.Phase.TheVariants as phase
+use Rattle.heap_law.specs.Below.fr_typing.Kinds.{Owned as OwnedType, same_owned, Kind, own, shared, mutable, view, Piece, whole, gone, boxed}
+use Rattle.heap_law.specs.Below.fr_typing.Places.{Slot}
+use Rattle.heap_law.specs.Below.fr_store.Keys.{Key, slot_k, temp_k}
+use Rattle.heap_law.specs.Below.fr_store.Typed.{Exact, owns, refers, KeyTypes}
 use Rattle.heap_law.specs.Below.server_model.Servers.{Cluster}
 use Rattle.heap_law.specs.Names.{one, other, if_so, some, same_object, same_mutex}
 use Rattle.heap_law.specs.Things.{Location, Spot, as_content, as_result, Thing, holds, lies, flies}
@@ -29,9 +29,9 @@ use Rattle.heap_law.specs.Coherent.{IsSound}
 use Rattle.heap_law.specs.OneHeap.{one_heap}
 use Rattle.type_law.specs.Names.{NameTypes, names_of, fits, is_there, fits_some, is_type}
 use Rattle.fr_sound.specs.States.{owned_part, Typing}
-use Rattle.fr_code.specs.CodeTypes.{Entry, Table}
-use Rattle.fr_code.specs.CodeTable.{IsTable}
-pub use Rattle.fr_code.specs.TableStates.{KnownAt, CodeStateTypes}
+use Rattle.heap_law.specs.Below.fr_code.CodeTypes.{Entry, Table}
+use Rattle.heap_law.specs.Below.fr_code.CodeTable.{IsTable}
+pub use Rattle.heap_law.specs.Below.fr_code.TableStates.{KnownAt, CodeStateTypes}
 
 -- CELLS, CONTENTS AND RESULTS
 

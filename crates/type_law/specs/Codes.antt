@@ -1,13 +1,13 @@
 -- Codes and their tables, and a code that has none.
 use Rattle.std.specs.Prelude.{pos, true, List, [], ◌∷◌, Some}
-use Rattle.fr_base.specs.declared.instruction.Operand.TheVariants as operand
-use Rattle.fr_base.specs.declared.instruction.Instr.{Instr}
-use Rattle.fr_base.specs.declared.instruction.Instr.TheVariants as instr
-use Rattle.fr_typing.specs.Kinds.{unit, int, box, own, whole}
-use Rattle.fr_typing.specs.Places.{Slot}
+use Rattle.heap_law.specs.Below.fr_base.declared.instruction.Operand.TheVariants as operand
+use Rattle.heap_law.specs.Below.fr_base.declared.instruction.Instr.{Instr}
+use Rattle.heap_law.specs.Below.fr_base.declared.instruction.Instr.TheVariants as instr
+use Rattle.heap_law.specs.Below.fr_typing.Kinds.{unit, int, box, own, whole}
+use Rattle.heap_law.specs.Below.fr_typing.Places.{Slot}
 use Rattle.heap_law.specs.Clusters.{place, boxed_code}
-use Rattle.fr_code.specs.CodeTypes.{Entry, Table, table_of, going}
-use Rattle.fr_code.specs.CodeTable.{IsTable}
+use Rattle.heap_law.specs.Below.fr_code.CodeTypes.{Entry, Table, table_of, going}
+use Rattle.heap_law.specs.Below.fr_code.CodeTable.{IsTable}
 
 abbrev pub box_slot : Slot
 box_slot = record { name = Some (120 ∷ []); part = whole (own (box int)) }

@@ -1,16 +1,16 @@
 -- A cluster in which main holds a mutex: the hidden slot of the lock is its mark, and the slot above has its content.
 use Rattle.std.specs.Prelude.{◌≡◌, pos, List, [], ◌∷◌, ◌++◌, Some, None}
-use Rattle.thread_state.specs.View.{ThreadState, new_thread}
-use Rattle.thread_state.specs.declared.value.Value.TheVariants as value
-use Rattle.heap_partition.specs.declared.value.Owned.TheVariants as owned
+use Rattle.heap_law.specs.Below.thread_state.View.{ThreadState, new_thread}
+use Rattle.heap_law.specs.Below.thread_state.declared.value.Value.TheVariants as value
+use Rattle.heap_law.specs.Below.heap_partition.declared.value.Owned.TheVariants as owned
 use Rattle.heap_law.specs.Below.server_model.Servers.{Server, Cluster}
 use Rattle.heap_law.specs.Below.server_model.Figures.{run, steps_of, deliver}
 use Rattle.heap_law.specs.Below.server_model.Programs.{with_servers, locked_twice}
-use Rattle.fr_typing.specs.Kinds.{unit, int, mutex, own, shared, whole}
-use Rattle.fr_typing.specs.Places.{Slot, Env}
+use Rattle.heap_law.specs.Below.fr_typing.Kinds.{unit, int, mutex, own, shared, whole}
+use Rattle.heap_law.specs.Below.fr_typing.Places.{Slot, Env}
 use Rattle.heap_law.specs.Clusters.{place, the_mutex}
-use Rattle.fr_code.specs.CodeTypes.{Entry, Table, table_of, going}
-use Rattle.fr_code.specs.CodeTable.{IsTable}
+use Rattle.heap_law.specs.Below.fr_code.CodeTypes.{Entry, Table, table_of, going}
+use Rattle.heap_law.specs.Below.fr_code.CodeTable.{IsTable}
 use Rattle.type_law.specs.ClusterTypes.{Types}
 use Rattle.type_law.specs.Tables.{x_name, r_name, c_name, slot}
 use Rattle.type_law.specs.Typed.{cluster_of}

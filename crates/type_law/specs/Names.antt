@@ -1,10 +1,10 @@
 -- One type for each object, each mutex and each thread's result (this project's rule), and when an owned value agrees with them.
 use Rattle.std.specs.Prelude.{ℕ, Bool, true, false, Option, Some, None}
-use Rattle.fr_base.specs.declared.name.ObjNo.{ObjNo}
-use Rattle.fr_base.specs.declared.name.MutexNo.{MutexNo}
-use Rattle.heap_partition.specs.declared.value.Owned.{Owned as Value}
-use Rattle.heap_partition.specs.declared.value.Owned.TheVariants as owned
-use Rattle.fr_typing.specs.Kinds.{Owned, unit, int, box, mutex, task, same_owned}
+use Rattle.heap_law.specs.Below.fr_base.declared.name.ObjNo.{ObjNo}
+use Rattle.heap_law.specs.Below.fr_base.declared.name.MutexNo.{MutexNo}
+use Rattle.heap_law.specs.Below.heap_partition.declared.value.Owned.{Owned as Value}
+use Rattle.heap_law.specs.Below.heap_partition.declared.value.Owned.TheVariants as owned
+use Rattle.heap_law.specs.Below.fr_typing.Kinds.{Owned, unit, int, box, mutex, task, same_owned}
 use Rattle.fr_sound.specs.Seen.{Gives}
 
 -- what each object holds, each mutex holds as its content, and each thread ends with: the type of its code's result, whether it has ended or not

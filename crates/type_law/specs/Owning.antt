@@ -1,11 +1,11 @@
 -- No object, content or result owns itself, directly or through others (this project's rule).
 use Rattle.std.specs.Prelude.{◌≡◌, ◌⊎◌, ℕ, true, false, reverse, List, [], ◌∷◌, Some}
-use Rattle.fr_base.specs.declared.name.MutexNo.{MutexNo}
-use Rattle.heap_partition.specs.declared.value.Cell.{Cell}
-use Rattle.heap_partition.specs.declared.value.Owned.{Owned}
-use Rattle.thread_state.specs.View.{is_over}
-use Rattle.thread_state.specs.declared.value.Value.{Value}
-use Rattle.thread_state.specs.declared.value.Value.TheVariants as value
+use Rattle.heap_law.specs.Below.fr_base.declared.name.MutexNo.{MutexNo}
+use Rattle.heap_law.specs.Below.heap_partition.declared.value.Cell.{Cell}
+use Rattle.heap_law.specs.Below.heap_partition.declared.value.Owned.{Owned}
+use Rattle.heap_law.specs.Below.thread_state.View.{is_over}
+use Rattle.heap_law.specs.Below.thread_state.declared.value.Value.{Value}
+use Rattle.heap_law.specs.Below.thread_state.declared.value.Value.TheVariants as value
 use Rattle.heap_law.specs.Below.server_model.Servers.{Cluster}
 use Rattle.heap_law.specs.Names.{Among}
 use Rattle.heap_law.specs.Things.{as_content, as_result, holds, lies, flies}

@@ -1,11 +1,11 @@
 -- A cluster in which main waits at its par, and both branches have a view of what its reference leads to.
 use Rattle.std.specs.Prelude.{◌≡◌, false, [], ◌∷◌, ◌++◌, Some}
-use Rattle.global_addr.specs.Words.{word_of}
-use Rattle.thread_state.specs.View.{ThreadState, new_thread}
-use Rattle.thread_state.specs.declared.value.Value.{Value}
-use Rattle.thread_state.specs.declared.value.Value.TheVariants as value
-use Rattle.thread_state.specs.declared.phase.Phase.TheVariants as phase
-use Rattle.join_home.specs.Tasks.{in_pair}
+use Rattle.heap_law.specs.Below.global_addr.Words.{word_of}
+use Rattle.heap_law.specs.Below.thread_state.View.{ThreadState, new_thread}
+use Rattle.heap_law.specs.Below.thread_state.declared.value.Value.{Value}
+use Rattle.heap_law.specs.Below.thread_state.declared.value.Value.TheVariants as value
+use Rattle.heap_law.specs.Below.thread_state.declared.phase.Phase.TheVariants as phase
+use Rattle.heap_law.specs.Below.join_home.Tasks.{in_pair}
 use Rattle.heap_law.specs.Below.server_model.Servers.{Server, Cluster}
 use Rattle.heap_law.specs.Below.server_model.Figures.{run, steps_of, deliver}
 use Rattle.heap_law.specs.Below.server_model.Programs.{with_servers, read_by_pairs}

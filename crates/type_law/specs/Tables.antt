@@ -1,12 +1,12 @@
 -- Tables of codes with a pair of threads and views, with a mutex and a task, and with a mutable reference.
 use Rattle.std.specs.Prelude.{List, [], ◌∷◌, ◌++◌, Some, None}
 use Rattle.fr_terms.specs.Terms.{Text}
-use Rattle.fr_typing.specs.Kinds.{unit, int, box, mutex, task, Kind, own, shared, mutable, view, Piece, whole, gone}
-use Rattle.fr_typing.specs.Places.{Slot, Env}
+use Rattle.heap_law.specs.Below.fr_typing.Kinds.{unit, int, box, mutex, task, Kind, own, shared, mutable, view, Piece, whole, gone}
+use Rattle.heap_law.specs.Below.fr_typing.Places.{Slot, Env}
 use Rattle.heap_law.specs.Clusters.{place}
 use Rattle.heap_law.specs.Below.server_model.Programs.{read_by_pairs, locked_elsewhere, lent_box}
-use Rattle.fr_code.specs.CodeTypes.{Entry, Table, table_of, going, forked_at}
-use Rattle.fr_code.specs.CodeTable.{IsTable}
+use Rattle.heap_law.specs.Below.fr_code.CodeTypes.{Entry, Table, table_of, going, forked_at}
+use Rattle.heap_law.specs.Below.fr_code.CodeTable.{IsTable}
 
 abbrev pub x_name : Text
 x_name = 120 ∷ []

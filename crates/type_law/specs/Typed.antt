@@ -1,14 +1,14 @@
 -- Clusters that have types: the start of each code that has a table, and the run of a code after two events.
 use Rattle.std.specs.Prelude.{◌≡◌, ◌≤◌, List, [], ◌∷◌, Option, Some, None}
-use Rattle.fr_base.specs.declared.instruction.Instr.{Instr}
-use Rattle.fr_base.specs.declared.settings.Options.{Options}
-use Rattle.global_addr.specs.Words.{word_of}
-use Rattle.thread_state.specs.View.{ThreadState, new_thread}
-use Rattle.thread_state.specs.declared.value.Value.TheVariants as value
+use Rattle.heap_law.specs.Below.fr_base.declared.instruction.Instr.{Instr}
+use Rattle.heap_law.specs.Below.fr_base.declared.settings.Options.{Options}
+use Rattle.heap_law.specs.Below.global_addr.Words.{word_of}
+use Rattle.heap_law.specs.Below.thread_state.View.{ThreadState, new_thread}
+use Rattle.heap_law.specs.Below.thread_state.declared.value.Value.TheVariants as value
 use Rattle.heap_law.specs.Below.server_model.Servers.{Server, Cluster, start_of}
 use Rattle.heap_law.specs.Below.server_model.Figures.{Ran, run, steps_of}
-use Rattle.fr_code.specs.CodeTypes.{Table}
-use Rattle.fr_code.specs.CodeTable.{IsTable}
+use Rattle.heap_law.specs.Below.fr_code.CodeTypes.{Table}
+use Rattle.heap_law.specs.Below.fr_code.CodeTable.{IsTable}
 use Rattle.heap_law.specs.Clusters.{boxed_code, options, cell, int, box}
 use Rattle.type_law.specs.ClusterTypes.{Types}
 

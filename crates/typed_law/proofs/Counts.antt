@@ -1,21 +1,21 @@
 -- What a typed one heap says of what is counted: locks and ends, and all of it together.
 use Rattle.std.proofs.Common.{◌≡◌, ℕ, suc, ◌<◌, ◌==◌, not, Bool, true, false, if◌then◌else◌, List, [], ◌∷◌, reverse, length, Option, Some, None, refl, sym, ap, ◌∙◌, arith}
 use Rattle.std.proofs.lemmas.List.{length-reverse}
-use Rattle.fr_base.specs.declared.name.ObjNo.{ObjNo}
-use Rattle.fr_base.specs.declared.name.MutexNo.{MutexNo}
-use Rattle.thread_state.specs.View.{is_over}
-use Rattle.thread_state.specs.declared.value.Value.{Value}
-use Rattle.thread_state.specs.declared.value.Value.TheVariants as value
-use Rattle.fr_typing.specs.Kinds.{Owned as OwnedType, same_owned}
-use Rattle.fr_typing.specs.Places.{Slot, Env}
-use Rattle.fr_sound.specs.States.{env_at, part_of, owned_part}
-use Rattle.server_model.specs.Servers.{Cluster}
-use Rattle.heap_law.specs.Names.{tot, if_so, Among}
-use Rattle.heap_law.specs.Things.{things_of}
-use Rattle.heap_law.specs.Follow.{Standing, threads_in}
-use Rattle.heap_law.specs.Sight.{sight}
-use Rattle.type_law.specs.Names.{NameTypes, names_of, is_type}
-use Rattle.type_law.specs.ClusterTypes.{entry_wrong, above_mark, locked_of, locked_wrong, gives_other, ends_wrong}
+use Rattle.path_law.specs.Below.fr_base.declared.name.ObjNo.{ObjNo}
+use Rattle.path_law.specs.Below.fr_base.declared.name.MutexNo.{MutexNo}
+use Rattle.path_law.specs.Below.thread_state.View.{is_over}
+use Rattle.path_law.specs.Below.thread_state.declared.value.Value.{Value}
+use Rattle.path_law.specs.Below.thread_state.declared.value.Value.TheVariants as value
+use Rattle.path_law.specs.Below.fr_typing.Kinds.{Owned as OwnedType, same_owned}
+use Rattle.path_law.specs.Below.fr_typing.Places.{Slot, Env}
+use Rattle.path_law.specs.Below.fr_sound.States.{env_at, part_of, owned_part}
+use Rattle.path_law.specs.Below.server_model.Servers.{Cluster}
+use Rattle.path_law.specs.Below.heap_law.Names.{tot, if_so, Among}
+use Rattle.path_law.specs.Below.heap_law.Things.{things_of}
+use Rattle.path_law.specs.Below.heap_law.Follow.{Standing, threads_in}
+use Rattle.path_law.specs.Below.heap_law.Sight.{sight}
+use Rattle.path_law.specs.Below.type_law.Names.{NameTypes, names_of, is_type}
+use Rattle.path_law.specs.Below.type_law.ClusterTypes.{entry_wrong, above_mark, locked_of, locked_wrong, gives_other, ends_wrong}
 use Rattle.path_law.specs.HeapStore.{GoesOn}
 use Rattle.path_law.proofs.Shown.{at_behind, behind_is}
 use Rattle.typed_law.specs.Counted.{over_ends_wrong, CountsFollow, TypedHeapsCount, TypesFollow}

@@ -1,41 +1,41 @@
 -- A place leads in a cluster to where it leads in its typed one heap, whatever else is known of the cluster.
 use Rattle.std.proofs.Common.{◌≡◌, inl, inr, ℕ, zero, suc, ◌%◌, ◌^◌, ◌==◌, ◌&&◌, ◌||◌, not, Bool, true, false, if◌then◌else◌, List, [], ◌∷◌, Option, Some, None, option_map, refl, sym, ap, subst, ◌∙◌, arith}
 use Rattle.std.specs.Prelude.{slice_get}
-use Rattle.fr_base.specs.declared.name.ObjNo.{ObjNo}
-use Rattle.fr_base.specs.declared.name.MutexNo.{MutexNo}
-use Rattle.fr_base.specs.declared.label.Plain.{Plain}
-use Rattle.fr_base.specs.declared.label.Plain.TheVariants as plain
-use Rattle.heap_partition.specs.Plain.{plain_of}
-use Rattle.heap_partition.specs.declared.value.Cell.{Cell}
-use Rattle.heap_partition.specs.declared.value.Owned.{Owned}
-use Rattle.heap_partition.specs.declared.value.Owned.TheVariants as owned
-use Rattle.mut_borrow.specs.declared.mutable.MutRef.{MutRef}
-use Rattle.mut_borrow.specs.declared.shared.SharedRef.{SharedRef}
-use Rattle.thread_state.specs.declared.value.Value.{Value}
-use Rattle.thread_state.specs.declared.value.Value.TheVariants as value
-use Rattle.server_model.specs.Servers.{Cluster}
-use Rattle.fr_store.specs.Keys.{Key, slot_k}
-use Rattle.fr_store.specs.Store.{Location as StoreLocation, at_key, at_object, Val, gone_v, box_v, ref_v, unit_v, int_v, Store, value_at, star_target, star_hop, walk}
-use Rattle.fr_store.specs.Typed.{KeyTypes, Typed, Unnamed}
-use Rattle.fr_store.proofs.Chains.{unique}
-use Rattle.fr_store.proofs.Sound.{walk_last, ref_at}
-use Rattle.fr_store.proofs.Rows.{not_to}
-use Rattle.fr_sound.specs.Seen.{Gives, owned_val, seen_cell}
-use Rattle.fr_sound.specs.States.{Typing, store_of}
-use Rattle.fr_plain.specs.MachineThreads.{owing, loose}
-use Rattle.fr_plain.specs.PlainState.{place_in, place_of}
-use Rattle.fr_code.specs.Steps.{Place}
-use Rattle.fr_code.specs.Machine.{CodeRunning}
-use Rattle.fr_code.specs.CodeTypes.{Table}
-use Rattle.fr_code.specs.TableStates.{CodeStateTypes}
-use Rattle.heap_law.specs.Names.{tot, one, some, Among}
-use Rattle.heap_law.specs.Things.{Location, at_slot, in_cell, Thing, stands, things_of}
-use Rattle.heap_law.specs.Follow.{Standing, Ground, threads_in, thread_at, cell_of, slot_of, value_of, value_in, value_behind, leads, locate}
-use Rattle.heap_law.specs.Sight.{Sight, sight}
-use Rattle.heap_law.specs.Naming.{threads, started_at, zeroth_thread, uncounted_thread}
-use Rattle.heap_law.specs.Requests.{home_of}
-use Rattle.heap_law.specs.OneHeap.{one_heap, plain_value, object_value, going_on, was_let_go, running_at, life_of, life_at, if_given, is_given_thread}
-use Rattle.type_law.proofs.Branches.{found}
+use Rattle.path_law.specs.Below.fr_base.declared.name.ObjNo.{ObjNo}
+use Rattle.path_law.specs.Below.fr_base.declared.name.MutexNo.{MutexNo}
+use Rattle.path_law.specs.Below.fr_base.declared.label.Plain.{Plain}
+use Rattle.path_law.specs.Below.fr_base.declared.label.Plain.TheVariants as plain
+use Rattle.path_law.specs.Below.heap_partition.Plain.{plain_of}
+use Rattle.path_law.specs.Below.heap_partition.declared.value.Cell.{Cell}
+use Rattle.path_law.specs.Below.heap_partition.declared.value.Owned.{Owned}
+use Rattle.path_law.specs.Below.heap_partition.declared.value.Owned.TheVariants as owned
+use Rattle.path_law.specs.Below.mut_borrow.declared.mutable.MutRef.{MutRef}
+use Rattle.path_law.specs.Below.mut_borrow.declared.shared.SharedRef.{SharedRef}
+use Rattle.path_law.specs.Below.thread_state.declared.value.Value.{Value}
+use Rattle.path_law.specs.Below.thread_state.declared.value.Value.TheVariants as value
+use Rattle.path_law.specs.Below.server_model.Servers.{Cluster}
+use Rattle.path_law.specs.Below.fr_store.Keys.{Key, slot_k}
+use Rattle.path_law.specs.Below.fr_store.Store.{Location as StoreLocation, at_key, at_object, Val, gone_v, box_v, ref_v, unit_v, int_v, Store, value_at, star_target, star_hop, walk}
+use Rattle.path_law.specs.Below.fr_store.Typed.{KeyTypes, Typed, Unnamed}
+use Rattle.path_law.proofs.Below.fr_store.Chains.{unique}
+use Rattle.path_law.proofs.Below.fr_store.Sound.{walk_last, ref_at}
+use Rattle.path_law.proofs.Below.fr_store.Rows.{not_to}
+use Rattle.path_law.specs.Below.fr_sound.Seen.{Gives, owned_val, seen_cell}
+use Rattle.path_law.specs.Below.fr_sound.States.{Typing, store_of}
+use Rattle.path_law.specs.Below.fr_plain.MachineThreads.{owing, loose}
+use Rattle.path_law.specs.Below.fr_plain.PlainState.{place_in, place_of}
+use Rattle.path_law.specs.Below.fr_code.Steps.{Place}
+use Rattle.path_law.specs.Below.fr_code.Machine.{CodeRunning}
+use Rattle.path_law.specs.Below.fr_code.CodeTypes.{Table}
+use Rattle.path_law.specs.Below.fr_code.TableStates.{CodeStateTypes}
+use Rattle.path_law.specs.Below.heap_law.Names.{tot, one, some, Among}
+use Rattle.path_law.specs.Below.heap_law.Things.{Location, at_slot, in_cell, Thing, stands, things_of}
+use Rattle.path_law.specs.Below.heap_law.Follow.{Standing, Ground, threads_in, thread_at, cell_of, slot_of, value_of, value_in, value_behind, leads, locate}
+use Rattle.path_law.specs.Below.heap_law.Sight.{Sight, sight}
+use Rattle.path_law.specs.Below.heap_law.Naming.{threads, started_at, zeroth_thread, uncounted_thread}
+use Rattle.path_law.specs.Below.heap_law.Requests.{home_of}
+use Rattle.path_law.specs.Below.heap_law.OneHeap.{one_heap, plain_value, object_value, going_on, was_let_go, running_at, life_of, life_at, if_given, is_given_thread}
+use Rattle.path_law.proofs.Below.type_law.Branches.{found}
 use Rattle.path_law.specs.HeapStore.{in_store, GoesOn, IsUnmarked}
 use Rattle.path_law.proofs.Sole.{some_is, walk_prefix}
 use Rattle.path_law.proofs.Shown.{none_else, shown_value, object_shown}

@@ -1,39 +1,39 @@
 -- The slots and temporary values of each thread have the forms of its entry, in each cluster whose one heap is typed.
-use Rattle.fr_sound.specs.Seen.{Gives, seen_cell}
+use Rattle.path_law.specs.Below.fr_sound.Seen.{Gives, seen_cell}
 use Rattle.std.proofs.Common.{◌≡◌, ◌≢◌, ◌⊎◌, inl, inr, ℕ, zero, suc, ◌<◌, ◌≤◌, ◌==◌, not, Bool, true, false, if◌then◌else◌, List, [], ◌∷◌, reverse, map, length, Option, Some, None, refl, sym, ap, subst, ◌∙◌, arith}
 use Rattle.std.specs.Prelude.{slice_get, is_some}
 use Rattle.std.proofs.lemmas.List.{length-reverse, length-map}
 use Rattle.std.proofs.lemmas.Bool.Decides.{nat_tests}
-use Rattle.fr_base.specs.declared.name.ObjNo.{ObjNo}
-use Rattle.fr_base.specs.declared.name.MutexNo.{MutexNo}
-use Rattle.fr_base.specs.declared.label.Plain.{Plain}
-use Rattle.thread_state.specs.View.{is_over}
-use Rattle.thread_state.specs.declared.value.Value.{Value}
-use Rattle.thread_state.specs.declared.value.Value.TheVariants as value
-use Rattle.server_model.specs.Servers.{Cluster}
-use Rattle.fr_typing.specs.Kinds.{Owned as OwnedType, unit, int, box, mutex, task, Kind, own, shared, mutable, view, Piece, whole, gone, boxed, map_some}
-use Rattle.fr_typing.specs.Places.{Slot, Env}
-use Rattle.fr_typing.specs.Checks.{is_int}
-use Rattle.fr_store.specs.Keys.{Key, slot_k, temp_k}
-use Rattle.fr_store.specs.Store.{at_key, at_object, Val, gone_v, box_v, ref_v, Store, Place as StorePlace, add, below_key, box_target, value_at}
-use Rattle.fr_store.specs.Typed.{Tree, hole, box_tree, Exact, owns, refers, KeyTypes, tree_under, some_owns, exact_under, Resolves, here, through}
-use Rattle.fr_store.specs.Below.{tree_of, TreeOf, ExactOf, SlotsBelow, Seen}
-use Rattle.fr_store.specs.Thread.{TempIs}
-use Rattle.fr_store.proofs.Sound.{ref_at, res_part}
-use Rattle.fr_store.proofs.Rows.{found_place}
-use Rattle.fr_plain.specs.PlainState.{place_in, place_of}
-use Rattle.fr_sound.specs.States.{env_at, part_of, owned_part, owned_kind, hand_key, hand_kind, operands, IsThread, is_hidden, is_held, slot_val}
+use Rattle.path_law.specs.Below.fr_base.declared.name.ObjNo.{ObjNo}
+use Rattle.path_law.specs.Below.fr_base.declared.name.MutexNo.{MutexNo}
+use Rattle.path_law.specs.Below.fr_base.declared.label.Plain.{Plain}
+use Rattle.path_law.specs.Below.thread_state.View.{is_over}
+use Rattle.path_law.specs.Below.thread_state.declared.value.Value.{Value}
+use Rattle.path_law.specs.Below.thread_state.declared.value.Value.TheVariants as value
+use Rattle.path_law.specs.Below.server_model.Servers.{Cluster}
+use Rattle.path_law.specs.Below.fr_typing.Kinds.{Owned as OwnedType, unit, int, box, mutex, task, Kind, own, shared, mutable, view, Piece, whole, gone, boxed, map_some}
+use Rattle.path_law.specs.Below.fr_typing.Places.{Slot, Env}
+use Rattle.path_law.specs.Below.fr_typing.Checks.{is_int}
+use Rattle.path_law.specs.Below.fr_store.Keys.{Key, slot_k, temp_k}
+use Rattle.path_law.specs.Below.fr_store.Store.{at_key, at_object, Val, gone_v, box_v, ref_v, Store, Place as StorePlace, add, below_key, box_target, value_at}
+use Rattle.path_law.specs.Below.fr_store.Typed.{Tree, hole, box_tree, Exact, owns, refers, KeyTypes, tree_under, some_owns, exact_under, Resolves, here, through}
+use Rattle.path_law.specs.Below.fr_store.Below.{tree_of, TreeOf, ExactOf, SlotsBelow, Seen}
+use Rattle.path_law.specs.Below.fr_store.Thread.{TempIs}
+use Rattle.path_law.proofs.Below.fr_store.Sound.{ref_at, res_part}
+use Rattle.path_law.proofs.Below.fr_store.Rows.{found_place}
+use Rattle.path_law.specs.Below.fr_plain.PlainState.{place_in, place_of}
+use Rattle.path_law.specs.Below.fr_sound.States.{env_at, part_of, owned_part, owned_kind, hand_key, hand_kind, operands, IsThread, is_hidden, is_held, slot_val}
 use Rattle.plain_types.proofs.Envs.{same_tree}
-use Rattle.fr_code.specs.Machine.{CodeRunning}
-use Rattle.fr_code.specs.Steps.{Place}
-use Rattle.fr_code.specs.CodeTypes.{Entry}
-use Rattle.heap_law.specs.Names.{tot, other, if_so, Among}
-use Rattle.heap_law.specs.Things.{things_of}
-use Rattle.heap_law.specs.Follow.{Standing, threads_in, thread_at}
-use Rattle.heap_law.specs.Sight.{sight}
-use Rattle.heap_law.specs.OneHeap.{one_heap, plain_value, ended_with, life_of, life_at, if_given, is_given_thread}
-use Rattle.type_law.specs.Names.{NameTypes, names_of}
-use Rattle.type_law.specs.ClusterTypes.{has_form, is_mark, slot_form, slots_wrong, temps_wrong, entry_wrong, forms_of, forms_wrong}
+use Rattle.path_law.specs.Below.fr_code.Machine.{CodeRunning}
+use Rattle.path_law.specs.Below.fr_code.Steps.{Place}
+use Rattle.path_law.specs.Below.fr_code.CodeTypes.{Entry}
+use Rattle.path_law.specs.Below.heap_law.Names.{tot, other, if_so, Among}
+use Rattle.path_law.specs.Below.heap_law.Things.{things_of}
+use Rattle.path_law.specs.Below.heap_law.Follow.{Standing, threads_in, thread_at}
+use Rattle.path_law.specs.Below.heap_law.Sight.{sight}
+use Rattle.path_law.specs.Below.heap_law.OneHeap.{one_heap, plain_value, ended_with, life_of, life_at, if_given, is_given_thread}
+use Rattle.path_law.specs.Below.type_law.Names.{NameTypes, names_of}
+use Rattle.path_law.specs.Below.type_law.ClusterTypes.{has_form, is_mark, slot_form, slots_wrong, temps_wrong, entry_wrong, forms_of, forms_wrong}
 use Rattle.path_law.specs.HeapStore.{GoesOn}
 use Rattle.path_law.proofs.Sole.{some_is}
 use Rattle.path_law.proofs.Shown.{at_behind, behind_is}

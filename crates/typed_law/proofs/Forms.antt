@@ -1,27 +1,27 @@
 -- Slots and temporary values have the forms of their parts, in each cluster whose one heap is typed and where they have the sorts that it doesn't tell.
 use Rattle.std.proofs.Common.{◌≡◌, ℕ, suc, ◌<◌, ◌==◌, ◌&&◌, Bool, true, if◌then◌else◌, List, [], ◌∷◌, length, Option, Some, None, refl, sym, ap, subst, ◌∙◌, arith}
 use Rattle.std.specs.Prelude.{is_some}
-use Rattle.fr_base.specs.declared.name.ObjNo.{ObjNo}
-use Rattle.fr_base.specs.declared.name.MutexNo.{MutexNo}
-use Rattle.heap_partition.specs.Plain.{plain_of}
-use Rattle.heap_partition.specs.declared.value.Owned.{Owned}
-use Rattle.heap_partition.specs.declared.value.Owned.TheVariants as owned
-use Rattle.thread_state.specs.declared.value.Value.{Value}
-use Rattle.thread_state.specs.declared.value.Value.TheVariants as value
-use Rattle.fr_typing.specs.Kinds.{Owned as OwnedType, unit, int, box, mutex, task, same_owned, Kind, own, shared, mutable, view, Piece, whole, gone, boxed, map_some}
-use Rattle.fr_typing.specs.Places.{Slot, Env}
-use Rattle.fr_typing.proofs.PlaceLemmas.{eq_cases}
-use Rattle.fr_store.specs.Keys.{Key}
-use Rattle.fr_store.specs.Store.{Location as StoreLocation, Val, gone_v, unit_v, int_v, box_v, mutex_v, task_v, ref_v, Store, Place as StorePlace}
-use Rattle.fr_store.specs.Typed.{Typed, Tree, box_tree, Exact, owns, refers, KeyTypes, TopFits}
-use Rattle.fr_store.specs.Below.{tree_of, TreeOf, RefOf, ExactOf, SlotsBelow}
-use Rattle.fr_store.proofs.Sound.{ref_at}
-use Rattle.fr_store.proofs.Rows.{top_fits}
-use Rattle.fr_sound.specs.Seen.{Gives, owned_val}
-use Rattle.fr_sound.specs.States.{env_at, owned_part}
+use Rattle.path_law.specs.Below.fr_base.declared.name.ObjNo.{ObjNo}
+use Rattle.path_law.specs.Below.fr_base.declared.name.MutexNo.{MutexNo}
+use Rattle.path_law.specs.Below.heap_partition.Plain.{plain_of}
+use Rattle.path_law.specs.Below.heap_partition.declared.value.Owned.{Owned}
+use Rattle.path_law.specs.Below.heap_partition.declared.value.Owned.TheVariants as owned
+use Rattle.path_law.specs.Below.thread_state.declared.value.Value.{Value}
+use Rattle.path_law.specs.Below.thread_state.declared.value.Value.TheVariants as value
+use Rattle.path_law.specs.Below.fr_typing.Kinds.{Owned as OwnedType, unit, int, box, mutex, task, same_owned, Kind, own, shared, mutable, view, Piece, whole, gone, boxed, map_some}
+use Rattle.path_law.specs.Below.fr_typing.Places.{Slot, Env}
+use Rattle.path_law.proofs.Below.fr_typing.PlaceLemmas.{eq_cases}
+use Rattle.path_law.specs.Below.fr_store.Keys.{Key}
+use Rattle.path_law.specs.Below.fr_store.Store.{Location as StoreLocation, Val, gone_v, unit_v, int_v, box_v, mutex_v, task_v, ref_v, Store, Place as StorePlace}
+use Rattle.path_law.specs.Below.fr_store.Typed.{Typed, Tree, box_tree, Exact, owns, refers, KeyTypes, TopFits}
+use Rattle.path_law.specs.Below.fr_store.Below.{tree_of, TreeOf, RefOf, ExactOf, SlotsBelow}
+use Rattle.path_law.proofs.Below.fr_store.Sound.{ref_at}
+use Rattle.path_law.proofs.Below.fr_store.Rows.{top_fits}
+use Rattle.path_law.specs.Below.fr_sound.Seen.{Gives, owned_val}
+use Rattle.path_law.specs.Below.fr_sound.States.{env_at, owned_part}
 use Rattle.plain_types.proofs.Envs.{same_tree}
-use Rattle.type_law.specs.Names.{NameTypes, names_of, fits, is_there, fits_some}
-use Rattle.type_law.specs.ClusterTypes.{has_form, slot_form, slots_wrong}
+use Rattle.path_law.specs.Below.type_law.Names.{NameTypes, names_of, fits, is_there, fits_some}
+use Rattle.path_law.specs.Below.type_law.ClusterTypes.{has_form, slot_form, slots_wrong}
 use Rattle.path_law.proofs.Sole.{some_is}
 use Rattle.path_law.proofs.Shown.{at_behind}
 use Rattle.typed_law.specs.Counted.{has_sort, slot_sort, slots_unsorted}

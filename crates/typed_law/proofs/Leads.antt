@@ -2,30 +2,30 @@
 use Rattle.std.proofs.Common.{◌≡◌, ◌⊎◌, inl, inr, ℕ, suc, ◌+◌, ◌==◌, ◌&&◌, Bool, true, false, List, [], ◌∷◌, length, Option, Some, None, refl, sym, ap, subst, ◌∙◌, arith}
 use Rattle.std.specs.Prelude.{slice_get, is_some}
 use Rattle.std.proofs.lemmas.Bool.Decides.{nat_tests}
-use Rattle.fr_base.specs.declared.name.ObjNo.{ObjNo}
-use Rattle.fr_base.specs.declared.name.MutexNo.{MutexNo}
-use Rattle.fr_base.specs.Names.{same_mutex}
-use Rattle.heap_partition.specs.Plain.{plain_of}
-use Rattle.heap_partition.specs.declared.value.Owned.{Owned}
-use Rattle.heap_partition.specs.declared.value.Owned.TheVariants as owned
-use Rattle.thread_state.specs.View.{is_over}
-use Rattle.thread_state.specs.declared.value.Value.{Value}
-use Rattle.thread_state.specs.declared.value.Value.TheVariants as value
-use Rattle.server_model.specs.Servers.{Cluster}
-use Rattle.fr_typing.proofs.PlaceLemmas.{eq_cases}
-use Rattle.fr_store.specs.Keys.{Key, slot_k, temp_k, content_k, result_k, hand_k}
-use Rattle.fr_store.specs.Store.{Location as StoreLocation, at_key, at_object, Val, gone_v, mutex_v, ref_v, Store, value_at, walk, Place as StorePlace}
-use Rattle.fr_store.specs.Typed.{Tree, Exact, owns, refers, KeyTypes}
-use Rattle.fr_store.proofs.Sound.{ref_at}
-use Rattle.fr_store.proofs.Rows.{found_place}
-use Rattle.fr_sound.specs.Seen.{Gives, owned_val}
-use Rattle.heap_law.specs.Names.{tot, one, other, if_so, Among}
-use Rattle.heap_law.specs.Things.{Location, at_slot, at_temp, in_cell, things_of}
-use Rattle.heap_law.specs.Follow.{Standing, Ground, threads_in, slot_of, value_of, value_in, locate}
-use Rattle.heap_law.specs.Sight.{sight}
-use Rattle.heap_law.specs.Walking.{instr_of}
-use Rattle.heap_law.specs.Rooted.{is_end, dressed}
-use Rattle.type_law.specs.ClusterTypes.{same_place, is_held_at, leads_as, astray_from, astray, all_astray, astray_of, leads_wrong}
+use Rattle.path_law.specs.Below.fr_base.declared.name.ObjNo.{ObjNo}
+use Rattle.path_law.specs.Below.fr_base.declared.name.MutexNo.{MutexNo}
+use Rattle.path_law.specs.Below.fr_base.Names.{same_mutex}
+use Rattle.path_law.specs.Below.heap_partition.Plain.{plain_of}
+use Rattle.path_law.specs.Below.heap_partition.declared.value.Owned.{Owned}
+use Rattle.path_law.specs.Below.heap_partition.declared.value.Owned.TheVariants as owned
+use Rattle.path_law.specs.Below.thread_state.View.{is_over}
+use Rattle.path_law.specs.Below.thread_state.declared.value.Value.{Value}
+use Rattle.path_law.specs.Below.thread_state.declared.value.Value.TheVariants as value
+use Rattle.path_law.specs.Below.server_model.Servers.{Cluster}
+use Rattle.path_law.proofs.Below.fr_typing.PlaceLemmas.{eq_cases}
+use Rattle.path_law.specs.Below.fr_store.Keys.{Key, slot_k, temp_k, content_k, result_k, hand_k}
+use Rattle.path_law.specs.Below.fr_store.Store.{Location as StoreLocation, at_key, at_object, Val, gone_v, mutex_v, ref_v, Store, value_at, walk, Place as StorePlace}
+use Rattle.path_law.specs.Below.fr_store.Typed.{Tree, Exact, owns, refers, KeyTypes}
+use Rattle.path_law.proofs.Below.fr_store.Sound.{ref_at}
+use Rattle.path_law.proofs.Below.fr_store.Rows.{found_place}
+use Rattle.path_law.specs.Below.fr_sound.Seen.{Gives, owned_val}
+use Rattle.path_law.specs.Below.heap_law.Names.{tot, one, other, if_so, Among}
+use Rattle.path_law.specs.Below.heap_law.Things.{Location, at_slot, at_temp, in_cell, things_of}
+use Rattle.path_law.specs.Below.heap_law.Follow.{Standing, Ground, threads_in, slot_of, value_of, value_in, locate}
+use Rattle.path_law.specs.Below.heap_law.Sight.{sight}
+use Rattle.path_law.specs.Below.heap_law.Walking.{instr_of}
+use Rattle.path_law.specs.Below.heap_law.Rooted.{is_end, dressed}
+use Rattle.path_law.specs.Below.type_law.ClusterTypes.{same_place, is_held_at, leads_as, astray_from, astray, all_astray, astray_of, leads_wrong}
 use Rattle.path_law.specs.HeapStore.{in_store, GoesOn, IsUnmarked}
 use Rattle.path_law.proofs.Sole.{some_is}
 use Rattle.path_law.proofs.Contained.{location_itself}

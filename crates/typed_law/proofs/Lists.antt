@@ -2,17 +2,17 @@
 use Rattle.std.proofs.Common.{◌≡◌, ℕ, zero, suc, ◌+◌, ◌<◌, ◌≤◌, ◌==◌, Bool, true, false, if◌then◌else◌, List, [], ◌∷◌, ◌++◌, length, Option, Some, None, refl, sym, ap, subst, ◌∙◌, arith}
 use Rattle.std.specs.Prelude.{is_some, slice_get}
 use Rattle.std.proofs.lemmas.Bool.Decides.{nat_tests}
-use Rattle.fr_base.specs.Names.{same_mutex}
-use Rattle.fr_base.specs.declared.label.Plain.{Plain}
-use Rattle.fr_base.specs.declared.name.MutexNo.{MutexNo}
-use Rattle.fr_plain.specs.declared.value.Value.{Value}
-use Rattle.fr_plain.specs.Heap.{Heap, made_by}
-use Rattle.fr_plain.specs.MachineThreads.{Life, alive, over, owing, loose, ended, Mutex, Shared, Pair, thread_at, mutex_at, mutex_there, pair_of}
-use Rattle.fr_plain.specs.PlainState.{Running, running, running_in, two_of}
-use Rattle.fr_code.specs.Steps.{Place}
-use Rattle.fr_code.specs.Machine.{CodeThread}
-use Rattle.fr_typing.proofs.PlaceLemmas.{eq_cases}
-use Rattle.heap_law.proofs.Names.{same_mutexes}
+use Rattle.path_law.specs.Below.fr_base.Names.{same_mutex}
+use Rattle.path_law.specs.Below.fr_base.declared.label.Plain.{Plain}
+use Rattle.path_law.specs.Below.fr_base.declared.name.MutexNo.{MutexNo}
+use Rattle.path_law.specs.Below.fr_plain.declared.value.Value.{Value}
+use Rattle.path_law.specs.Below.fr_plain.Heap.{Heap, made_by}
+use Rattle.path_law.specs.Below.fr_plain.MachineThreads.{Life, alive, over, owing, loose, ended, Mutex, Shared, Pair, thread_at, mutex_at, mutex_there, pair_of}
+use Rattle.path_law.specs.Below.fr_plain.PlainState.{Running, running, running_in, two_of}
+use Rattle.path_law.specs.Below.fr_code.Steps.{Place}
+use Rattle.path_law.specs.Below.fr_code.Machine.{CodeThread}
+use Rattle.path_law.proofs.Below.fr_typing.PlaceLemmas.{eq_cases}
+use Rattle.path_law.proofs.Below.heap_law.Names.{same_mutexes}
 
 -- NUMBERS OF A LIST
 

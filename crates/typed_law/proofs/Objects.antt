@@ -1,22 +1,22 @@
 -- The types of objects that a typed one heap gives: each object has the type that stands under the boxes of the key that owns it.
 use Rattle.std.proofs.Common.{◌≡◌, ◌⊎◌, inl, inr, ℕ, zero, suc, ◌+◌, ◌<◌, ◌==◌, Bool, true, false, if◌then◌else◌, List, [], ◌∷◌, ◌++◌, length, Option, Some, None, refl, sym, ap, subst, ◌∙◌, arith}
-use Rattle.fr_base.specs.declared.name.ObjNo.{ObjNo}
-use Rattle.fr_base.specs.declared.name.MutexNo.{MutexNo}
-use Rattle.server_model.specs.Servers.{Cluster}
-use Rattle.fr_typing.specs.Kinds.{Owned as OwnedType, unit, int, box, mutex, task, Kind, Piece}
-use Rattle.fr_typing.proofs.PlaceLemmas.{eq_cases}
-use Rattle.fr_store.specs.Keys.{Key, slot_k, temp_k, content_k, result_k, hand_k}
-use Rattle.fr_store.specs.Store.{Location as StoreLocation, at_key, at_object, Store, then_location, box_hop, below_location, below_key, value_at}
-use Rattle.fr_store.specs.Tidy.{OneOwner}
-use Rattle.fr_store.proofs.Chains.{then_some, inside_some, unique}
-use Rattle.fr_store.proofs.Keys.{object_cases}
-use Rattle.fr_sound.specs.States.{owned_part, owned_kind, part_at}
-use Rattle.fr_code.specs.CodeTypes.{Entry}
-use Rattle.heap_law.specs.Names.{Among, same_object}
-use Rattle.heap_law.specs.Follow.{Standing, thread_at}
-use Rattle.heap_law.specs.Sight.{sight}
-use Rattle.heap_law.specs.OneHeap.{or_else, object_n, mutex_n, task_n, Owner, a_thread, inside, outside, owner_of}
-use Rattle.heap_law.specs.Things.{Thing}
+use Rattle.path_law.specs.Below.fr_base.declared.name.ObjNo.{ObjNo}
+use Rattle.path_law.specs.Below.fr_base.declared.name.MutexNo.{MutexNo}
+use Rattle.path_law.specs.Below.server_model.Servers.{Cluster}
+use Rattle.path_law.specs.Below.fr_typing.Kinds.{Owned as OwnedType, unit, int, box, mutex, task, Kind, Piece}
+use Rattle.path_law.proofs.Below.fr_typing.PlaceLemmas.{eq_cases}
+use Rattle.path_law.specs.Below.fr_store.Keys.{Key, slot_k, temp_k, content_k, result_k, hand_k}
+use Rattle.path_law.specs.Below.fr_store.Store.{Location as StoreLocation, at_key, at_object, Store, then_location, box_hop, below_location, below_key, value_at}
+use Rattle.path_law.specs.Below.fr_store.Tidy.{OneOwner}
+use Rattle.path_law.proofs.Below.fr_store.Chains.{then_some, inside_some, unique}
+use Rattle.path_law.proofs.Below.fr_store.Keys.{object_cases}
+use Rattle.path_law.specs.Below.fr_sound.States.{owned_part, owned_kind, part_at}
+use Rattle.path_law.specs.Below.fr_code.CodeTypes.{Entry}
+use Rattle.path_law.specs.Below.heap_law.Names.{Among, same_object}
+use Rattle.path_law.specs.Below.heap_law.Follow.{Standing, thread_at}
+use Rattle.path_law.specs.Below.heap_law.Sight.{sight}
+use Rattle.path_law.specs.Below.heap_law.OneHeap.{or_else, object_n, mutex_n, task_n, Owner, a_thread, inside, outside, owner_of}
+use Rattle.path_law.specs.Below.heap_law.Things.{Thing}
 use Rattle.path_law.proofs.Sole.{some_is}
 use Rattle.path_law.proofs.Shown.{at_behind}
 use Rattle.typed_law.proofs.Following.{HasHeap, heap_of}

@@ -1,21 +1,21 @@
 -- What the one heap shows of a thread that goes on, value by value, and what its table knows of the thread.
 use Rattle.std.proofs.Common.{◌≡◌, ℕ, Some, option_map, refl, ap, ◌∙◌}
 use Rattle.std.specs.Prelude.{slice_get}
-use Rattle.heap_partition.specs.Plain.{plain_of}
-use Rattle.heap_partition.specs.declared.value.Owned.{Owned}
-use Rattle.heap_partition.specs.declared.value.Owned.TheVariants as owned
-use Rattle.thread_state.specs.declared.value.Value.{Value}
-use Rattle.thread_state.specs.declared.value.Value.TheVariants as value
-use Rattle.server_model.specs.Servers.{Cluster}
-use Rattle.fr_store.specs.Keys.{slot_k, temp_k}
-use Rattle.fr_store.specs.Store.{Location as StoreLocation, at_key, at_object, Val, gone_v, ref_v}
-use Rattle.fr_plain.specs.State.{slot_at}
-use Rattle.fr_sound.specs.Seen.{Gives, owned_val}
-use Rattle.fr_sound.specs.States.{RunningTyped}
-use Rattle.fr_code.specs.Steps.{Place}
-use Rattle.fr_code.specs.TableStates.{KnownAt}
-use Rattle.heap_law.specs.Follow.{Standing}
-use Rattle.heap_law.specs.OneHeap.{one_heap, plain_value, running_at}
+use Rattle.path_law.specs.Below.heap_partition.Plain.{plain_of}
+use Rattle.path_law.specs.Below.heap_partition.declared.value.Owned.{Owned}
+use Rattle.path_law.specs.Below.heap_partition.declared.value.Owned.TheVariants as owned
+use Rattle.path_law.specs.Below.thread_state.declared.value.Value.{Value}
+use Rattle.path_law.specs.Below.thread_state.declared.value.Value.TheVariants as value
+use Rattle.path_law.specs.Below.server_model.Servers.{Cluster}
+use Rattle.path_law.specs.Below.fr_store.Keys.{slot_k, temp_k}
+use Rattle.path_law.specs.Below.fr_store.Store.{Location as StoreLocation, at_key, at_object, Val, gone_v, ref_v}
+use Rattle.path_law.specs.Below.fr_plain.State.{slot_at}
+use Rattle.path_law.specs.Below.fr_sound.Seen.{Gives, owned_val}
+use Rattle.path_law.specs.Below.fr_sound.States.{RunningTyped}
+use Rattle.path_law.specs.Below.fr_code.Steps.{Place}
+use Rattle.path_law.specs.Below.fr_code.TableStates.{KnownAt}
+use Rattle.path_law.specs.Below.heap_law.Follow.{Standing}
+use Rattle.path_law.specs.Below.heap_law.OneHeap.{one_heap, plain_value, running_at}
 use Rattle.path_law.specs.HeapStore.{GoesOn}
 use Rattle.path_law.proofs.Shown.{shown_value}
 use Rattle.typed_law.proofs.Following.{HasHeap, heap_of, is_running}

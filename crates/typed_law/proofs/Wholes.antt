@@ -2,32 +2,32 @@
 use Rattle.std.proofs.Common.{◌≡◌, inl, inr, ℕ, zero, suc, ◌+◌, ◌*◌, ◌%◌, ◌/◌, ◌^◌, ◌<◌, ◌≤◌, ◌==◌, not, ◌&&◌, ◌||◌, Bool, true, false, if◌then◌else◌, List, [], ◌∷◌, ◌++◌, length, Option, Some, None, refl, sym, ap, subst, ◌∙◌, arith}
 use Rattle.std.specs.Prelude.{slice_get, nat_le, nat_lt}
 use Rattle.std.proofs.lemmas.Bool.Decides.{nat_tests}
-use Rattle.fr_base.specs.declared.label.Plain.{Plain}
-use Rattle.fr_base.specs.declared.name.MutexNo.{MutexNo}
-use Rattle.fr_base.specs.declared.name.ObjNo.{ObjNo}
-use Rattle.fr_plain.specs.Heap.{Heap, made_by, cell_at, flat}
-use Rattle.fr_plain.specs.MachineThreads.{Life, alive, over, owing, loose, ended, is_over, thread_at as plain_thread, pair_of as plain_pair, Shared}
-use Rattle.fr_plain.specs.PlainState.{running, running_in, is_over_in, two_of}
-use Rattle.fr_code.specs.Machine.{CodeThread, CodeWhole, CodeRunning}
-use Rattle.fr_code.specs.Steps.{Place}
-use Rattle.heap_partition.specs.declared.value.Cell.{Cell}
-use Rattle.heap_partition.specs.declared.value.Owned.{Owned}
-use Rattle.heap_partition.specs.declared.value.Owned.TheVariants as owned
-use Rattle.thread_state.specs.View.{is_over as is_over_phase}
-use Rattle.thread_state.specs.declared.phase.Phase.{Phase}
-use Rattle.thread_state.specs.declared.phase.Phase.TheVariants as phase
-use Rattle.server_model.specs.Servers.{Cluster}
-use Rattle.fr_typing.proofs.PlaceLemmas.{eq_cases}
-use Rattle.heap_law.specs.Names.{tot, one, other, some, Among, same_object}
-use Rattle.heap_law.specs.Things.{Thing, holds, lies, flies, counts, stands, things_of}
-use Rattle.heap_law.specs.Follow.{Standing, threads_in, thread_at, cells_in, cell_of}
-use Rattle.heap_law.specs.Sight.{Sight, sight}
-use Rattle.heap_law.specs.Sharing.{owned_mutex}
-use Rattle.heap_law.specs.Naming.{threads, named_mutexes, started_at, made_at, zeroth_thread, uncounted_thread, uncounted_mutex, zeroth_mutex, was_made, not_made}
-use Rattle.heap_law.specs.Requests.{home_of}
-use Rattle.heap_law.specs.Coherent.{IsSound}
-use Rattle.heap_law.specs.OneHeap.{first_shown, content_value, share_in, Node, mutex_n, names, owns, named_in, owner_of, any_named, in_state_by, is_in_state, object_value, mutex_state, if_there, PlainLife, ended_with, was_let_go, going_on, running_at, life_of, life_at, made_of, two_in, pair_of, is_given_thread, is_given_mutex, if_given, thread_state}
-use Rattle.heap_law.proofs.Names.{and_left, and_right, same_number, same_mutexes}
+use Rattle.path_law.specs.Below.fr_base.declared.label.Plain.{Plain}
+use Rattle.path_law.specs.Below.fr_base.declared.name.MutexNo.{MutexNo}
+use Rattle.path_law.specs.Below.fr_base.declared.name.ObjNo.{ObjNo}
+use Rattle.path_law.specs.Below.fr_plain.Heap.{Heap, made_by, cell_at, flat}
+use Rattle.path_law.specs.Below.fr_plain.MachineThreads.{Life, alive, over, owing, loose, ended, is_over, thread_at as plain_thread, pair_of as plain_pair, Shared}
+use Rattle.path_law.specs.Below.fr_plain.PlainState.{running, running_in, is_over_in, two_of}
+use Rattle.path_law.specs.Below.fr_code.Machine.{CodeThread, CodeWhole, CodeRunning}
+use Rattle.path_law.specs.Below.fr_code.Steps.{Place}
+use Rattle.path_law.specs.Below.heap_partition.declared.value.Cell.{Cell}
+use Rattle.path_law.specs.Below.heap_partition.declared.value.Owned.{Owned}
+use Rattle.path_law.specs.Below.heap_partition.declared.value.Owned.TheVariants as owned
+use Rattle.path_law.specs.Below.thread_state.View.{is_over as is_over_phase}
+use Rattle.path_law.specs.Below.thread_state.declared.phase.Phase.{Phase}
+use Rattle.path_law.specs.Below.thread_state.declared.phase.Phase.TheVariants as phase
+use Rattle.path_law.specs.Below.server_model.Servers.{Cluster}
+use Rattle.path_law.proofs.Below.fr_typing.PlaceLemmas.{eq_cases}
+use Rattle.path_law.specs.Below.heap_law.Names.{tot, one, other, some, Among, same_object}
+use Rattle.path_law.specs.Below.heap_law.Things.{Thing, holds, lies, flies, counts, stands, things_of}
+use Rattle.path_law.specs.Below.heap_law.Follow.{Standing, threads_in, thread_at, cells_in, cell_of}
+use Rattle.path_law.specs.Below.heap_law.Sight.{Sight, sight}
+use Rattle.path_law.specs.Below.heap_law.Sharing.{owned_mutex}
+use Rattle.path_law.specs.Below.heap_law.Naming.{threads, named_mutexes, started_at, made_at, zeroth_thread, uncounted_thread, uncounted_mutex, zeroth_mutex, was_made, not_made}
+use Rattle.path_law.specs.Below.heap_law.Requests.{home_of}
+use Rattle.path_law.specs.Below.heap_law.Coherent.{IsSound}
+use Rattle.path_law.specs.Below.heap_law.OneHeap.{first_shown, content_value, share_in, Node, mutex_n, names, owns, named_in, owner_of, any_named, in_state_by, is_in_state, object_value, mutex_state, if_there, PlainLife, ended_with, was_let_go, going_on, running_at, life_of, life_at, made_of, two_in, pair_of, is_given_thread, is_given_mutex, if_given, thread_state}
+use Rattle.path_law.proofs.Below.heap_law.Names.{and_left, and_right, same_number, same_mutexes}
 use Rattle.path_law.proofs.Sole.{some_is}
 use Rattle.path_law.proofs.Shown.{none_else, object_shown}
 use Rattle.path_law.proofs.Contained.{among_thread}

@@ -2,31 +2,31 @@
 -- nor what a value leaves that moved away from an owned value that is nothing, nor the place of a reference's holder, nor which instruction a thread that
 -- is over stands at.
 use Rattle.std.specs.Prelude.{◌≡◌, ℕ, ◌+◌, ◌==◌, Bool, true, false, is_some, List, [], ◌∷◌, reverse, Some}
-use Rattle.fr_base.specs.declared.label.Plain.{Plain}
-use Rattle.fr_base.specs.declared.name.ObjNo.{ObjNo}
-use Rattle.fr_typing.specs.Kinds.{Owned as OwnedType, Kind, shared, mutable, view, Piece, whole, gone, boxed}
-use Rattle.fr_typing.specs.Places.{Slot}
-use Rattle.fr_typing.specs.Checks.{is_int}
-use Rattle.fr_store.specs.Keys.{Key, slot_k, temp_k}
-use Rattle.fr_store.specs.Typed.{Exact, owns, refers, KeyTypes}
-use Rattle.fr_sound.specs.States.{Typing, owned_part}
-use Rattle.fr_code.specs.CodeTypes.{Entry, Table}
-use Rattle.fr_code.specs.CodeTable.{IsTable}
-use Rattle.fr_code.specs.TableStates.{CodeStateTypes}
-use Rattle.thread_state.specs.View.{ThreadState, is_over}
-use Rattle.thread_state.specs.declared.value.Value.{Value}
-use Rattle.thread_state.specs.declared.value.Value.TheVariants as value
-use Rattle.server_model.specs.Servers.{Cluster}
-use Rattle.heap_law.specs.Names.{tot, other, if_so}
-use Rattle.heap_law.specs.Things.{things_of}
-use Rattle.heap_law.specs.Balances.{AtMostOne}
-use Rattle.heap_law.specs.Weights.{is_thread}
-use Rattle.heap_law.specs.Coherent.{Holds, names_counted, counts_from_one, over_are_bare}
-use Rattle.heap_law.specs.Sight.{Sight, sight}
-use Rattle.heap_law.specs.Walking.{sum_threads}
-use Rattle.heap_law.specs.OneHeap.{one_heap}
-use Rattle.type_law.specs.Names.{NameTypes, names_of}
-use Rattle.type_law.specs.ClusterTypes.{entry_wrong, at_entries, forms_wrong, locked_wrong, leads_wrong, gives_other, ends_wrong, is_held_at, Types, misfits, views_wrong}
+use Rattle.path_law.specs.Below.fr_base.declared.label.Plain.{Plain}
+use Rattle.path_law.specs.Below.fr_base.declared.name.ObjNo.{ObjNo}
+use Rattle.path_law.specs.Below.fr_typing.Kinds.{Owned as OwnedType, Kind, shared, mutable, view, Piece, whole, gone, boxed}
+use Rattle.path_law.specs.Below.fr_typing.Places.{Slot}
+use Rattle.path_law.specs.Below.fr_typing.Checks.{is_int}
+use Rattle.path_law.specs.Below.fr_store.Keys.{Key, slot_k, temp_k}
+use Rattle.path_law.specs.Below.fr_store.Typed.{Exact, owns, refers, KeyTypes}
+use Rattle.path_law.specs.Below.fr_sound.States.{Typing, owned_part}
+use Rattle.path_law.specs.Below.fr_code.CodeTypes.{Entry, Table}
+use Rattle.path_law.specs.Below.fr_code.CodeTable.{IsTable}
+use Rattle.path_law.specs.Below.fr_code.TableStates.{CodeStateTypes}
+use Rattle.path_law.specs.Below.thread_state.View.{ThreadState, is_over}
+use Rattle.path_law.specs.Below.thread_state.declared.value.Value.{Value}
+use Rattle.path_law.specs.Below.thread_state.declared.value.Value.TheVariants as value
+use Rattle.path_law.specs.Below.server_model.Servers.{Cluster}
+use Rattle.path_law.specs.Below.heap_law.Names.{tot, other, if_so}
+use Rattle.path_law.specs.Below.heap_law.Things.{things_of}
+use Rattle.path_law.specs.Below.heap_law.Balances.{AtMostOne}
+use Rattle.path_law.specs.Below.heap_law.Weights.{is_thread}
+use Rattle.path_law.specs.Below.heap_law.Coherent.{Holds, names_counted, counts_from_one, over_are_bare}
+use Rattle.path_law.specs.Below.heap_law.Sight.{Sight, sight}
+use Rattle.path_law.specs.Below.heap_law.Walking.{sum_threads}
+use Rattle.path_law.specs.Below.heap_law.OneHeap.{one_heap}
+use Rattle.path_law.specs.Below.type_law.Names.{NameTypes, names_of}
+use Rattle.path_law.specs.Below.type_law.ClusterTypes.{entry_wrong, at_entries, forms_wrong, locked_wrong, leads_wrong, gives_other, ends_wrong, is_held_at, Types, misfits, views_wrong}
 
 -- SORTS
 

@@ -1,9 +1,9 @@
 -- THE ONE HEAP AS A STATE OF THE PLAIN MACHINE (this project's rule).
-use Rattle.fr_plain.specs.PlainState.{SameState, plain_state}
-use Rattle.fr_code.specs.Machine.{CodeWhole}
-use Rattle.server_model.specs.Servers.{Cluster}
-use Rattle.heap_law.specs.Coherent.{IsSound}
-use Rattle.heap_law.specs.OneHeap.{one_heap}
+use Rattle.path_law.specs.Below.fr_plain.PlainState.{SameState, plain_state}
+use Rattle.path_law.specs.Below.fr_code.Machine.{CodeWhole}
+use Rattle.path_law.specs.Below.server_model.Servers.{Cluster}
+use Rattle.path_law.specs.Below.heap_law.Coherent.{IsSound}
+use Rattle.path_law.specs.Below.heap_law.OneHeap.{one_heap}
 
 -- a state of the plain machine shows the cluster's one heap
 pub record IsShown (k : Cluster) : Type 0 where

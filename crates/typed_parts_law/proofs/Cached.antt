@@ -2,13 +2,13 @@
 use Rattle.std.proofs.Common.{◌≡◌, ◌≤◌, ℕ, zero, suc, ◌+◌, ◌-◌, ◌==◌, Bool, true, false, if◌then◌else◌, List, [], ◌∷◌, ◌++◌, Some, None, refl, sym, ap, subst, ◌∙◌, arith}
 use Rattle.std.proofs.lemmas.Bool.{eq-eqb}
 use Rattle.std.proofs.lemmas.Bool.Decides.{nat_tests}
-use Rattle.fr_typing.proofs.PlaceLemmas.{eq_cases}
-use Rattle.heap_partition.specs.declared.value.Cell.{Cell}
-use Rattle.read_cache.specs.Cache.{Copy, users, with_users, fill, can_unpin, unpin, without_copy, can_evict, evict}
-use Rattle.migration.specs.Packing.{unpin_all}
-use Rattle.heap_law.specs.Names.{tot, one, other}
-use Rattle.heap_law.specs.Naming.{same_word, cached_twice}
-use Rattle.heap_law.proofs.Sums.{tot-append}
+use Rattle.bound_law.proofs.Below.fr_typing.PlaceLemmas.{eq_cases}
+use Rattle.bound_law.specs.Below.heap_partition.declared.value.Cell.{Cell}
+use Rattle.bound_law.specs.Below.read_cache.Cache.{Copy, users, with_users, fill, can_unpin, unpin, without_copy, can_evict, evict}
+use Rattle.bound_law.specs.Below.migration.Packing.{unpin_all}
+use Rattle.bound_law.specs.Below.heap_law.Names.{tot, one, other}
+use Rattle.bound_law.specs.Below.heap_law.Naming.{same_word, cached_twice}
+use Rattle.bound_law.proofs.Below.heap_law.Sums.{tot-append}
 
 abbrev pub Once : List Copy → Type 0
 Once cs = (v : ℕ) → tot (same_word v) cs ≤ 1

@@ -2,27 +2,27 @@
 use Rattle.std.proofs.Common.{◌≡◌, ℕ, ◌==◌, List, [], ◌∷◌, length, take, drop, Option, Some, None, refl, sym, ap, subst, ◌∙◌, arith}
 use Rattle.std.specs.Prelude.{option_map}
 use Rattle.std.specs.List.{AllByRecursion}
-use Rattle.fr_typing.proofs.PlaceLemmas.{eq_cases}
-use Rattle.journal.specs.View.{EntryView}
-use Rattle.server_model.specs.declared.event.Event.{Event}
-use Rattle.server_model.specs.Servers.{Server, Cluster, server_at}
-use Rattle.server_model.specs.Work.{then_some}
-use Rattle.server_model.specs.Events.{enabled, does}
-use Rattle.server_model.specs.Clusters.{with_server, with_outbox, hand_over_newer, done_at, apply}
-use Rattle.heap_law.specs.Names.{tot, one}
-use Rattle.heap_law.specs.Things.{Thing, partition_things, servers_things, things_of}
-use Rattle.heap_law.specs.Follow.{threads_in}
-use Rattle.heap_law.specs.Sight.{sight}
-use Rattle.heap_law.specs.Naming.{free_colours, is_retired, servers_wrong, pinned_parcel}
-use Rattle.heap_law.specs.Coherent.{IsSound, Holds, parts_are_typed}
-use Rattle.event_law.specs.Laws.{Gives, FewEvents, GoTo}
-use Rattle.event_law.proofs.Results.{over_gives, both_give, test_gives}
-use Rattle.event_law.proofs.Events.{others_of, tot-server}
-use Rattle.event_law.proofs.Applied.{go_with}
-use Rattle.event_law.proofs.Handing.{hand_over_newer_law}
-use Rattle.event_law.proofs.Sending.{each_event_sends}
-use Rattle.local_law.specs.Laws.{EachEventKeeps}
-use Rattle.local_law.proofs.Rests.{rests_change}
+use Rattle.bound_law.proofs.Below.fr_typing.PlaceLemmas.{eq_cases}
+use Rattle.bound_law.specs.Below.journal.View.{EntryView}
+use Rattle.bound_law.specs.Below.server_model.declared.event.Event.{Event}
+use Rattle.bound_law.specs.Below.server_model.Servers.{Server, Cluster, server_at}
+use Rattle.bound_law.specs.Below.server_model.Work.{then_some}
+use Rattle.bound_law.specs.Below.server_model.Events.{enabled, does}
+use Rattle.bound_law.specs.Below.server_model.Clusters.{with_server, with_outbox, hand_over_newer, done_at, apply}
+use Rattle.bound_law.specs.Below.heap_law.Names.{tot, one}
+use Rattle.bound_law.specs.Below.heap_law.Things.{Thing, partition_things, servers_things, things_of}
+use Rattle.bound_law.specs.Below.heap_law.Follow.{threads_in}
+use Rattle.bound_law.specs.Below.heap_law.Sight.{sight}
+use Rattle.bound_law.specs.Below.heap_law.Naming.{free_colours, is_retired, servers_wrong, pinned_parcel}
+use Rattle.bound_law.specs.Below.heap_law.Coherent.{IsSound, Holds, parts_are_typed}
+use Rattle.bound_law.specs.Below.event_law.Laws.{Gives, FewEvents, GoTo}
+use Rattle.bound_law.proofs.Below.event_law.Results.{over_gives, both_give, test_gives}
+use Rattle.bound_law.proofs.Below.event_law.Events.{others_of, tot-server}
+use Rattle.bound_law.proofs.Below.event_law.Applied.{go_with}
+use Rattle.bound_law.proofs.Below.event_law.Handing.{hand_over_newer_law}
+use Rattle.bound_law.proofs.Below.event_law.Sending.{each_event_sends}
+use Rattle.bound_law.specs.Below.local_law.Laws.{EachEventKeeps}
+use Rattle.bound_law.proofs.Below.local_law.Rests.{rests_change}
 use Rattle.typed_parts_law.proofs.Places.{Coloured}
 use Rattle.typed_parts_law.proofs.Cached.{once_to}
 use Rattle.typed_parts_law.proofs.Typed.{Typed, typed}

@@ -1,18 +1,18 @@
 -- What calls leave of the lists of mutexes, tasks and threads: the same numbers, some less, or one more.
 use Rattle.std.proofs.Common.{◌≡◌, ◌<◌, ℕ, ◌+◌, ◌-◌, ◌^◌, ◌==◌, ◌&&◌, Bool, true, false, nat_lt, if◌then◌else◌, List, [], ◌∷◌, ◌++◌, Option, Some, None, refl, ap, arith}
 use Rattle.std.proofs.lemmas.Bool.Decides.{nat_tests}
-use Rattle.fr_base.specs.declared.name.MutexNo.{MutexNo}
-use Rattle.fr_base.specs.Names.{same_mutex}
-use Rattle.heap_partition.specs.declared.value.Owned.{Owned}
-use Rattle.mutex_home.specs.Mutexes.{Mutex, Mutexes, mutex_in, with_mutex, without_mutex, put_mutex, end_mutex, asked_of, asked_in, ask, back_to, back_out, back_in, give_back, more_in, more, last_less, less_of, less_in, less}
-use Rattle.mutex_home.specs.declared.answers.Back.TheVariants.{Kept, Ended}
-use Rattle.join_home.specs.Tasks.{Task, TaskState, going, let_go, kept, asked, in_pair, state_of, with_state, without_task, over_in, pair_ended, ended_from, ended, asked_from, let_go_from, let_go_of}
-use Rattle.join_home.specs.Tasks as tasks
-use Rattle.thread_state.specs.View.{ThreadState}
-use Rattle.server_model.specs.Work.{thread_in, set_thread, without_thread, with_thread}
-use Rattle.heap_law.specs.Naming.{numbers_of}
-use Rattle.event_law.specs.Laws.{Gives}
-use Rattle.event_law.proofs.Results.{test_gives}
+use Rattle.bound_law.specs.Below.fr_base.declared.name.MutexNo.{MutexNo}
+use Rattle.bound_law.specs.Below.fr_base.Names.{same_mutex}
+use Rattle.bound_law.specs.Below.heap_partition.declared.value.Owned.{Owned}
+use Rattle.bound_law.specs.Below.mutex_home.Mutexes.{Mutex, Mutexes, mutex_in, with_mutex, without_mutex, put_mutex, end_mutex, asked_of, asked_in, ask, back_to, back_out, back_in, give_back, more_in, more, last_less, less_of, less_in, less}
+use Rattle.bound_law.specs.Below.mutex_home.declared.answers.Back.TheVariants.{Kept, Ended}
+use Rattle.bound_law.specs.Below.join_home.Tasks.{Task, TaskState, going, let_go, kept, asked, in_pair, state_of, with_state, without_task, over_in, pair_ended, ended_from, ended, asked_from, let_go_from, let_go_of}
+use Rattle.bound_law.specs.Below.join_home.Tasks as tasks
+use Rattle.bound_law.specs.Below.thread_state.View.{ThreadState}
+use Rattle.bound_law.specs.Below.server_model.Work.{thread_in, set_thread, without_thread, with_thread}
+use Rattle.bound_law.specs.Below.heap_law.Naming.{numbers_of}
+use Rattle.bound_law.specs.Below.event_law.Laws.{Gives}
+use Rattle.bound_law.proofs.Below.event_law.Results.{test_gives}
 use Rattle.typed_parts_law.proofs.Rising.{less_is, Less, less_none, less_keep, less_skip, less_self, Rises, RiseFrom}
 
 some_gone : {A : Type 0} {x : A} → Some x ≡ None → ⊥

@@ -1,30 +1,30 @@
 -- A parcel's references keep nothing in use, whatever event is done: what starts has captured its slots, and what leaves is packed.
 use Rattle.std.proofs.Common.{◌≡◌, ℕ, ◌+◌, Bool, true, false, List, [], ◌∷◌, ◌++◌, Option, Some, None, refl, subst, arith}
 use Rattle.std.specs.Prelude.{slice_get, map}
-use Rattle.heap_partition.specs.declared.value.Owned.{Owned}
-use Rattle.migration.specs.Packing.{unpinned}
-use Rattle.thread_state.specs.View.{is_pinned}
-use Rattle.thread_state.specs.declared.value.Value.{Value}
-use Rattle.thread_state.specs.declared.value.Value.TheVariants as value
-use Rattle.journal.specs.View.{EntryView}
-use Rattle.server_model.specs.declared.event.Event.{Event}
-use Rattle.server_model.specs.Servers.{Cluster}
-use Rattle.server_model.specs.Places.{owns_nothing, second_of}
-use Rattle.server_model.specs.Objects.{deliver_fetched, deliver_moved}
-use Rattle.server_model.specs.Start.{captured, left_after, capture_from}
-use Rattle.server_model.specs.Events.{step}
-use Rattle.server_model.specs.Clusters.{apply}
-use Rattle.heap_law.specs.Names.{tot, one}
-use Rattle.heap_law.specs.Things.{things_of}
-use Rattle.heap_law.specs.Follow.{threads_in}
-use Rattle.heap_law.specs.Sight.{sight}
-use Rattle.heap_law.specs.Walking.{sum_threads}
-use Rattle.heap_law.specs.Naming.{pins, servers_wrong, pinned_parcel}
-use Rattle.heap_law.specs.Coherent.{IsSound}
-use Rattle.heap_law.proofs.Sums.{tot-append}
-use Rattle.event_law.specs.Laws.{Gives, FewEvents}
-use Rattle.event_law.proofs.Results.{then_gives}
-use Rattle.local_law.proofs.Mail.{AreCaptured}
+use Rattle.bound_law.specs.Below.heap_partition.declared.value.Owned.{Owned}
+use Rattle.bound_law.specs.Below.migration.Packing.{unpinned}
+use Rattle.bound_law.specs.Below.thread_state.View.{is_pinned}
+use Rattle.bound_law.specs.Below.thread_state.declared.value.Value.{Value}
+use Rattle.bound_law.specs.Below.thread_state.declared.value.Value.TheVariants as value
+use Rattle.bound_law.specs.Below.journal.View.{EntryView}
+use Rattle.bound_law.specs.Below.server_model.declared.event.Event.{Event}
+use Rattle.bound_law.specs.Below.server_model.Servers.{Cluster}
+use Rattle.bound_law.specs.Below.server_model.Places.{owns_nothing, second_of}
+use Rattle.bound_law.specs.Below.server_model.Objects.{deliver_fetched, deliver_moved}
+use Rattle.bound_law.specs.Below.server_model.Start.{captured, left_after, capture_from}
+use Rattle.bound_law.specs.Below.server_model.Events.{step}
+use Rattle.bound_law.specs.Below.server_model.Clusters.{apply}
+use Rattle.bound_law.specs.Below.heap_law.Names.{tot, one}
+use Rattle.bound_law.specs.Below.heap_law.Things.{things_of}
+use Rattle.bound_law.specs.Below.heap_law.Follow.{threads_in}
+use Rattle.bound_law.specs.Below.heap_law.Sight.{sight}
+use Rattle.bound_law.specs.Below.heap_law.Walking.{sum_threads}
+use Rattle.bound_law.specs.Below.heap_law.Naming.{pins, servers_wrong, pinned_parcel}
+use Rattle.bound_law.specs.Below.heap_law.Coherent.{IsSound}
+use Rattle.bound_law.proofs.Below.heap_law.Sums.{tot-append}
+use Rattle.bound_law.specs.Below.event_law.Laws.{Gives, FewEvents}
+use Rattle.bound_law.proofs.Below.event_law.Results.{then_gives}
+use Rattle.bound_law.proofs.Below.local_law.Mail.{AreCaptured}
 use Rattle.bound_law.proofs.Turns.{ThreadsTurn, threads_turn}
 
 -- WHAT IS CAPTURED

@@ -4,26 +4,26 @@ use Rattle.std.specs.Prelude.{slice_get, slice_set, is_some}
 use Rattle.std.specs.List.{AllByRecursion}
 use Rattle.std.proofs.lemmas.Bool.{eq-eqb}
 use Rattle.std.proofs.lemmas.Bool.Decides.{nat_tests}
-use Rattle.fr_typing.proofs.PlaceLemmas.{eq_cases}
-use Rattle.fr_base.specs.declared.name.ObjNo.{ObjNo}
-use Rattle.fr_base.specs.Names.{same_object}
-use Rattle.global_addr.specs.Words.{colour_of, address_of, server_of}
-use Rattle.heap_partition.specs.declared.value.Cell.{Cell}
-use Rattle.heap_partition.specs.declared.value.Owned.{Owned}
-use Rattle.colour_retire.specs.Colours.{picked, rest_of}
-use Rattle.owner_box.specs.View.{PartitionState}
-use Rattle.owner_box.specs.Partition.{cell_of, with_value, stored, put_cell, made, freed, made_again, renewed}
-use Rattle.server_model.specs.Work.{leads_here, look, look_object, then_some}
-use Rattle.server_model.specs.NewWords.{can_grow, is_last}
-use Rattle.heap_law.specs.Names.{tot, one}
-use Rattle.heap_law.specs.Things.{lies, vacant, retired, things_at, cell_things, free_things, partition_things}
-use Rattle.heap_law.specs.Weights.{states}
-use Rattle.heap_law.specs.Naming.{is_retired}
-use Rattle.heap_law.proofs.Sums.{tot-append}
-use Rattle.event_law.proofs.Trades.{Trade}
-use Rattle.event_law.proofs.Cells.{left_by, looked, vacates, self_state, not_free, frees as cell_frees}
-use Rattle.event_law.proofs.Objects.{length_set, taken_place, makes as cell_makes}
-use Rattle.event_law.proofs.Values.{stores as cell_stores}
+use Rattle.bound_law.proofs.Below.fr_typing.PlaceLemmas.{eq_cases}
+use Rattle.bound_law.specs.Below.fr_base.declared.name.ObjNo.{ObjNo}
+use Rattle.bound_law.specs.Below.fr_base.Names.{same_object}
+use Rattle.bound_law.specs.Below.global_addr.Words.{colour_of, address_of, server_of}
+use Rattle.bound_law.specs.Below.heap_partition.declared.value.Cell.{Cell}
+use Rattle.bound_law.specs.Below.heap_partition.declared.value.Owned.{Owned}
+use Rattle.bound_law.specs.Below.colour_retire.Colours.{picked, rest_of}
+use Rattle.bound_law.specs.Below.owner_box.View.{PartitionState}
+use Rattle.bound_law.specs.Below.owner_box.Partition.{cell_of, with_value, stored, put_cell, made, freed, made_again, renewed}
+use Rattle.bound_law.specs.Below.server_model.Work.{leads_here, look, look_object, then_some}
+use Rattle.bound_law.specs.Below.server_model.NewWords.{can_grow, is_last}
+use Rattle.bound_law.specs.Below.heap_law.Names.{tot, one}
+use Rattle.bound_law.specs.Below.heap_law.Things.{lies, vacant, retired, things_at, cell_things, free_things, partition_things}
+use Rattle.bound_law.specs.Below.heap_law.Weights.{states}
+use Rattle.bound_law.specs.Below.heap_law.Naming.{is_retired}
+use Rattle.bound_law.proofs.Below.heap_law.Sums.{tot-append}
+use Rattle.bound_law.proofs.Below.event_law.Trades.{Trade}
+use Rattle.bound_law.proofs.Below.event_law.Cells.{left_by, looked, vacates, self_state, not_free, frees as cell_frees}
+use Rattle.bound_law.proofs.Below.event_law.Objects.{length_set, taken_place, makes as cell_makes}
+use Rattle.bound_law.proofs.Below.event_law.Values.{stores as cell_stores}
 
 abbrev pub Coloured : ℕ × ℕ → Type 0
 Coloured x = (x.1 == 0) ≡ false

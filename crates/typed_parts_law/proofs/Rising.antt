@@ -2,8 +2,8 @@
 use Rattle.std.proofs.Common.{◌≡◌, ◌<◌, ◌≤◌, ℕ, Bool, true, false, nat_lt, List, [], ◌∷◌, ◌++◌, refl, ap, ◌∙◌, arith}
 use Rattle.std.specs.List.{AllByRecursion}
 use Rattle.std.proofs.lemmas.Bool.Decides.{nat_tests}
-use Rattle.heap_law.specs.Names.{other}
-use Rattle.heap_law.specs.Naming.{rising_from, rising, numbers_of}
+use Rattle.bound_law.specs.Below.heap_law.Names.{other}
+use Rattle.bound_law.specs.Below.heap_law.Naming.{rising_from, rising, numbers_of}
 
 -- one number below another, as the sentence counts it
 pub is_less : (m n : ℕ) → other (nat_lt m n) ≡ 0 → m < n

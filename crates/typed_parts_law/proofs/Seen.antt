@@ -1,21 +1,21 @@
 -- What is retired at a server, as a sum over a cluster: nothing elsewhere has an address of it.
 use Rattle.std.proofs.Common.{◌≡◌, ◌≤◌, ℕ, ◌+◌, ◌==◌, ◌&&◌, Bool, true, false, nat_lt, List, [], ◌∷◌, length, Some, refl, ap, arith}
 use Rattle.std.proofs.lemmas.Bool.{eq-eqb}
-use Rattle.fr_typing.proofs.PlaceLemmas.{eq_cases}
-use Rattle.mutex_home.specs.Mutexes.{Mutex}
-use Rattle.server_msgs.specs.declared.message.Message.{Message}
-use Rattle.server_msgs.specs.declared.message.Message.TheVariants as message
-use Rattle.server_model.specs.Servers.{Server, server_at}
-use Rattle.heap_law.specs.Names.{tot, one}
-use Rattle.heap_law.specs.Things.{Thing, counts, things_at, content_things, queue_things, mutex_things, task_things, standing_things, waiting_things, leaving_things, message_things, partition_things, server_things, servers_things}
-use Rattle.heap_law.specs.Weights.{states, below}
-use Rattle.heap_law.specs.Naming.{is_retired}
-use Rattle.heap_law.proofs.Sums.{tot-append, server_parts}
-use Rattle.event_law.specs.Sums.{is_server}
-use Rattle.event_law.proofs.Boxes.{tot_le}
-use Rattle.event_law.proofs.Unseen.{Unseen, none_at, thread_alone, content_none, result_none, partition_none, copies_none}
-use Rattle.event_law.proofs.Events.{others_of, tot-server}
-use Rattle.value_law.proofs.Counts.{Plain, counts_alone}
+use Rattle.bound_law.proofs.Below.fr_typing.PlaceLemmas.{eq_cases}
+use Rattle.bound_law.specs.Below.mutex_home.Mutexes.{Mutex}
+use Rattle.bound_law.specs.Below.server_msgs.declared.message.Message.{Message}
+use Rattle.bound_law.specs.Below.server_msgs.declared.message.Message.TheVariants as message
+use Rattle.bound_law.specs.Below.server_model.Servers.{Server, server_at}
+use Rattle.bound_law.specs.Below.heap_law.Names.{tot, one}
+use Rattle.bound_law.specs.Below.heap_law.Things.{Thing, counts, things_at, content_things, queue_things, mutex_things, task_things, standing_things, waiting_things, leaving_things, message_things, partition_things, server_things, servers_things}
+use Rattle.bound_law.specs.Below.heap_law.Weights.{states, below}
+use Rattle.bound_law.specs.Below.heap_law.Naming.{is_retired}
+use Rattle.bound_law.proofs.Below.heap_law.Sums.{tot-append, server_parts}
+use Rattle.bound_law.specs.Below.event_law.Sums.{is_server}
+use Rattle.bound_law.proofs.Below.event_law.Boxes.{tot_le}
+use Rattle.bound_law.proofs.Below.event_law.Unseen.{Unseen, none_at, thread_alone, content_none, result_none, partition_none, copies_none}
+use Rattle.bound_law.proofs.Below.event_law.Events.{others_of, tot-server}
+use Rattle.bound_law.proofs.Below.value_law.Counts.{Plain, counts_alone}
 
 -- the next number is another one
 later_none : (m : ℕ) → one (m + 1 == m) ≡ 0

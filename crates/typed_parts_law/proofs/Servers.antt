@@ -2,18 +2,18 @@
 use Rattle.std.proofs.Common.{◌≡◌, ◌<◌, ℕ, ◌+◌, ◌==◌, Bool, true, false, if◌then◌else◌, List, [], ◌∷◌, Some, refl, sym, ap, subst, ◌∙◌, arith}
 use Rattle.std.proofs.lemmas.Bool.{eq-eqb}
 use Rattle.std.proofs.lemmas.Bool.Decides.{nat_tests}
-use Rattle.fr_typing.proofs.PlaceLemmas.{eq_cases}
-use Rattle.owner_box.specs.View.{PartitionState}
-use Rattle.read_cache.specs.Cache.{Copy}
-use Rattle.mutex_home.specs.Mutexes.{Mutexes}
-use Rattle.join_home.specs.Tasks.{Task}
-use Rattle.thread_state.specs.View.{ThreadState}
-use Rattle.server_model.specs.Servers.{Sent, Server, server_at}
-use Rattle.server_model.specs.Clusters.{with_server, with_outbox, accept_at, accept_all}
-use Rattle.heap_law.specs.Names.{tot, other}
-use Rattle.heap_law.specs.Sight.{Sight}
-use Rattle.heap_law.specs.Placing.{sum_over}
-use Rattle.heap_law.specs.Naming.{free_colours, is_retired, cached_twice, server_wrong, servers_wrong}
+use Rattle.bound_law.proofs.Below.fr_typing.PlaceLemmas.{eq_cases}
+use Rattle.bound_law.specs.Below.owner_box.View.{PartitionState}
+use Rattle.bound_law.specs.Below.read_cache.Cache.{Copy}
+use Rattle.bound_law.specs.Below.mutex_home.Mutexes.{Mutexes}
+use Rattle.bound_law.specs.Below.join_home.Tasks.{Task}
+use Rattle.bound_law.specs.Below.thread_state.View.{ThreadState}
+use Rattle.bound_law.specs.Below.server_model.Servers.{Sent, Server, server_at}
+use Rattle.bound_law.specs.Below.server_model.Clusters.{with_server, with_outbox, accept_at, accept_all}
+use Rattle.bound_law.specs.Below.heap_law.Names.{tot, other}
+use Rattle.bound_law.specs.Below.heap_law.Sight.{Sight}
+use Rattle.bound_law.specs.Below.heap_law.Placing.{sum_over}
+use Rattle.bound_law.specs.Below.heap_law.Naming.{free_colours, is_retired, cached_twice, server_wrong, servers_wrong}
 use Rattle.typed_parts_law.proofs.Rising.{Rises}
 use Rattle.typed_parts_law.proofs.Lists.{count_of, name_of, number_of}
 
@@ -126,7 +126,7 @@ module _ (colours : ℕ) (retired : ℕ → ℕ) (all : ℕ) where
   accept_typed i [] x g = g
   accept_typed i (s ∷ ss) x g = by (s.rest.number == x.target) (accept_typed (i + 1) ss x g.1)
     where
-      by : (b : Bool) → AllTyped colours retired all (i + 1) (accept_at ss x) → AllTyped colours retired all i (if b then Rattle.server_model.specs.Clusters.accept x.message s ∷ ss else s ∷ accept_at ss x)
+      by : (b : Bool) → AllTyped colours retired all (i + 1) (accept_at ss x) → AllTyped colours retired all i (if b then Rattle.bound_law.specs.Below.server_model.Clusters.accept x.message s ∷ ss else s ∷ accept_at ss x)
       by true h = (g.0, g.1)
       by false h = (g.0, h)
 

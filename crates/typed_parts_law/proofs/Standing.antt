@@ -1,27 +1,27 @@
 -- Threads stand by rising number, whatever event is done.
 use Rattle.std.proofs.Common.{◌≡◌, ℕ, true, List, Option, Some, None, refl}
 use Rattle.std.specs.Prelude.{slice_get, option_map}
-use Rattle.fr_base.specs.declared.instruction.Instr.{Instr}
-use Rattle.fr_base.specs.declared.settings.Options.{Options}
-use Rattle.heap_partition.specs.declared.value.Owned.{Owned}
-use Rattle.join_home.specs.Tasks.{Task, ended}
-use Rattle.join_home.specs.declared.answers.EndedAs.{EndedAs}
-use Rattle.join_home.specs.declared.answers.EndedAs.TheVariants as over
-use Rattle.migration.specs.Packing.{pack_thread}
-use Rattle.thread_state.specs.View.{ThreadState}
-use Rattle.server_msgs.specs.declared.message.Message.{Message}
-use Rattle.server_msgs.specs.declared.message.Message.TheVariants as message
-use Rattle.journal.specs.View.{EntryView}
-use Rattle.server_model.specs.declared.event.What.{What}
-use Rattle.server_model.specs.declared.event.What.TheVariants.{Step, Deliver, Evict, Migrate}
-use Rattle.server_model.specs.Servers.{Server}
-use Rattle.server_model.specs.Work.{Work, Hand, Site, thread_in, set_thread, at_thread, beside_threads, with_tasks}
-use Rattle.server_model.specs.Objects.{deliver_fetch, deliver_fetched, deliver_move, deliver_moved, deliver_drop}
-use Rattle.server_model.specs.Sharing.{deliver_lock, deliver_granted, deliver_unlock, deliver_dup, deliver_dupped}
-use Rattle.server_model.specs.Joining.{stand, arrive, deliver_join, deliver_joined, pair_over, end_answer, deliver_finished}
-use Rattle.server_model.specs.Events.{begin_at, left_by, received, release, deliver_message, evict_copy, stepped, does}
-use Rattle.event_law.specs.Laws.{Gives}
-use Rattle.event_law.proofs.Results.{then_gives, map_gives, over_gives}
+use Rattle.bound_law.specs.Below.fr_base.declared.instruction.Instr.{Instr}
+use Rattle.bound_law.specs.Below.fr_base.declared.settings.Options.{Options}
+use Rattle.bound_law.specs.Below.heap_partition.declared.value.Owned.{Owned}
+use Rattle.bound_law.specs.Below.join_home.Tasks.{Task, ended}
+use Rattle.bound_law.specs.Below.join_home.declared.answers.EndedAs.{EndedAs}
+use Rattle.bound_law.specs.Below.join_home.declared.answers.EndedAs.TheVariants as over
+use Rattle.bound_law.specs.Below.migration.Packing.{pack_thread}
+use Rattle.bound_law.specs.Below.thread_state.View.{ThreadState}
+use Rattle.bound_law.specs.Below.server_msgs.declared.message.Message.{Message}
+use Rattle.bound_law.specs.Below.server_msgs.declared.message.Message.TheVariants as message
+use Rattle.bound_law.specs.Below.journal.View.{EntryView}
+use Rattle.bound_law.specs.Below.server_model.declared.event.What.{What}
+use Rattle.bound_law.specs.Below.server_model.declared.event.What.TheVariants.{Step, Deliver, Evict, Migrate}
+use Rattle.bound_law.specs.Below.server_model.Servers.{Server}
+use Rattle.bound_law.specs.Below.server_model.Work.{Work, Hand, Site, thread_in, set_thread, at_thread, beside_threads, with_tasks}
+use Rattle.bound_law.specs.Below.server_model.Objects.{deliver_fetch, deliver_fetched, deliver_move, deliver_moved, deliver_drop}
+use Rattle.bound_law.specs.Below.server_model.Sharing.{deliver_lock, deliver_granted, deliver_unlock, deliver_dup, deliver_dupped}
+use Rattle.bound_law.specs.Below.server_model.Joining.{stand, arrive, deliver_join, deliver_joined, pair_over, end_answer, deliver_finished}
+use Rattle.bound_law.specs.Below.server_model.Events.{begin_at, left_by, received, release, deliver_message, evict_copy, stepped, does}
+use Rattle.bound_law.specs.Below.event_law.Laws.{Gives}
+use Rattle.bound_law.proofs.Below.event_law.Results.{then_gives, map_gives, over_gives}
 use Rattle.typed_parts_law.proofs.Rising.{Rises, fewer_rise, same_rise}
 use Rattle.typed_parts_law.proofs.Lists.{number_of, threads_stay, thread_less, comes_rise}
 

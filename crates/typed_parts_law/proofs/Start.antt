@@ -2,26 +2,26 @@
 use Rattle.std.proofs.Common.{◌≡◌, ◌≤◌, ℕ, zero, suc, ◌+◌, ◌*◌, ◌^◌, ◌==◌, ◌&&◌, nat_le, Bool, true, false, List, [], ◌∷◌, Some, refl, sym, subst, ◌∙◌, arith}
 use Rattle.std.specs.List.{AllByRecursion}
 use Rattle.std.proofs.lemmas.Bool.Decides.{nat_tests}
-use Rattle.mutex_home.specs.Mutexes.{Mutex}
-use Rattle.join_home.specs.Tasks.{Task}
-use Rattle.server_model.specs.Servers.{Server, Cluster, server_at}
-use Rattle.heap_law.specs.Names.{tot, one, other, some}
-use Rattle.heap_law.specs.Things.{Thing, counts, mutex_things, task_things, servers_things, things_of}
-use Rattle.heap_law.specs.Sight.{sight}
-use Rattle.heap_law.specs.Sharing.{elsewhere, noted_away}
-use Rattle.heap_law.specs.Requests.{home_of}
-use Rattle.heap_law.specs.Walking.{sum_threads}
-use Rattle.heap_law.specs.Naming.{threads, named_mutexes, started_at, made_at, uncounted_thread, uncounted_mutex, free_colours, is_retired, servers_wrong, pinned_parcel}
-use Rattle.heap_law.specs.Naming as naming
-use Rattle.heap_law.specs.Coherent.{IsSound}
-use Rattle.heap_law.proofs.Sums.{server_parts}
-use Rattle.event_law.specs.Sums.{is_server}
-use Rattle.event_law.proofs.Boxes.{tot_le}
-use Rattle.event_law.proofs.Sound.{sound_has_sums}
-use Rattle.event_law.proofs.Events.{others_of, tot-server}
-use Rattle.local_law.proofs.Handed.{all_none}
-use Rattle.value_law.proofs.Counts.{counts_alone}
-use Rattle.value_law.proofs.Named.{started_plain, made_plain}
+use Rattle.bound_law.specs.Below.mutex_home.Mutexes.{Mutex}
+use Rattle.bound_law.specs.Below.join_home.Tasks.{Task}
+use Rattle.bound_law.specs.Below.server_model.Servers.{Server, Cluster, server_at}
+use Rattle.bound_law.specs.Below.heap_law.Names.{tot, one, other, some}
+use Rattle.bound_law.specs.Below.heap_law.Things.{Thing, counts, mutex_things, task_things, servers_things, things_of}
+use Rattle.bound_law.specs.Below.heap_law.Sight.{sight}
+use Rattle.bound_law.specs.Below.heap_law.Sharing.{elsewhere, noted_away}
+use Rattle.bound_law.specs.Below.heap_law.Requests.{home_of}
+use Rattle.bound_law.specs.Below.heap_law.Walking.{sum_threads}
+use Rattle.bound_law.specs.Below.heap_law.Naming.{threads, named_mutexes, started_at, made_at, uncounted_thread, uncounted_mutex, free_colours, is_retired, servers_wrong, pinned_parcel}
+use Rattle.bound_law.specs.Below.heap_law.Naming as naming
+use Rattle.bound_law.specs.Below.heap_law.Coherent.{IsSound}
+use Rattle.bound_law.proofs.Below.heap_law.Sums.{server_parts}
+use Rattle.bound_law.specs.Below.event_law.Sums.{is_server}
+use Rattle.bound_law.proofs.Below.event_law.Boxes.{tot_le}
+use Rattle.bound_law.proofs.Below.event_law.Sound.{sound_has_sums}
+use Rattle.bound_law.proofs.Below.event_law.Events.{others_of, tot-server}
+use Rattle.bound_law.proofs.Below.local_law.Handed.{all_none}
+use Rattle.bound_law.proofs.Below.value_law.Counts.{counts_alone}
+use Rattle.bound_law.proofs.Below.value_law.Named.{started_plain, made_plain}
 use Rattle.typed_parts_law.proofs.Rising.{Low}
 use Rattle.typed_parts_law.proofs.Places.{Coloured}
 use Rattle.typed_parts_law.proofs.Cached.{once_from}

@@ -1,18 +1,18 @@
 -- The parts of one server stay of their types in every event.
 use Rattle.std.proofs.Common.{◌≡◌, ◌<◌, ◌≤◌, ℕ, suc, ◌+◌, ◌*◌, ◌-◌, ◌^◌, ◌==◌, Bool, true, false, if◌then◌else◌, List, [], ◌∷◌, ◌++◌, Some, ap, arith}
-use Rattle.heap_partition.specs.declared.value.Owned.{Owned}
-use Rattle.owner_box.specs.View.{PartitionState}
-use Rattle.owner_box.specs.Partition.{stored, freed, made, renewed}
-use Rattle.read_cache.specs.Cache.{Copy, users, pin, unpin, fill, evict}
-use Rattle.mutex_home.specs.Mutexes.{Mutex, Mutexes, put_mutex, end_mutex, with_mutex, make, next_mutex, ask, give_back, more, less}
-use Rattle.fr_base.specs.declared.name.MutexNo.{MutexNo}
-use Rattle.join_home.specs.Tasks.{Task, TaskState, going, in_pair, noted, begin, begin_pair, with_state, without_task, let_go_of, ended}
-use Rattle.join_home.specs.Tasks as tasks
-use Rattle.server_msgs.specs.declared.message.Message.{Message}
-use Rattle.server_model.specs.Servers.{Rest}
-use Rattle.server_model.specs.Start.{next_thread}
-use Rattle.local_law.proofs.MutexLists.{given}
-use Rattle.local_law.proofs.Rests.{Changes}
+use Rattle.bound_law.specs.Below.heap_partition.declared.value.Owned.{Owned}
+use Rattle.bound_law.specs.Below.owner_box.View.{PartitionState}
+use Rattle.bound_law.specs.Below.owner_box.Partition.{stored, freed, made, renewed}
+use Rattle.bound_law.specs.Below.read_cache.Cache.{Copy, users, pin, unpin, fill, evict}
+use Rattle.bound_law.specs.Below.mutex_home.Mutexes.{Mutex, Mutexes, put_mutex, end_mutex, with_mutex, make, next_mutex, ask, give_back, more, less}
+use Rattle.bound_law.specs.Below.fr_base.declared.name.MutexNo.{MutexNo}
+use Rattle.bound_law.specs.Below.join_home.Tasks.{Task, TaskState, going, in_pair, noted, begin, begin_pair, with_state, without_task, let_go_of, ended}
+use Rattle.bound_law.specs.Below.join_home.Tasks as tasks
+use Rattle.bound_law.specs.Below.server_msgs.declared.message.Message.{Message}
+use Rattle.bound_law.specs.Below.server_model.Servers.{Rest}
+use Rattle.bound_law.specs.Below.server_model.Start.{next_thread}
+use Rattle.bound_law.proofs.Below.local_law.MutexLists.{given}
+use Rattle.bound_law.proofs.Below.local_law.Rests.{Changes}
 use Rattle.typed_parts_law.proofs.Rising.{Rises, Low, fewer_rise, fewer_low, low_more, last_rises, last_low, same_rise, same_low}
 use Rattle.typed_parts_law.proofs.Places.{IsPart, part_stores, part_frees, part_makes, part_renews}
 use Rattle.typed_parts_law.proofs.Cached.{Once, once_users, once_unpinned, once_filled, once_evicted}

@@ -1,20 +1,20 @@
 -- In a coherent cluster the place of a lock passes objects of the one heap alone, and each of these is named by something.
 use Rattle.std.proofs.Common.{◌≡◌, ℕ, ◌+◌, Bool, true, false, length, Option, Some, None, is_some, refl, sym, ap, ◌∙◌, arith}
-use Rattle.fr_base.specs.declared.name.ObjNo.{ObjNo}
-use Rattle.fr_base.specs.declared.label.Plain.{Plain}
-use Rattle.fr_base.specs.declared.place.Lval.{Lval}
-use Rattle.fr_base.specs.declared.instruction.Instr.TheVariants as instr
-use Rattle.fr_store.specs.Store.{Val}
-use Rattle.fr_sound.specs.Seen.{seen_cell}
-use Rattle.thread_state.specs.View.{is_over}
-use Rattle.server_model.specs.Servers.{Cluster}
-use Rattle.heap_law.specs.Names.{other, if_so, one}
-use Rattle.heap_law.specs.Things.{Location, at_slot, at_temp, in_cell, things_of}
-use Rattle.heap_law.specs.Follow.{Standing, threads_in, locate}
-use Rattle.heap_law.specs.Sight.{sight}
-use Rattle.heap_law.specs.Walking.{instr_of}
-use Rattle.heap_law.specs.Rooted.{dressed, is_end}
-use Rattle.heap_law.specs.OneHeap.{object_n, if_in, is_in_state, object_value, first_shown, cell_value}
+use Rattle.path_law.specs.Below.fr_base.declared.name.ObjNo.{ObjNo}
+use Rattle.path_law.specs.Below.fr_base.declared.label.Plain.{Plain}
+use Rattle.path_law.specs.Below.fr_base.declared.place.Lval.{Lval}
+use Rattle.path_law.specs.Below.fr_base.declared.instruction.Instr.TheVariants as instr
+use Rattle.path_law.specs.Below.fr_store.Store.{Val}
+use Rattle.path_law.specs.Below.fr_sound.Seen.{seen_cell}
+use Rattle.path_law.specs.Below.thread_state.View.{is_over}
+use Rattle.path_law.specs.Below.server_model.Servers.{Cluster}
+use Rattle.path_law.specs.Below.heap_law.Names.{other, if_so, one}
+use Rattle.path_law.specs.Below.heap_law.Things.{Location, at_slot, at_temp, in_cell, things_of}
+use Rattle.path_law.specs.Below.heap_law.Follow.{Standing, threads_in, locate}
+use Rattle.path_law.specs.Below.heap_law.Sight.{sight}
+use Rattle.path_law.specs.Below.heap_law.Walking.{instr_of}
+use Rattle.path_law.specs.Below.heap_law.Rooted.{dressed, is_end}
+use Rattle.path_law.specs.Below.heap_law.OneHeap.{object_n, if_in, is_in_state, object_value, first_shown, cell_value}
 use Rattle.path_law.specs.HeapStore.{GoesOn, HasPaths}
 use Rattle.path_law.proofs.Alike.{leads_in_heap, heap_of_shown}
 use Rattle.path_law.proofs.Contained.{among_thread}

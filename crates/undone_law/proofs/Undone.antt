@@ -1,19 +1,19 @@
 -- Event by event: whatever does no plain step leaves the one heap as it was.
 use Rattle.std.proofs.Common.{◌≡◌, ℕ, true, Option, Some, None, refl, sym, subst}
 use Rattle.std.specs.Prelude.{slice_get, option_map}
-use Rattle.journal.specs.View.{EntryView}
-use Rattle.server_msgs.specs.declared.message.Message.{Message}
-use Rattle.server_msgs.specs.declared.message.Message.TheVariants as message
-use Rattle.server_model.specs.declared.event.What.{What}
-use Rattle.server_model.specs.declared.event.What.TheVariants.{Step, Deliver, Evict, Migrate}
-use Rattle.server_model.specs.Servers.{Server, Cluster, server_at}
-use Rattle.server_model.specs.Work.{then_some}
-use Rattle.server_model.specs.Events.{enabled, deliver_message, received, left_by, does}
-use Rattle.heap_law.specs.Things.{server_things}
-use Rattle.heap_law.specs.Sight.{sight}
-use Rattle.heap_law.specs.Coherent.{IsSound}
-use Rattle.event_law.specs.Laws.{Gives}
-use Rattle.event_law.proofs.Results.{weaker}
+use Rattle.path_law.specs.Below.journal.View.{EntryView}
+use Rattle.path_law.specs.Below.server_msgs.declared.message.Message.{Message}
+use Rattle.path_law.specs.Below.server_msgs.declared.message.Message.TheVariants as message
+use Rattle.path_law.specs.Below.server_model.declared.event.What.{What}
+use Rattle.path_law.specs.Below.server_model.declared.event.What.TheVariants.{Step, Deliver, Evict, Migrate}
+use Rattle.path_law.specs.Below.server_model.Servers.{Server, Cluster, server_at}
+use Rattle.path_law.specs.Below.server_model.Work.{then_some}
+use Rattle.path_law.specs.Below.server_model.Events.{enabled, deliver_message, received, left_by, does}
+use Rattle.path_law.specs.Below.heap_law.Things.{server_things}
+use Rattle.path_law.specs.Below.heap_law.Sight.{sight}
+use Rattle.path_law.specs.Below.heap_law.Coherent.{IsSound}
+use Rattle.still_law.specs.Below.event_law.Laws.{Gives}
+use Rattle.still_law.proofs.Below.event_law.Results.{weaker}
 use Rattle.path_law.proofs.Alike.{coherent_has_paths}
 use Rattle.still_law.specs.Shows.{Sign}
 use Rattle.still_law.proofs.Sites.{AlikeBy, ServerStill, leaves_heap_by}

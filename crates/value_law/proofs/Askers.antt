@@ -2,41 +2,41 @@
 use Rattle.std.proofs.Common.{◌≡◌, ℕ, ◌+◌, ◌≤◌, ◌==◌, ◌&&◌, ◌||◌, not, is_some, Bool, true, false, if◌then◌else◌, List, [], ◌∷◌, Option, Some, None, IsSome, refl, sym, ap, subst, ◌∙◌, arith}
 use Rattle.std.specs.Prelude.{slice_get, option_map}
 use Rattle.std.proofs.lemmas.Bool.{eq-eqb}
-use Rattle.fr_typing.proofs.PlaceLemmas.{eq_cases}
-use Rattle.fr_base.specs.declared.instruction.Instr.{Instr}
-use Rattle.join_home.specs.Tasks.{TaskState, asked}
-use Rattle.thread_state.specs.View.{ThreadState}
-use Rattle.thread_state.specs.declared.phase.Phase.{Phase}
-use Rattle.thread_state.specs.declared.phase.Phase.TheVariants as phase
-use Rattle.server_msgs.specs.declared.message.Message.{Message}
-use Rattle.server_msgs.specs.declared.message.Message.TheVariants as message
-use Rattle.journal.specs.View.{EntryView}
-use Rattle.server_model.specs.declared.event.Event.{Event}
-use Rattle.server_model.specs.declared.event.What.{What}
-use Rattle.server_model.specs.declared.event.What.TheVariants.{Step, Deliver, Evict, Migrate}
-use Rattle.server_model.specs.Servers.{Server, Cluster, server_at}
-use Rattle.server_model.specs.Work.{thread_in, then_some}
-use Rattle.server_model.specs.Events.{has_phase, can_step, enabled, does}
-use Rattle.server_model.specs.Events as events
-use Rattle.server_model.specs.Clusters.{with_server, done_at, apply}
-use Rattle.heap_law.specs.Names.{tot, one, other}
-use Rattle.heap_law.specs.Things.{Thing, sent, stands, queued, noted, standing_things, server_things, servers_things, things_of}
-use Rattle.heap_law.specs.Follow.{Standing, threads_in, thread_at}
-use Rattle.heap_law.specs.Sight.{sight}
-use Rattle.heap_law.specs.Requests.{waits, is_cell, is_lock, is_dup, is_join, in_phase, phase_fits, message_carries, note_carries, carries, in_server, stands_at, lost_answer, lost, asker_message, asker_noted, other_asker, is_got}
-use Rattle.heap_law.specs.Walking as walking
-use Rattle.heap_law.specs.Weights.{is_thread}
-use Rattle.heap_law.specs.Coherent.{IsSound, Holds, return_right, askers_stand}
-use Rattle.heap_law.proofs.Names.{and_left, same_number}
-use Rattle.heap_law.proofs.Sums.{server_parts}
-use Rattle.event_law.specs.Laws.{Gives, FewEvents}
-use Rattle.event_law.proofs.Results.{over_gives, weaker, both_give}
-use Rattle.event_law.proofs.Askers.{other_none, stands_there}
-use Rattle.event_law.proofs.Bags.{thread_number}
-use Rattle.event_law.proofs.StandsHere.{IsWaiting, stands_here}
-use Rattle.event_law.proofs.Events.{tot-server}
-use Rattle.event_law.proofs.Applied.{handed_on, handed_part}
-use Rattle.event_law.proofs.Sending.{each_event_sends}
+use Rattle.local_law.proofs.Below.fr_typing.PlaceLemmas.{eq_cases}
+use Rattle.local_law.specs.Below.fr_base.declared.instruction.Instr.{Instr}
+use Rattle.local_law.specs.Below.join_home.Tasks.{TaskState, asked}
+use Rattle.local_law.specs.Below.thread_state.View.{ThreadState}
+use Rattle.local_law.specs.Below.thread_state.declared.phase.Phase.{Phase}
+use Rattle.local_law.specs.Below.thread_state.declared.phase.Phase.TheVariants as phase
+use Rattle.local_law.specs.Below.server_msgs.declared.message.Message.{Message}
+use Rattle.local_law.specs.Below.server_msgs.declared.message.Message.TheVariants as message
+use Rattle.local_law.specs.Below.journal.View.{EntryView}
+use Rattle.local_law.specs.Below.server_model.declared.event.Event.{Event}
+use Rattle.local_law.specs.Below.server_model.declared.event.What.{What}
+use Rattle.local_law.specs.Below.server_model.declared.event.What.TheVariants.{Step, Deliver, Evict, Migrate}
+use Rattle.local_law.specs.Below.server_model.Servers.{Server, Cluster, server_at}
+use Rattle.local_law.specs.Below.server_model.Work.{thread_in, then_some}
+use Rattle.local_law.specs.Below.server_model.Events.{has_phase, can_step, enabled, does}
+use Rattle.local_law.specs.Below.server_model.Events as events
+use Rattle.local_law.specs.Below.server_model.Clusters.{with_server, done_at, apply}
+use Rattle.local_law.specs.Below.heap_law.Names.{tot, one, other}
+use Rattle.local_law.specs.Below.heap_law.Things.{Thing, sent, stands, queued, noted, standing_things, server_things, servers_things, things_of}
+use Rattle.local_law.specs.Below.heap_law.Follow.{Standing, threads_in, thread_at}
+use Rattle.local_law.specs.Below.heap_law.Sight.{sight}
+use Rattle.local_law.specs.Below.heap_law.Requests.{waits, is_cell, is_lock, is_dup, is_join, in_phase, phase_fits, message_carries, note_carries, carries, in_server, stands_at, lost_answer, lost, asker_message, asker_noted, other_asker, is_got}
+use Rattle.local_law.specs.Below.heap_law.Walking as walking
+use Rattle.local_law.specs.Below.heap_law.Weights.{is_thread}
+use Rattle.local_law.specs.Below.heap_law.Coherent.{IsSound, Holds, return_right, askers_stand}
+use Rattle.local_law.proofs.Below.heap_law.Names.{and_left, same_number}
+use Rattle.local_law.proofs.Below.heap_law.Sums.{server_parts}
+use Rattle.local_law.specs.Below.event_law.Laws.{Gives, FewEvents}
+use Rattle.local_law.proofs.Below.event_law.Results.{over_gives, weaker, both_give}
+use Rattle.local_law.proofs.Below.event_law.Askers.{other_none, stands_there}
+use Rattle.local_law.proofs.Below.event_law.Bags.{thread_number}
+use Rattle.local_law.proofs.Below.event_law.StandsHere.{IsWaiting, stands_here}
+use Rattle.local_law.proofs.Below.event_law.Events.{tot-server}
+use Rattle.local_law.proofs.Below.event_law.Applied.{handed_on, handed_part}
+use Rattle.local_law.proofs.Below.event_law.Sending.{each_event_sends}
 use Rattle.local_law.specs.Laws.{EachEventKeeps}
 use Rattle.value_law.proofs.Fit.{message_asker}
 use Rattle.value_law.proofs.Sums.{noted_asker, asked_of}
@@ -78,11 +78,11 @@ found_here t r (stands s p x ∷ b) few l =
 found_here t r (_ ∷ b) few l = found_here t r b (omega (arith, few)) (omega (arith, l))
 
 -- a thread of a server stands there
-all_standing_here : (t n i : ℕ) (ts : List ThreadState) → Stands t ts → 1 ≤ tot (here_as t n) (Rattle.heap_law.specs.Things.things_at (standing_things n) i ts)
+all_standing_here : (t n i : ℕ) (ts : List ThreadState) → Stands t ts → 1 ≤ tot (here_as t n) (Rattle.local_law.specs.Below.heap_law.Things.things_at (standing_things n) i ts)
 all_standing_here t n i [] g = absurd (cc g)
 all_standing_here t n i (x ∷ ts) g =
-    let split = Rattle.heap_law.proofs.Sums.tot-append (here_as t n) (standing_things n i x) (Rattle.heap_law.specs.Things.things_at (standing_things n) (i + 1) ts) in
-    eq_cases (λ c. IsSome (if c then Some x else thread_in ts t) → here_as t n (stands n false x) ≡ one (c && n == n) → 1 ≤ tot (here_as t n) (Rattle.heap_law.specs.Things.things_at (standing_things n) i (x ∷ ts))) x.number t
+    let split = Rattle.local_law.proofs.Below.heap_law.Sums.tot-append (here_as t n) (standing_things n i x) (Rattle.local_law.specs.Below.heap_law.Things.things_at (standing_things n) (i + 1) ts) in
+    eq_cases (λ c. IsSome (if c then Some x else thread_in ts t) → here_as t n (stands n false x) ≡ one (c && n == n) → 1 ≤ tot (here_as t n) (Rattle.local_law.specs.Below.heap_law.Things.things_at (standing_things n) i (x ∷ ts))) x.number t
     (λ e h q. let self : one (true && n == n) ≡ 1 = ap one (eq-eqb n n refl) in omega (arith, q, self, split))
     (λ ne h q. omega (arith, all_standing_here t n (i + 1) ts h, split)) g refl
 
@@ -150,11 +150,11 @@ cell_waits : (w : ℕ) (p : Phase) → is_cell w p ≡ true → waits p ≡ true
 cell_waits w (phase.WaitCell v) e = refl
 cell_waits w p e = absurd (cc e)
 
-lock_waits : (m : Rattle.fr_base.specs.declared.name.MutexNo.MutexNo) (p : Phase) → is_lock m p ≡ true → waits p ≡ true
+lock_waits : (m : Rattle.local_law.specs.Below.fr_base.declared.name.MutexNo.MutexNo) (p : Phase) → is_lock m p ≡ true → waits p ≡ true
 lock_waits m (phase.WaitLock n) e = refl
 lock_waits m p e = absurd (cc e)
 
-dup_waits : (m : Rattle.fr_base.specs.declared.name.MutexNo.MutexNo) (p : Phase) → is_dup m p ≡ true → waits p ≡ true
+dup_waits : (m : Rattle.local_law.specs.Below.fr_base.declared.name.MutexNo.MutexNo) (p : Phase) → is_dup m p ≡ true → waits p ≡ true
 dup_waits m (phase.WaitDup n) e = refl
 dup_waits m p e = absurd (cc e)
 

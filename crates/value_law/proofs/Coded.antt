@@ -3,34 +3,34 @@ use Rattle.std.proofs.Common.{◌≡◌, ℕ, zero, suc, ◌+◌, ◌≤◌, ◌
 use Rattle.std.specs.Prelude.{slice_get}
 use Rattle.std.specs.Bool.{⊤}
 use Rattle.std.proofs.lemmas.Bool.Decides.{nat_tests}
-use Rattle.fr_typing.proofs.PlaceLemmas.{eq_cases}
-use Rattle.fr_base.specs.declared.place.Lval.{Lval}
-use Rattle.fr_base.specs.declared.instruction.Instr.{Instr}
-use Rattle.fr_base.specs.declared.instruction.Instr.TheVariants as instr
-use Rattle.fr_typing.specs.Kinds.{own, shared, mutable, view, Piece, whole, gone, boxed}
-use Rattle.fr_typing.specs.Places.{Slot, Env, Found, found, type_at, on_path, is_lent, is_mutable, is_own_path}
-use Rattle.fr_code.specs.CodeTypes.{Entry, Table, is_variable, InstrTypes, i_borrow_mut, i_move}
-use Rattle.fr_code.specs.CodeTable.{Successors, Leads, to_next, ends, IsTable}
-use Rattle.heap_partition.specs.declared.value.BoxPtr.{BoxPtr}
-use Rattle.heap_partition.specs.declared.value.Cell.{Cell}
-use Rattle.heap_partition.specs.declared.value.Owned.TheVariants as owned
-use Rattle.global_addr.specs.Words.{server_of}
-use Rattle.place_walk.specs.declared.hop.Hop.TheVariants as hop
-use Rattle.thread_state.specs.View.{ThreadState, is_over}
-use Rattle.thread_state.specs.declared.value.Value.{Value}
-use Rattle.thread_state.specs.declared.value.Value.TheVariants as value
-use Rattle.server_model.specs.Servers.{Server, Cluster, server_at}
-use Rattle.server_model.specs.Work.{Hand, thread_in, look}
-use Rattle.server_model.specs.NewWords.{NewWord, issue_colour}
-use Rattle.server_model.specs.Places.{Spot, in_slot, on_top, in_cell, in_copy, nowhere, value_in, value_at, load_at, put_word}
-use Rattle.server_model.specs.Prepare.{Prepared, ready, requested, nothing, and_then, ready_at, read_or_taken, read_stars, passing, box_ready, write_by, pass_by, write_value, write_star, write_stars, access_of, prepare}
-use Rattle.heap_law.specs.Names.{other, if_so}
-use Rattle.heap_law.specs.Rooted.{is_end}
-use Rattle.heap_law.specs.Coherent.{IsSound}
-use Rattle.type_law.specs.Names.{NameTypes, names_of}
-use Rattle.type_law.specs.ClusterTypes.{has_form, slot_form, slots_wrong, entry_wrong, forms_of, Types, IsCoherent}
-use Rattle.event_law.specs.Laws.{Gives}
-use Rattle.event_law.proofs.Askers.{other_none}
+use Rattle.local_law.proofs.Below.fr_typing.PlaceLemmas.{eq_cases}
+use Rattle.local_law.specs.Below.fr_base.declared.place.Lval.{Lval}
+use Rattle.local_law.specs.Below.fr_base.declared.instruction.Instr.{Instr}
+use Rattle.local_law.specs.Below.fr_base.declared.instruction.Instr.TheVariants as instr
+use Rattle.local_law.specs.Below.fr_typing.Kinds.{own, shared, mutable, view, Piece, whole, gone, boxed}
+use Rattle.local_law.specs.Below.fr_typing.Places.{Slot, Env, Found, found, type_at, on_path, is_lent, is_mutable, is_own_path}
+use Rattle.local_law.specs.Below.fr_code.CodeTypes.{Entry, Table, is_variable, InstrTypes, i_borrow_mut, i_move}
+use Rattle.local_law.specs.Below.fr_code.CodeTable.{Successors, Leads, to_next, ends, IsTable}
+use Rattle.local_law.specs.Below.heap_partition.declared.value.BoxPtr.{BoxPtr}
+use Rattle.local_law.specs.Below.heap_partition.declared.value.Cell.{Cell}
+use Rattle.local_law.specs.Below.heap_partition.declared.value.Owned.TheVariants as owned
+use Rattle.local_law.specs.Below.global_addr.Words.{server_of}
+use Rattle.local_law.specs.Below.place_walk.declared.hop.Hop.TheVariants as hop
+use Rattle.local_law.specs.Below.thread_state.View.{ThreadState, is_over}
+use Rattle.local_law.specs.Below.thread_state.declared.value.Value.{Value}
+use Rattle.local_law.specs.Below.thread_state.declared.value.Value.TheVariants as value
+use Rattle.local_law.specs.Below.server_model.Servers.{Server, Cluster, server_at}
+use Rattle.local_law.specs.Below.server_model.Work.{Hand, thread_in, look}
+use Rattle.local_law.specs.Below.server_model.NewWords.{NewWord, issue_colour}
+use Rattle.local_law.specs.Below.server_model.Places.{Spot, in_slot, on_top, in_cell, in_copy, nowhere, value_in, value_at, load_at, put_word}
+use Rattle.local_law.specs.Below.server_model.Prepare.{Prepared, ready, requested, nothing, and_then, ready_at, read_or_taken, read_stars, passing, box_ready, write_by, pass_by, write_value, write_star, write_stars, access_of, prepare}
+use Rattle.local_law.specs.Below.heap_law.Names.{other, if_so}
+use Rattle.local_law.specs.Below.heap_law.Rooted.{is_end}
+use Rattle.local_law.specs.Below.heap_law.Coherent.{IsSound}
+use Rattle.local_law.specs.Below.type_law.Names.{NameTypes, names_of}
+use Rattle.local_law.specs.Below.type_law.ClusterTypes.{has_form, slot_form, slots_wrong, entry_wrong, forms_of, Types, IsCoherent}
+use Rattle.local_law.specs.Below.event_law.Laws.{Gives}
+use Rattle.local_law.proofs.Below.event_law.Askers.{other_none}
 use Rattle.path_law.proofs.Shown.{at_behind, behind_is}
 use Rattle.local_law.proofs.Handed.{known}
 use Rattle.local_law.proofs.Pairs.{goes_still}
@@ -142,7 +142,7 @@ owned_form n (boxed p) (value.Mut r) q e = absurd (cc e)
 owned_form n (boxed p) (value.Held m) q e = absurd (cc e)
 
 -- no part has the form of a mark
-no_mark : (n : NameTypes) (p : Piece) (m : Rattle.fr_base.specs.declared.name.MutexNo.MutexNo) → has_form n p (value.Held m) ≡ true → ⊥
+no_mark : (n : NameTypes) (p : Piece) (m : Rattle.local_law.specs.Below.fr_base.declared.name.MutexNo.MutexNo) → has_form n p (value.Held m) ≡ true → ⊥
 no_mark n (whole (shared us)) m e = cc e
 no_mark n (whole (mutable us)) m e = cc e
 no_mark n (whole (view o)) m e = cc e

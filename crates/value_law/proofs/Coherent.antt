@@ -1,17 +1,17 @@
 -- From a coherent cluster: each mark of a lock stands in a slot, and each holder has few stars.
 use Rattle.std.proofs.Common.{◌≡◌, List, [], ◌∷◌, refl, arith}
-use Rattle.journal.specs.View.{EntryView}
-use Rattle.server_model.specs.declared.event.Event.{Event}
-use Rattle.server_model.specs.Servers.{Cluster, server_at}
-use Rattle.server_model.specs.Clusters.{apply}
-use Rattle.heap_law.specs.Names.{tot}
-use Rattle.heap_law.specs.Things.{Thing, at_slot, at_temp, in_cell, borrows, locks, things_of}
-use Rattle.heap_law.specs.Sharing.{loose_mark}
-use Rattle.heap_law.specs.Naming.{long_holder}
-use Rattle.heap_law.specs.Coherent.{Holds, IsSound, holders_short, marks_in_slots}
-use Rattle.type_law.specs.ClusterTypes.{IsCoherent}
-use Rattle.event_law.specs.Laws.{Gives, FewEvents}
-use Rattle.event_law.proofs.Results.{weaker}
+use Rattle.local_law.specs.Below.journal.View.{EntryView}
+use Rattle.local_law.specs.Below.server_model.declared.event.Event.{Event}
+use Rattle.local_law.specs.Below.server_model.Servers.{Cluster, server_at}
+use Rattle.local_law.specs.Below.server_model.Clusters.{apply}
+use Rattle.local_law.specs.Below.heap_law.Names.{tot}
+use Rattle.local_law.specs.Below.heap_law.Things.{Thing, at_slot, at_temp, in_cell, borrows, locks, things_of}
+use Rattle.local_law.specs.Below.heap_law.Sharing.{loose_mark}
+use Rattle.local_law.specs.Below.heap_law.Naming.{long_holder}
+use Rattle.local_law.specs.Below.heap_law.Coherent.{Holds, IsSound, holders_short, marks_in_slots}
+use Rattle.local_law.specs.Below.type_law.ClusterTypes.{IsCoherent}
+use Rattle.local_law.specs.Below.event_law.Laws.{Gives, FewEvents}
+use Rattle.local_law.proofs.Below.event_law.Results.{weaker}
 use Rattle.local_law.specs.Laws.{EachCoherentEventKeeps}
 use Rattle.value_law.proofs.Fit.{Base}
 use Rattle.value_law.proofs.Sums.{holder_of, loose}

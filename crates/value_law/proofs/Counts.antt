@@ -1,12 +1,12 @@
 -- Weights that see the counts of servers alone.
 use Rattle.std.proofs.Common.{◌≡◌, ℕ, Bool, true, false, length, refl, arith}
-use Rattle.thread_state.specs.View.{ThreadState}
-use Rattle.server_msgs.specs.declared.message.Message.{Message}
-use Rattle.server_msgs.specs.declared.message.Message.TheVariants as message
-use Rattle.server_model.specs.Servers.{Sent, Server}
-use Rattle.heap_law.specs.Names.{tot}
-use Rattle.heap_law.specs.Things.{Thing, as_content, as_result, holds, shares, borrows, locks, lies, flies, vacant, retired, copied, uses, sent, stands, at_home, queued, noted, counts, standing_things, waiting_things, leaving_things, message_things, server_things, thread_things}
-use Rattle.event_law.proofs.Unseen.{Unseen, Unnoted, none_at, thread_alone, seen_of}
+use Rattle.local_law.specs.Below.thread_state.View.{ThreadState}
+use Rattle.local_law.specs.Below.server_msgs.declared.message.Message.{Message}
+use Rattle.local_law.specs.Below.server_msgs.declared.message.Message.TheVariants as message
+use Rattle.local_law.specs.Below.server_model.Servers.{Sent, Server}
+use Rattle.local_law.specs.Below.heap_law.Names.{tot}
+use Rattle.local_law.specs.Below.heap_law.Things.{Thing, as_content, as_result, holds, shares, borrows, locks, lies, flies, vacant, retired, copied, uses, sent, stands, at_home, queued, noted, counts, standing_things, waiting_things, leaving_things, message_things, server_things, thread_things}
+use Rattle.local_law.proofs.Below.event_law.Unseen.{Unseen, Unnoted, none_at, thread_alone, seen_of}
 
 -- it is no server's counts
 abbrev pub Plain : Thing → Type 0

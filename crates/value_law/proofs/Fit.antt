@@ -4,33 +4,33 @@ use Rattle.std.specs.Prelude.{slice_get, slice_set, slice_index_or, map}
 use Rattle.std.specs.List.{AllByRecursion}
 use Rattle.std.specs.Bool.{⊤}
 use Rattle.std.proofs.lemmas.Bool.Decides.{nat_tests}
-use Rattle.fr_base.specs.declared.name.MutexNo.{MutexNo}
-use Rattle.fr_base.specs.declared.name.ObjNo.{ObjNo}
-use Rattle.global_addr.specs.Words.{word_of, colour_of, address_of, next_word}
-use Rattle.heap_partition.specs.declared.value.Cell.{Cell}
-use Rattle.heap_partition.specs.declared.value.Owned.{Owned}
-use Rattle.colour_retire.specs.Colours.{picked, rest_of}
-use Rattle.owner_box.specs.View.{PartitionState}
-use Rattle.owner_box.specs.Partition.{cell_of, with_value, stored, put_cell, new_word, made, freed, made_again, renewed}
-use Rattle.read_cache.specs.Cache.{Copy, copy_of, is_cached, users, can_unpin, with_users, fill, unpin, without_copy}
-use Rattle.migration.specs.Packing.{unpin_all, unpinned}
-use Rattle.mutex_home.specs.Mutexes.{Mutex, Mutexes}
-use Rattle.join_home.specs.Tasks.{Task, TaskState, kept, asked, in_pair}
-use Rattle.thread_state.specs.View.{ThreadState, is_over}
-use Rattle.thread_state.specs.declared.phase.Phase.{Phase}
-use Rattle.thread_state.specs.declared.value.Value.{Value}
-use Rattle.thread_state.specs.declared.value.Value.TheVariants as value
-use Rattle.server_msgs.specs.declared.message.Message.{Message}
-use Rattle.server_msgs.specs.declared.message.Message.TheVariants as message
-use Rattle.server_model.specs.Servers.{Sent, Rest}
-use Rattle.server_model.specs.NewWords.{can_grow}
-use Rattle.heap_law.specs.Names.{if_so}
-use Rattle.heap_law.specs.Placing.{owned_word, message_word, phase_word}
-use Rattle.heap_law.specs.Naming.{owned_thread, message_thread, phase_thread, fetched_mutex}
-use Rattle.heap_law.specs.Sharing.{owned_mutex, phase_mutex}
-use Rattle.event_law.specs.Laws.{Gives}
-use Rattle.event_law.proofs.Objects.{length_set}
-use Rattle.event_law.proofs.Known.{all_or, all_set, all_append}
+use Rattle.local_law.specs.Below.fr_base.declared.name.MutexNo.{MutexNo}
+use Rattle.local_law.specs.Below.fr_base.declared.name.ObjNo.{ObjNo}
+use Rattle.local_law.specs.Below.global_addr.Words.{word_of, colour_of, address_of, next_word}
+use Rattle.local_law.specs.Below.heap_partition.declared.value.Cell.{Cell}
+use Rattle.local_law.specs.Below.heap_partition.declared.value.Owned.{Owned}
+use Rattle.local_law.specs.Below.colour_retire.Colours.{picked, rest_of}
+use Rattle.local_law.specs.Below.owner_box.View.{PartitionState}
+use Rattle.local_law.specs.Below.owner_box.Partition.{cell_of, with_value, stored, put_cell, new_word, made, freed, made_again, renewed}
+use Rattle.local_law.specs.Below.read_cache.Cache.{Copy, copy_of, is_cached, users, can_unpin, with_users, fill, unpin, without_copy}
+use Rattle.local_law.specs.Below.migration.Packing.{unpin_all, unpinned}
+use Rattle.local_law.specs.Below.mutex_home.Mutexes.{Mutex, Mutexes}
+use Rattle.local_law.specs.Below.join_home.Tasks.{Task, TaskState, kept, asked, in_pair}
+use Rattle.local_law.specs.Below.thread_state.View.{ThreadState, is_over}
+use Rattle.local_law.specs.Below.thread_state.declared.phase.Phase.{Phase}
+use Rattle.local_law.specs.Below.thread_state.declared.value.Value.{Value}
+use Rattle.local_law.specs.Below.thread_state.declared.value.Value.TheVariants as value
+use Rattle.local_law.specs.Below.server_msgs.declared.message.Message.{Message}
+use Rattle.local_law.specs.Below.server_msgs.declared.message.Message.TheVariants as message
+use Rattle.local_law.specs.Below.server_model.Servers.{Sent, Rest}
+use Rattle.local_law.specs.Below.server_model.NewWords.{can_grow}
+use Rattle.local_law.specs.Below.heap_law.Names.{if_so}
+use Rattle.local_law.specs.Below.heap_law.Placing.{owned_word, message_word, phase_word}
+use Rattle.local_law.specs.Below.heap_law.Naming.{owned_thread, message_thread, phase_thread, fetched_mutex}
+use Rattle.local_law.specs.Below.heap_law.Sharing.{owned_mutex, phase_mutex}
+use Rattle.local_law.specs.Below.event_law.Laws.{Gives}
+use Rattle.local_law.proofs.Below.event_law.Objects.{length_set}
+use Rattle.local_law.proofs.Below.event_law.Known.{all_or, all_set, all_append}
 
 -- how much each name weighs: a word, a thread, a mutex, the object of a cell, the stars of a holder, the next colour of a free address, how many objects
 -- a thread has made, the mark of a lock among temporary values, a thread that asks with its server, a thread

@@ -3,46 +3,46 @@ use Rattle.std.proofs.Common.{◌≡◌, ℕ, suc, ◌+◌, ◌*◌, ◌^◌, �
 use Rattle.std.specs.Prelude.{slice_get, option_map}
 use Rattle.std.proofs.lemmas.Bool.{eq-eqb}
 use Rattle.std.proofs.lemmas.Bool.Decides.{nat_tests}
-use Rattle.fr_base.specs.declared.name.MutexNo.{MutexNo}
-use Rattle.fr_base.specs.declared.name.ObjNo.{ObjNo}
-use Rattle.fr_base.specs.declared.place.Lval.{Lval}
-use Rattle.fr_base.specs.declared.instruction.Instr.{Instr}
-use Rattle.fr_base.specs.declared.instruction.Instr.TheVariants as instr
-use Rattle.fr_base.specs.declared.instruction.Operand.{Operand}
-use Rattle.global_addr.specs.Words.{colour_of}
-use Rattle.heap_partition.specs.declared.value.BoxPtr.{BoxPtr}
-use Rattle.heap_partition.specs.declared.value.Cell.{Cell}
-use Rattle.thread_state.specs.View.{ThreadState}
-use Rattle.thread_state.specs.declared.value.Value.{Value}
-use Rattle.journal.specs.View.{EntryView}
-use Rattle.server_msgs.specs.declared.message.Message.TheVariants.{Fetch}
-use Rattle.server_model.specs.declared.event.Event.{Event}
-use Rattle.server_model.specs.declared.event.What.TheVariants.{Step}
-use Rattle.server_model.specs.Servers.{Server, Cluster, server_at}
-use Rattle.server_model.specs.Work.{set_thread, Hand, thread_in, then_some, look_object}
-use Rattle.server_model.specs.Places.{Spot, value_at}
-use Rattle.server_model.specs.Prepare.{ready, access_of, prepare}
-use Rattle.server_model.specs.Events.{enabled, does}
-use Rattle.server_model.specs.Clusters.{with_server, done_at, apply}
-use Rattle.heap_law.specs.Names.{tot, one, other, some}
-use Rattle.heap_law.specs.Things.{Thing, stands, servers_things, things_of}
-use Rattle.heap_law.specs.Follow.{Standing}
-use Rattle.heap_law.specs.Sight.{sight}
-use Rattle.heap_law.specs.Walking.{sum_threads}
-use Rattle.heap_law.specs.Placing.{words, next_colours}
-use Rattle.heap_law.specs.Requests.{home_of}
-use Rattle.heap_law.specs.Naming.{threads, named_mutexes, count_of, started_at, made_at, uncounted_thread, uncounted_mutex, zeroth_thread, zeroth_mutex, event_count, events_of, above, many_names, servers_wrong, pinned_parcel, options_out}
-use Rattle.heap_law.specs.Coherent.{IsSound}
-use Rattle.heap_law.proofs.Names.{and_left}
-use Rattle.event_law.specs.Laws.{Gives, FewEvents}
-use Rattle.event_law.proofs.Results.{over_gives, both_give, test_gives, weaker}
-use Rattle.event_law.proofs.Boxes.{tot_le}
-use Rattle.event_law.proofs.Each.{at_most, names_left}
-use Rattle.event_law.proofs.Askers.{other_none}
-use Rattle.event_law.proofs.KnownSound.{on_standing, sum_standing, server_known}
-use Rattle.event_law.proofs.Events.{others_of, tot-server}
-use Rattle.event_law.proofs.Applied.{handed_on}
-use Rattle.event_law.proofs.Sending.{each_event_sends}
+use Rattle.local_law.specs.Below.fr_base.declared.name.MutexNo.{MutexNo}
+use Rattle.local_law.specs.Below.fr_base.declared.name.ObjNo.{ObjNo}
+use Rattle.local_law.specs.Below.fr_base.declared.place.Lval.{Lval}
+use Rattle.local_law.specs.Below.fr_base.declared.instruction.Instr.{Instr}
+use Rattle.local_law.specs.Below.fr_base.declared.instruction.Instr.TheVariants as instr
+use Rattle.local_law.specs.Below.fr_base.declared.instruction.Operand.{Operand}
+use Rattle.local_law.specs.Below.global_addr.Words.{colour_of}
+use Rattle.local_law.specs.Below.heap_partition.declared.value.BoxPtr.{BoxPtr}
+use Rattle.local_law.specs.Below.heap_partition.declared.value.Cell.{Cell}
+use Rattle.local_law.specs.Below.thread_state.View.{ThreadState}
+use Rattle.local_law.specs.Below.thread_state.declared.value.Value.{Value}
+use Rattle.local_law.specs.Below.journal.View.{EntryView}
+use Rattle.local_law.specs.Below.server_msgs.declared.message.Message.TheVariants.{Fetch}
+use Rattle.local_law.specs.Below.server_model.declared.event.Event.{Event}
+use Rattle.local_law.specs.Below.server_model.declared.event.What.TheVariants.{Step}
+use Rattle.local_law.specs.Below.server_model.Servers.{Server, Cluster, server_at}
+use Rattle.local_law.specs.Below.server_model.Work.{set_thread, Hand, thread_in, then_some, look_object}
+use Rattle.local_law.specs.Below.server_model.Places.{Spot, value_at}
+use Rattle.local_law.specs.Below.server_model.Prepare.{ready, access_of, prepare}
+use Rattle.local_law.specs.Below.server_model.Events.{enabled, does}
+use Rattle.local_law.specs.Below.server_model.Clusters.{with_server, done_at, apply}
+use Rattle.local_law.specs.Below.heap_law.Names.{tot, one, other, some}
+use Rattle.local_law.specs.Below.heap_law.Things.{Thing, stands, servers_things, things_of}
+use Rattle.local_law.specs.Below.heap_law.Follow.{Standing}
+use Rattle.local_law.specs.Below.heap_law.Sight.{sight}
+use Rattle.local_law.specs.Below.heap_law.Walking.{sum_threads}
+use Rattle.local_law.specs.Below.heap_law.Placing.{words, next_colours}
+use Rattle.local_law.specs.Below.heap_law.Requests.{home_of}
+use Rattle.local_law.specs.Below.heap_law.Naming.{threads, named_mutexes, count_of, started_at, made_at, uncounted_thread, uncounted_mutex, zeroth_thread, zeroth_mutex, event_count, events_of, above, many_names, servers_wrong, pinned_parcel, options_out}
+use Rattle.local_law.specs.Below.heap_law.Coherent.{IsSound}
+use Rattle.local_law.proofs.Below.heap_law.Names.{and_left}
+use Rattle.local_law.specs.Below.event_law.Laws.{Gives, FewEvents}
+use Rattle.local_law.proofs.Below.event_law.Results.{over_gives, both_give, test_gives, weaker}
+use Rattle.local_law.proofs.Below.event_law.Boxes.{tot_le}
+use Rattle.local_law.proofs.Below.event_law.Each.{at_most, names_left}
+use Rattle.local_law.proofs.Below.event_law.Askers.{other_none}
+use Rattle.local_law.proofs.Below.event_law.KnownSound.{on_standing, sum_standing, server_known}
+use Rattle.local_law.proofs.Below.event_law.Events.{others_of, tot-server}
+use Rattle.local_law.proofs.Below.event_law.Applied.{handed_on}
+use Rattle.local_law.proofs.Below.event_law.Sending.{each_event_sends}
 use Rattle.local_law.proofs.Small.{Follows}
 use Rattle.local_law.proofs.Handed.{known}
 use Rattle.value_law.proofs.Fit.{Closed, marks, Base}

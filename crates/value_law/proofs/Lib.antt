@@ -1,3 +1,4 @@
+pub mod Below
 pub mod Fit
 pub mod Middle
 pub mod Steps

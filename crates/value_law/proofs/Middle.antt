@@ -2,39 +2,39 @@
 use Rattle.std.proofs.Common.{◌≡◌, ℕ, ◌+◌, ◌-◌, ◌^◌, ◌==◌, Bool, true, false, nat_lt, if◌then◌else◌, List, [], ◌∷◌, ◌++◌, length, Option, Some, None, refl, subst, ◌∙◌, arith}
 use Rattle.std.specs.Prelude.{slice_get, slice_set}
 use Rattle.std.specs.List.{AllByRecursion}
-use Rattle.fr_base.specs.declared.name.ObjNo.{ObjNo}
-use Rattle.fr_base.specs.declared.place.Lval.{Lval}
-use Rattle.fr_base.specs.declared.release.Released.TheVariants as released
-use Rattle.global_addr.specs.Words.{address_of}
-use Rattle.heap_partition.specs.declared.value.BoxPtr.{BoxPtr}
-use Rattle.heap_partition.specs.declared.value.Cell.{Cell}
-use Rattle.heap_partition.specs.declared.value.Owned.{Owned}
-use Rattle.heap_partition.specs.declared.value.Owned.TheVariants as owned
-use Rattle.owner_box.specs.View.{PartitionState}
-use Rattle.owner_box.specs.Partition.{stored}
-use Rattle.read_cache.specs.Cache.{Copy, copy_of, cell_in, is_cached, users, can_pin, with_users}
-use Rattle.thread_state.specs.View.{ThreadState}
-use Rattle.thread_state.specs.declared.phase.Phase.{Phase}
-use Rattle.thread_state.specs.declared.phase.Phase.TheVariants as phase
-use Rattle.thread_state.specs.declared.value.Value.{Value}
-use Rattle.thread_state.specs.declared.value.Value.TheVariants as value
-use Rattle.server_msgs.specs.declared.message.Message.{Message}
-use Rattle.server_msgs.specs.declared.message.Message.TheVariants as message
-use Rattle.server_model.specs.Servers.{Rest}
-use Rattle.server_model.specs.Work.{Work, Hand, with_partition, with_cache, with_phase, look, leads_here, look_object, sent_from, working, with_slots, front_of}
-use Rattle.server_model.specs.Places.{Spot, in_slot, on_top, in_cell, in_copy, nowhere, value_in, value_at, written, note_slot, note_write, put_at, pointer_of, with_word, second_of, owns_nothing}
-use Rattle.server_model.specs.Start.{captured, left_after, capture_from, capture}
-use Rattle.server_model.specs.Commit.{shared_from, lent_word, mutable_from}
-use Rattle.server_model.specs.Drop.{give_up}
-use Rattle.heap_law.specs.Placing.{phase_word}
-use Rattle.heap_law.specs.Naming.{phase_thread}
-use Rattle.heap_law.specs.Sharing.{phase_mutex}
-use Rattle.heap_law.proofs.Names.{and_left, same_number}
-use Rattle.event_law.specs.Laws.{Gives}
-use Rattle.event_law.proofs.Results.{then_gives, test_gives}
-use Rattle.event_law.proofs.Cells.{looked}
-use Rattle.event_law.proofs.ObjectMessages.{looked_object}
-use Rattle.event_law.proofs.Known.{all_at, all_set, all_append, all_take}
+use Rattle.local_law.specs.Below.fr_base.declared.name.ObjNo.{ObjNo}
+use Rattle.local_law.specs.Below.fr_base.declared.place.Lval.{Lval}
+use Rattle.local_law.specs.Below.fr_base.declared.release.Released.TheVariants as released
+use Rattle.local_law.specs.Below.global_addr.Words.{address_of}
+use Rattle.local_law.specs.Below.heap_partition.declared.value.BoxPtr.{BoxPtr}
+use Rattle.local_law.specs.Below.heap_partition.declared.value.Cell.{Cell}
+use Rattle.local_law.specs.Below.heap_partition.declared.value.Owned.{Owned}
+use Rattle.local_law.specs.Below.heap_partition.declared.value.Owned.TheVariants as owned
+use Rattle.local_law.specs.Below.owner_box.View.{PartitionState}
+use Rattle.local_law.specs.Below.owner_box.Partition.{stored}
+use Rattle.local_law.specs.Below.read_cache.Cache.{Copy, copy_of, cell_in, is_cached, users, can_pin, with_users}
+use Rattle.local_law.specs.Below.thread_state.View.{ThreadState}
+use Rattle.local_law.specs.Below.thread_state.declared.phase.Phase.{Phase}
+use Rattle.local_law.specs.Below.thread_state.declared.phase.Phase.TheVariants as phase
+use Rattle.local_law.specs.Below.thread_state.declared.value.Value.{Value}
+use Rattle.local_law.specs.Below.thread_state.declared.value.Value.TheVariants as value
+use Rattle.local_law.specs.Below.server_msgs.declared.message.Message.{Message}
+use Rattle.local_law.specs.Below.server_msgs.declared.message.Message.TheVariants as message
+use Rattle.local_law.specs.Below.server_model.Servers.{Rest}
+use Rattle.local_law.specs.Below.server_model.Work.{Work, Hand, with_partition, with_cache, with_phase, look, leads_here, look_object, sent_from, working, with_slots, front_of}
+use Rattle.local_law.specs.Below.server_model.Places.{Spot, in_slot, on_top, in_cell, in_copy, nowhere, value_in, value_at, written, note_slot, note_write, put_at, pointer_of, with_word, second_of, owns_nothing}
+use Rattle.local_law.specs.Below.server_model.Start.{captured, left_after, capture_from, capture}
+use Rattle.local_law.specs.Below.server_model.Commit.{shared_from, lent_word, mutable_from}
+use Rattle.local_law.specs.Below.server_model.Drop.{give_up}
+use Rattle.local_law.specs.Below.heap_law.Placing.{phase_word}
+use Rattle.local_law.specs.Below.heap_law.Naming.{phase_thread}
+use Rattle.local_law.specs.Below.heap_law.Sharing.{phase_mutex}
+use Rattle.local_law.proofs.Below.heap_law.Names.{and_left, same_number}
+use Rattle.local_law.specs.Below.event_law.Laws.{Gives}
+use Rattle.local_law.proofs.Below.event_law.Results.{then_gives, test_gives}
+use Rattle.local_law.proofs.Below.event_law.Cells.{looked}
+use Rattle.local_law.proofs.Below.event_law.ObjectMessages.{looked_object}
+use Rattle.local_law.proofs.Below.event_law.Known.{all_at, all_set, all_append, all_take}
 use Rattle.local_law.proofs.Small.{Of, Lies, Places}
 use Rattle.value_law.proofs.Fit.{Weights, Closed, OwnedFits, Fits, TempFits, WordFits, CellFits, CopyFits, owned_temp, temp_fits, ThreadFit, ThreadFits, MessageFits, SentFits, PartitionFit, stored_fits, copy_fits, cached_fits, users_fit, Base, RestFits}
 

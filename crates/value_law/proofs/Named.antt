@@ -1,25 +1,25 @@
 -- What an event of a sound cluster leaves of names: words, threads and mutexes, and how many there are.
 use Rattle.std.proofs.Common.{◌≡◌, ℕ, zero, suc, ◌+◌, ◌*◌, ◌^◌, ◌<◌, ◌≤◌, ◌==◌, ◌&&◌, ◌||◌, nat_lt, nat_le, Bool, true, false, if◌then◌else◌, List, [], ◌∷◌, Some, refl, sym, ap, subst, ◌∙◌, arith}
 use Rattle.std.proofs.lemmas.Bool.Decides.{nat_tests}
-use Rattle.fr_typing.proofs.PlaceLemmas.{eq_cases}
-use Rattle.fr_base.specs.declared.name.MutexNo.{MutexNo}
-use Rattle.fr_base.specs.declared.name.ObjNo.{ObjNo}
-use Rattle.fr_base.specs.declared.instruction.Instr.{Instr}
-use Rattle.fr_base.specs.declared.settings.Options.{Options}
-use Rattle.heap_partition.specs.declared.value.Cell.{Cell}
-use Rattle.global_addr.specs.Words.{word_of, colour_of, next_word}
-use Rattle.journal.specs.View.{EntryView}
-use Rattle.server_model.specs.declared.event.What.{What}
-use Rattle.server_model.specs.declared.event.What.TheVariants.{Step, Deliver, Evict, Migrate}
-use Rattle.server_model.specs.Servers.{Server, Cluster, server_at}
-use Rattle.server_model.specs.Events.{does}
-use Rattle.heap_law.specs.Names.{tot, other, some}
-use Rattle.heap_law.specs.Things.{Thing, counts, things_of}
-use Rattle.heap_law.specs.Sight.{Sight, sight}
-use Rattle.heap_law.specs.Requests.{home_of}
-use Rattle.heap_law.specs.Naming.{count_of, started_at, made_at, zeroth_thread, zeroth_mutex, event_count, events_of, above, many_names, servers_wrong}
-use Rattle.event_law.specs.Laws.{Gives}
-use Rattle.event_law.proofs.Results.{map_gives}
+use Rattle.local_law.proofs.Below.fr_typing.PlaceLemmas.{eq_cases}
+use Rattle.local_law.specs.Below.fr_base.declared.name.MutexNo.{MutexNo}
+use Rattle.local_law.specs.Below.fr_base.declared.name.ObjNo.{ObjNo}
+use Rattle.local_law.specs.Below.fr_base.declared.instruction.Instr.{Instr}
+use Rattle.local_law.specs.Below.fr_base.declared.settings.Options.{Options}
+use Rattle.local_law.specs.Below.heap_partition.declared.value.Cell.{Cell}
+use Rattle.local_law.specs.Below.global_addr.Words.{word_of, colour_of, next_word}
+use Rattle.local_law.specs.Below.journal.View.{EntryView}
+use Rattle.local_law.specs.Below.server_model.declared.event.What.{What}
+use Rattle.local_law.specs.Below.server_model.declared.event.What.TheVariants.{Step, Deliver, Evict, Migrate}
+use Rattle.local_law.specs.Below.server_model.Servers.{Server, Cluster, server_at}
+use Rattle.local_law.specs.Below.server_model.Events.{does}
+use Rattle.local_law.specs.Below.heap_law.Names.{tot, other, some}
+use Rattle.local_law.specs.Below.heap_law.Things.{Thing, counts, things_of}
+use Rattle.local_law.specs.Below.heap_law.Sight.{Sight, sight}
+use Rattle.local_law.specs.Below.heap_law.Requests.{home_of}
+use Rattle.local_law.specs.Below.heap_law.Naming.{count_of, started_at, made_at, zeroth_thread, zeroth_mutex, event_count, events_of, above, many_names, servers_wrong}
+use Rattle.local_law.specs.Below.event_law.Laws.{Gives}
+use Rattle.local_law.proofs.Below.event_law.Results.{map_gives}
 use Rattle.value_law.proofs.Fit.{Weights, Base}
 use Rattle.value_law.proofs.Counts.{Plain}
 

@@ -3,48 +3,48 @@ use Rattle.std.proofs.Common.{◌≡◌, ℕ, zero, suc, ◌+◌, ◌*◌, ◌^�
 use Rattle.std.specs.Prelude.{slice_get, option_map}
 use Rattle.std.proofs.lemmas.Bool.{eq-eqb}
 use Rattle.std.proofs.lemmas.Bool.Decides.{nat_tests}
-use Rattle.fr_typing.proofs.PlaceLemmas.{eq_cases}
-use Rattle.fr_store.proofs.Keys.{object_cases}
-use Rattle.fr_base.specs.declared.name.ObjNo.{ObjNo}
-use Rattle.fr_base.specs.declared.instruction.Instr.{Instr}
-use Rattle.fr_base.specs.declared.instruction.Instr.TheVariants as instr
-use Rattle.fr_base.specs.declared.instruction.Operand.{Operand}
-use Rattle.thread_state.specs.View.{ThreadState, is_over}
-use Rattle.thread_state.specs.declared.phase.Phase.{Phase}
-use Rattle.thread_state.specs.declared.phase.Phase.TheVariants as phase
-use Rattle.thread_state.specs.declared.value.Value.{Value}
-use Rattle.thread_state.specs.declared.value.Value.TheVariants as value
-use Rattle.journal.specs.View.{EntryView}
-use Rattle.server_model.specs.declared.event.Event.{Event}
-use Rattle.server_model.specs.declared.event.What.{What}
-use Rattle.server_model.specs.declared.event.What.TheVariants.{Step, Deliver, Evict, Migrate}
-use Rattle.server_model.specs.Servers.{Server, Cluster, server_at}
-use Rattle.server_model.specs.Work.{thread_in, set_thread, then_some}
-use Rattle.server_model.specs.Events.{has_phase, can_step, enabled, does}
-use Rattle.server_model.specs.Clusters.{with_server, done_at, apply}
-use Rattle.heap_law.specs.Names.{tot, one, other, some, if_so, same_object}
-use Rattle.heap_law.specs.Things.{Thing, lies, flies, stands, counts, things_at, standing_things, servers_things, things_of}
-use Rattle.heap_law.specs.Follow.{Standing, threads_in, thread_at}
-use Rattle.heap_law.specs.Sight.{sight}
-use Rattle.heap_law.specs.Weights.{cells, is_thread}
-use Rattle.heap_law.specs.Requests.{home_of}
-use Rattle.heap_law.specs.Naming.{was_made, not_made, threads, named_mutexes, count_of, started_at, uncounted_thread, uncounted_mutex}
-use Rattle.heap_law.specs.Coherent.{IsSound, Holds, objects_made}
-use Rattle.heap_law.proofs.Names.{if_none}
-use Rattle.event_law.specs.Sums.{is_server}
-use Rattle.event_law.specs.Laws.{Gives, FewEvents}
-use Rattle.event_law.proofs.Results.{weaker, over_gives, both_give}
-use Rattle.event_law.proofs.Bags.{thread_number}
-use Rattle.event_law.proofs.Applied.{handed_on, handed_part}
-use Rattle.event_law.proofs.Sending.{each_event_sends}
-use Rattle.heap_law.proofs.Sums.{tot-append, server_parts}
+use Rattle.local_law.proofs.Below.fr_typing.PlaceLemmas.{eq_cases}
+use Rattle.local_law.proofs.Below.fr_store.Keys.{object_cases}
+use Rattle.local_law.specs.Below.fr_base.declared.name.ObjNo.{ObjNo}
+use Rattle.local_law.specs.Below.fr_base.declared.instruction.Instr.{Instr}
+use Rattle.local_law.specs.Below.fr_base.declared.instruction.Instr.TheVariants as instr
+use Rattle.local_law.specs.Below.fr_base.declared.instruction.Operand.{Operand}
+use Rattle.local_law.specs.Below.thread_state.View.{ThreadState, is_over}
+use Rattle.local_law.specs.Below.thread_state.declared.phase.Phase.{Phase}
+use Rattle.local_law.specs.Below.thread_state.declared.phase.Phase.TheVariants as phase
+use Rattle.local_law.specs.Below.thread_state.declared.value.Value.{Value}
+use Rattle.local_law.specs.Below.thread_state.declared.value.Value.TheVariants as value
+use Rattle.local_law.specs.Below.journal.View.{EntryView}
+use Rattle.local_law.specs.Below.server_model.declared.event.Event.{Event}
+use Rattle.local_law.specs.Below.server_model.declared.event.What.{What}
+use Rattle.local_law.specs.Below.server_model.declared.event.What.TheVariants.{Step, Deliver, Evict, Migrate}
+use Rattle.local_law.specs.Below.server_model.Servers.{Server, Cluster, server_at}
+use Rattle.local_law.specs.Below.server_model.Work.{thread_in, set_thread, then_some}
+use Rattle.local_law.specs.Below.server_model.Events.{has_phase, can_step, enabled, does}
+use Rattle.local_law.specs.Below.server_model.Clusters.{with_server, done_at, apply}
+use Rattle.local_law.specs.Below.heap_law.Names.{tot, one, other, some, if_so, same_object}
+use Rattle.local_law.specs.Below.heap_law.Things.{Thing, lies, flies, stands, counts, things_at, standing_things, servers_things, things_of}
+use Rattle.local_law.specs.Below.heap_law.Follow.{Standing, threads_in, thread_at}
+use Rattle.local_law.specs.Below.heap_law.Sight.{sight}
+use Rattle.local_law.specs.Below.heap_law.Weights.{cells, is_thread}
+use Rattle.local_law.specs.Below.heap_law.Requests.{home_of}
+use Rattle.local_law.specs.Below.heap_law.Naming.{was_made, not_made, threads, named_mutexes, count_of, started_at, uncounted_thread, uncounted_mutex}
+use Rattle.local_law.specs.Below.heap_law.Coherent.{IsSound, Holds, objects_made}
+use Rattle.local_law.proofs.Below.heap_law.Names.{if_none}
+use Rattle.local_law.specs.Below.event_law.Sums.{is_server}
+use Rattle.local_law.specs.Below.event_law.Laws.{Gives, FewEvents}
+use Rattle.local_law.proofs.Below.event_law.Results.{weaker, over_gives, both_give}
+use Rattle.local_law.proofs.Below.event_law.Bags.{thread_number}
+use Rattle.local_law.proofs.Below.event_law.Applied.{handed_on, handed_part}
+use Rattle.local_law.proofs.Below.event_law.Sending.{each_event_sends}
+use Rattle.local_law.proofs.Below.heap_law.Sums.{tot-append, server_parts}
 use Rattle.local_law.specs.Laws.{EachEventKeeps}
-use Rattle.event_law.proofs.Askers.{other_none}
-use Rattle.event_law.proofs.Boxes.{tot_le}
-use Rattle.event_law.proofs.Each.{names_left}
-use Rattle.event_law.proofs.Sound.{sound_has_sums}
-use Rattle.event_law.proofs.Events.{others_of, tot-server}
-use Rattle.event_law.proofs.KnownSound.{on_standing, sum_standing}
+use Rattle.local_law.proofs.Below.event_law.Askers.{other_none}
+use Rattle.local_law.proofs.Below.event_law.Boxes.{tot_le}
+use Rattle.local_law.proofs.Below.event_law.Each.{names_left}
+use Rattle.local_law.proofs.Below.event_law.Sound.{sound_has_sums}
+use Rattle.local_law.proofs.Below.event_law.Events.{others_of, tot-server}
+use Rattle.local_law.proofs.Below.event_law.KnownSound.{on_standing, sum_standing}
 use Rattle.local_law.proofs.Handed.{known}
 use Rattle.value_law.proofs.Fit.{marks, Base}
 use Rattle.value_law.proofs.Sums.{going_of, cell_object, stray}
@@ -64,7 +64,7 @@ same_objects : (p o : ObjNo) → same_object p o ≡ true → p ≡ o
 same_objects p o e = object_cases (λ b. b ≡ true → p ≡ o) p o (λ s d. s) (λ ne d. absurd (cc d)) e
 
 -- what holds of each cell's object holds of one that is a cell
-of_cells : (f : Thing → ℕ) (P : ObjNo → Type 0) → ((s a : ℕ) (c : Rattle.heap_partition.specs.declared.value.Cell.Cell) → f (lies s a c) ≡ 0 → P c.object) → ((w : ℕ) (c : Rattle.heap_partition.specs.declared.value.Cell.Cell) → f (flies w c) ≡ 0 → P c.object)
+of_cells : (f : Thing → ℕ) (P : ObjNo → Type 0) → ((s a : ℕ) (c : Rattle.local_law.specs.Below.heap_partition.declared.value.Cell.Cell) → f (lies s a c) ≡ 0 → P c.object) → ((w : ℕ) (c : Rattle.local_law.specs.Below.heap_partition.declared.value.Cell.Cell) → f (flies w c) ≡ 0 → P c.object)
     → (o : ObjNo) (b : List Thing) → tot f b ≡ 0 → 1 ≤ tot (cells o) b → P o
 of_cells f P g h o [] z l = absurd (omega (arith, l))
 of_cells f P g h o (lies s a c ∷ b) z l = by (same_object c.object o) refl (of_cells f P g h o b (omega (arith, z)))

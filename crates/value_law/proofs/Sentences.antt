@@ -1,29 +1,29 @@
 -- The sentences on names: colours below the limit, counts from 1 and no further than a server has come, and few names.
 use Rattle.std.proofs.Common.{◌≡◌, ℕ, zero, suc, ◌+◌, ◌*◌, ◌≤◌, ◌==◌, ◌&&◌, ◌||◌, not, nat_lt, nat_le, List, [], ◌∷◌, refl, sym, subst, arith}
 use Rattle.std.proofs.lemmas.Bool.Decides.{nat_tests}
-use Rattle.fr_base.specs.declared.name.MutexNo.{MutexNo}
-use Rattle.fr_base.specs.declared.name.ObjNo.{ObjNo}
-use Rattle.fr_base.specs.declared.instruction.Instr.{Instr}
-use Rattle.thread_state.specs.View.{ThreadState, is_over}
-use Rattle.global_addr.specs.Words.{colour_of}
-use Rattle.thread_state.specs.declared.value.Value.{Value}
-use Rattle.thread_state.specs.declared.value.Value.TheVariants as value
-use Rattle.journal.specs.View.{EntryView}
-use Rattle.server_model.specs.declared.event.Event.{Event}
-use Rattle.server_model.specs.Servers.{Server, Cluster, server_at}
-use Rattle.server_model.specs.Clusters.{apply}
-use Rattle.heap_law.specs.Names.{tot, other, some}
-use Rattle.heap_law.specs.Things.{Thing, at_slot, at_temp, in_cell, borrows, locks, lies, vacant, stands, counts, things_of}
-use Rattle.heap_law.specs.Sight.{sight}
-use Rattle.heap_law.specs.Placing.{words, next_colours}
-use Rattle.heap_law.specs.Requests.{home_of}
-use Rattle.heap_law.specs.Naming.{threads, named_mutexes, count_of, started_at, made_at, uncounted_thread, uncounted_mutex, zeroth_thread, zeroth_mutex, events_of, many_names}
-use Rattle.heap_law.specs.Coherent.{Holds, IsSound, below_limit, names_counted, counts_from_one, few_names}
-use Rattle.heap_law.proofs.Names.{and_left, and_right, if_none}
-use Rattle.event_law.specs.Laws.{Gives, FewEvents}
-use Rattle.event_law.proofs.Results.{weaker}
-use Rattle.event_law.proofs.Boxes.{tot_le}
-use Rattle.event_law.proofs.Askers.{other_none}
+use Rattle.local_law.specs.Below.fr_base.declared.name.MutexNo.{MutexNo}
+use Rattle.local_law.specs.Below.fr_base.declared.name.ObjNo.{ObjNo}
+use Rattle.local_law.specs.Below.fr_base.declared.instruction.Instr.{Instr}
+use Rattle.local_law.specs.Below.thread_state.View.{ThreadState, is_over}
+use Rattle.local_law.specs.Below.global_addr.Words.{colour_of}
+use Rattle.local_law.specs.Below.thread_state.declared.value.Value.{Value}
+use Rattle.local_law.specs.Below.thread_state.declared.value.Value.TheVariants as value
+use Rattle.local_law.specs.Below.journal.View.{EntryView}
+use Rattle.local_law.specs.Below.server_model.declared.event.Event.{Event}
+use Rattle.local_law.specs.Below.server_model.Servers.{Server, Cluster, server_at}
+use Rattle.local_law.specs.Below.server_model.Clusters.{apply}
+use Rattle.local_law.specs.Below.heap_law.Names.{tot, other, some}
+use Rattle.local_law.specs.Below.heap_law.Things.{Thing, at_slot, at_temp, in_cell, borrows, locks, lies, vacant, stands, counts, things_of}
+use Rattle.local_law.specs.Below.heap_law.Sight.{sight}
+use Rattle.local_law.specs.Below.heap_law.Placing.{words, next_colours}
+use Rattle.local_law.specs.Below.heap_law.Requests.{home_of}
+use Rattle.local_law.specs.Below.heap_law.Naming.{threads, named_mutexes, count_of, started_at, made_at, uncounted_thread, uncounted_mutex, zeroth_thread, zeroth_mutex, events_of, many_names}
+use Rattle.local_law.specs.Below.heap_law.Coherent.{Holds, IsSound, below_limit, names_counted, counts_from_one, few_names}
+use Rattle.local_law.proofs.Below.heap_law.Names.{and_left, and_right, if_none}
+use Rattle.local_law.specs.Below.event_law.Laws.{Gives, FewEvents}
+use Rattle.local_law.proofs.Below.event_law.Results.{weaker}
+use Rattle.local_law.proofs.Below.event_law.Boxes.{tot_le}
+use Rattle.local_law.proofs.Below.event_law.Askers.{other_none}
 use Rattle.local_law.specs.Laws.{EachEventKeeps}
 use Rattle.value_law.proofs.Fit.{Weights, marks, Base}
 use Rattle.value_law.proofs.Sums.{holder_of, loose, asked_of, no_asker, cell_object, going_of, copy_of, no_copy, stray}

@@ -1,19 +1,19 @@
 -- A weight of names that is at most two others together gives each thing at most what they give.
 use Rattle.std.proofs.Common.{ℕ, ◌+◌, ◌≤◌, List, [], ◌∷◌, arith}
-use Rattle.fr_base.specs.declared.name.MutexNo.{MutexNo}
-use Rattle.fr_base.specs.declared.release.Released.{Released}
-use Rattle.fr_base.specs.declared.release.Released.TheVariants as released
-use Rattle.heap_partition.specs.declared.value.Owned.{Owned}
-use Rattle.heap_partition.specs.declared.value.Owned.TheVariants as owned
-use Rattle.join_home.specs.Tasks.{TaskState, asked, in_pair}
-use Rattle.thread_state.specs.declared.phase.Phase.{Phase}
-use Rattle.thread_state.specs.declared.phase.Phase.TheVariants as phase
-use Rattle.server_msgs.specs.declared.message.Message.{Message}
-use Rattle.server_msgs.specs.declared.message.Message.TheVariants as message
-use Rattle.heap_law.specs.Names.{tot}
-use Rattle.heap_law.specs.Things.{Thing, holds, shares, borrows, locks, lies, flies, copied, sent, stands, at_home, queued, noted}
-use Rattle.heap_law.specs.Sharing.{owned_mutex, released_mutex, phase_mutex}
-use Rattle.heap_law.specs.Naming.{owned_thread, released_thread, message_thread, phase_thread, noted_thread, threads, fetched_mutex, named_mutexes}
+use Rattle.local_law.specs.Below.fr_base.declared.name.MutexNo.{MutexNo}
+use Rattle.local_law.specs.Below.fr_base.declared.release.Released.{Released}
+use Rattle.local_law.specs.Below.fr_base.declared.release.Released.TheVariants as released
+use Rattle.local_law.specs.Below.heap_partition.declared.value.Owned.{Owned}
+use Rattle.local_law.specs.Below.heap_partition.declared.value.Owned.TheVariants as owned
+use Rattle.local_law.specs.Below.join_home.Tasks.{TaskState, asked, in_pair}
+use Rattle.local_law.specs.Below.thread_state.declared.phase.Phase.{Phase}
+use Rattle.local_law.specs.Below.thread_state.declared.phase.Phase.TheVariants as phase
+use Rattle.local_law.specs.Below.server_msgs.declared.message.Message.{Message}
+use Rattle.local_law.specs.Below.server_msgs.declared.message.Message.TheVariants as message
+use Rattle.local_law.specs.Below.heap_law.Names.{tot}
+use Rattle.local_law.specs.Below.heap_law.Things.{Thing, holds, shares, borrows, locks, lies, flies, copied, sent, stands, at_home, queued, noted}
+use Rattle.local_law.specs.Below.heap_law.Sharing.{owned_mutex, released_mutex, phase_mutex}
+use Rattle.local_law.specs.Below.heap_law.Naming.{owned_thread, released_thread, message_thread, phase_thread, noted_thread, threads, fetched_mutex, named_mutexes}
 
 -- SUMS
 

@@ -1,44 +1,44 @@
 -- A step keeps what its server and its thread name, where the new names that its instruction gives fit.
 use Rattle.std.proofs.Common.{◌≡◌, ℕ, suc, ◌+◌, ◌-◌, ◌*◌, ◌^◌, ◌&&◌, nat_lt, not, Bool, true, false, List, [], ◌∷◌, ◌++◌, Some, None, refl, sym, ap, subst, ◌∙◌, arith}
 use Rattle.std.specs.List.{AllByRecursion}
-use Rattle.fr_base.specs.Rooms.{WithRoom}
-use Rattle.fr_base.specs.declared.place.Lval.{Lval}
-use Rattle.fr_base.specs.declared.instruction.Instr.{Instr}
-use Rattle.fr_base.specs.declared.instruction.Instr.TheVariants as instr
-use Rattle.fr_base.specs.declared.instruction.Operand.{Operand}
-use Rattle.heap_partition.specs.declared.value.BoxPtr.{BoxPtr}
-use Rattle.heap_partition.specs.declared.value.Owned.{Owned}
-use Rattle.heap_partition.specs.declared.value.Owned.TheVariants as owned
-use Rattle.global_addr.specs.Words.{colour_of, server_of}
-use Rattle.owner_box.specs.Partition.{made, renewed}
-use Rattle.read_cache.specs.Cache.{Copy, users, pin}
-use Rattle.mutex_home.specs.Mutexes.{can_make, make, next_mutex}
-use Rattle.join_home.specs.Tasks.{Task, going, in_pair, can_begin, begin, can_begin_pair, begin_pair}
-use Rattle.migration.specs.Packing.{unpin_all}
-use Rattle.thread_state.specs.View.{ThreadState, new_thread, is_over}
-use Rattle.thread_state.specs.declared.phase.Phase.{Phase}
-use Rattle.thread_state.specs.declared.phase.Phase.TheVariants as phase
-use Rattle.thread_state.specs.declared.value.Value.{Value}
-use Rattle.thread_state.specs.declared.value.Value.TheVariants as value
-use Rattle.server_msgs.specs.declared.message.Message.{Message}
-use Rattle.server_msgs.specs.declared.message.Message.TheVariants as message
-use Rattle.journal.specs.declared.act.Act.TheVariants as act
-use Rattle.server_model.specs.Servers.{Rest}
-use Rattle.server_model.specs.Work.{Work, Hand, sent_from, leads_here, with_cache, with_phase, working, front_of, then_some}
-use Rattle.server_model.specs.NewWords.{NewWord, can_grow, is_last, issue_placed}
-use Rattle.server_model.specs.Places.{Spot, value_at}
-use Rattle.server_model.specs.Start.{next_thread, server_for, start_thread, capture}
-use Rattle.server_model.specs.Drop.{home_of, give_up}
-use Rattle.server_model.specs.Prepare.{ready, access_of, prepare, ask_copy, ask_object}
-use Rattle.server_model.specs.Commit.{go_on, next_object, push_box, make_box, begun, pair_begun, spawn_with, par_with, end_with, label_dropped, mutex_made}
-use Rattle.server_model.specs.Events.{step}
-use Rattle.heap_law.specs.Placing.{phase_word}
-use Rattle.heap_law.specs.Naming.{phase_thread}
-use Rattle.heap_law.specs.Sharing.{phase_mutex}
-use Rattle.heap_law.proofs.Names.{if_none, and_right}
-use Rattle.event_law.specs.Laws.{Gives}
-use Rattle.event_law.proofs.Results.{over_gives, bind_gives, test_gives}
-use Rattle.event_law.proofs.Known.{all_append, all_take}
+use Rattle.local_law.specs.Below.fr_base.Rooms.{WithRoom}
+use Rattle.local_law.specs.Below.fr_base.declared.place.Lval.{Lval}
+use Rattle.local_law.specs.Below.fr_base.declared.instruction.Instr.{Instr}
+use Rattle.local_law.specs.Below.fr_base.declared.instruction.Instr.TheVariants as instr
+use Rattle.local_law.specs.Below.fr_base.declared.instruction.Operand.{Operand}
+use Rattle.local_law.specs.Below.heap_partition.declared.value.BoxPtr.{BoxPtr}
+use Rattle.local_law.specs.Below.heap_partition.declared.value.Owned.{Owned}
+use Rattle.local_law.specs.Below.heap_partition.declared.value.Owned.TheVariants as owned
+use Rattle.local_law.specs.Below.global_addr.Words.{colour_of, server_of}
+use Rattle.local_law.specs.Below.owner_box.Partition.{made, renewed}
+use Rattle.local_law.specs.Below.read_cache.Cache.{Copy, users, pin}
+use Rattle.local_law.specs.Below.mutex_home.Mutexes.{can_make, make, next_mutex}
+use Rattle.local_law.specs.Below.join_home.Tasks.{Task, going, in_pair, can_begin, begin, can_begin_pair, begin_pair}
+use Rattle.local_law.specs.Below.migration.Packing.{unpin_all}
+use Rattle.local_law.specs.Below.thread_state.View.{ThreadState, new_thread, is_over}
+use Rattle.local_law.specs.Below.thread_state.declared.phase.Phase.{Phase}
+use Rattle.local_law.specs.Below.thread_state.declared.phase.Phase.TheVariants as phase
+use Rattle.local_law.specs.Below.thread_state.declared.value.Value.{Value}
+use Rattle.local_law.specs.Below.thread_state.declared.value.Value.TheVariants as value
+use Rattle.local_law.specs.Below.server_msgs.declared.message.Message.{Message}
+use Rattle.local_law.specs.Below.server_msgs.declared.message.Message.TheVariants as message
+use Rattle.local_law.specs.Below.journal.declared.act.Act.TheVariants as act
+use Rattle.local_law.specs.Below.server_model.Servers.{Rest}
+use Rattle.local_law.specs.Below.server_model.Work.{Work, Hand, sent_from, leads_here, with_cache, with_phase, working, front_of, then_some}
+use Rattle.local_law.specs.Below.server_model.NewWords.{NewWord, can_grow, is_last, issue_placed}
+use Rattle.local_law.specs.Below.server_model.Places.{Spot, value_at}
+use Rattle.local_law.specs.Below.server_model.Start.{next_thread, server_for, start_thread, capture}
+use Rattle.local_law.specs.Below.server_model.Drop.{home_of, give_up}
+use Rattle.local_law.specs.Below.server_model.Prepare.{ready, access_of, prepare, ask_copy, ask_object}
+use Rattle.local_law.specs.Below.server_model.Commit.{go_on, next_object, push_box, make_box, begun, pair_begun, spawn_with, par_with, end_with, label_dropped, mutex_made}
+use Rattle.local_law.specs.Below.server_model.Events.{step}
+use Rattle.local_law.specs.Below.heap_law.Placing.{phase_word}
+use Rattle.local_law.specs.Below.heap_law.Naming.{phase_thread}
+use Rattle.local_law.specs.Below.heap_law.Sharing.{phase_mutex}
+use Rattle.local_law.proofs.Below.heap_law.Names.{if_none, and_right}
+use Rattle.local_law.specs.Below.event_law.Laws.{Gives}
+use Rattle.local_law.proofs.Below.event_law.Results.{over_gives, bind_gives, test_gives}
+use Rattle.local_law.proofs.Below.event_law.Known.{all_append, all_take}
 use Rattle.local_law.proofs.Small.{Of, Small, Follows}
 use Rattle.local_law.proofs.Plainly.{Settles, Quiet, moves_by, Acts, EndsStep, steps}
 use Rattle.value_law.proofs.Fit.{Weights, Closed, marks, OwnedFits, Fits, TempFits, WordFits, MutexFit, TaskFits, owned_temp, ThreadFit, ThreadBody, Live, MessageFits, PartitionFit, made_fits, renewed_fits, issued_fits, renewal_fits, unpinned_fit, Base, RestFits}

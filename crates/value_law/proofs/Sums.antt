@@ -1,25 +1,25 @@
 -- All that a server names fits exactly where its things weigh nothing.
 use Rattle.std.proofs.Common.{◌≡◌, ℕ, ◌+◌, ◌^◌, ◌<◌, not, Bool, true, false, if◌then◌else◌, List, [], ◌∷◌, ◌++◌, Option, Some, None, refl, sym, subst, arith}
 use Rattle.std.specs.List.{AllByRecursion}
-use Rattle.fr_base.specs.declared.name.MutexNo.{MutexNo}
-use Rattle.fr_base.specs.declared.name.ObjNo.{ObjNo}
-use Rattle.heap_partition.specs.declared.value.Cell.{Cell}
-use Rattle.heap_partition.specs.declared.value.Owned.{Owned}
-use Rattle.mut_borrow.specs.declared.shared.SharedRef.{SharedRef}
-use Rattle.mutex_home.specs.Mutexes.{Mutex}
-use Rattle.join_home.specs.Tasks.{Task, TaskState, going, let_go, kept, asked, in_pair}
-use Rattle.thread_state.specs.View.{ThreadState, is_over}
-use Rattle.thread_state.specs.declared.value.Value.{Value}
-use Rattle.thread_state.specs.declared.value.Value.TheVariants as value
-use Rattle.server_msgs.specs.declared.message.Message.{Message}
-use Rattle.server_msgs.specs.declared.message.Message.TheVariants as message
-use Rattle.server_model.specs.Servers.{Server}
-use Rattle.heap_law.specs.Names.{tot, if_so}
-use Rattle.heap_law.specs.Things.{sent, queued, noted, at_temp, Thing, borrows, locks, lies, flies, vacant, copied, uses, retired, stands, things_at, is_free, pin_things, slot_things, temp_things, gift_things, walk_things, thread_things, standing_things, message_things, waiting_things, leaving_things, cell_things, free_things, copy_things, content_things, queue_things, mutex_things, task_things, server_things}
-use Rattle.heap_law.specs.Placing.{words}
-use Rattle.heap_law.specs.Naming.{threads, named_mutexes}
-use Rattle.heap_law.proofs.Sums.{tot-append, server_parts}
-use Rattle.event_law.specs.Laws.{Gives}
+use Rattle.local_law.specs.Below.fr_base.declared.name.MutexNo.{MutexNo}
+use Rattle.local_law.specs.Below.fr_base.declared.name.ObjNo.{ObjNo}
+use Rattle.local_law.specs.Below.heap_partition.declared.value.Cell.{Cell}
+use Rattle.local_law.specs.Below.heap_partition.declared.value.Owned.{Owned}
+use Rattle.local_law.specs.Below.mut_borrow.declared.shared.SharedRef.{SharedRef}
+use Rattle.local_law.specs.Below.mutex_home.Mutexes.{Mutex}
+use Rattle.local_law.specs.Below.join_home.Tasks.{Task, TaskState, going, let_go, kept, asked, in_pair}
+use Rattle.local_law.specs.Below.thread_state.View.{ThreadState, is_over}
+use Rattle.local_law.specs.Below.thread_state.declared.value.Value.{Value}
+use Rattle.local_law.specs.Below.thread_state.declared.value.Value.TheVariants as value
+use Rattle.local_law.specs.Below.server_msgs.declared.message.Message.{Message}
+use Rattle.local_law.specs.Below.server_msgs.declared.message.Message.TheVariants as message
+use Rattle.local_law.specs.Below.server_model.Servers.{Server}
+use Rattle.local_law.specs.Below.heap_law.Names.{tot, if_so}
+use Rattle.local_law.specs.Below.heap_law.Things.{sent, queued, noted, at_temp, Thing, borrows, locks, lies, flies, vacant, copied, uses, retired, stands, things_at, is_free, pin_things, slot_things, temp_things, gift_things, walk_things, thread_things, standing_things, message_things, waiting_things, leaving_things, cell_things, free_things, copy_things, content_things, queue_things, mutex_things, task_things, server_things}
+use Rattle.local_law.specs.Below.heap_law.Placing.{words}
+use Rattle.local_law.specs.Below.heap_law.Naming.{threads, named_mutexes}
+use Rattle.local_law.proofs.Below.heap_law.Sums.{tot-append, server_parts}
+use Rattle.local_law.specs.Below.event_law.Laws.{Gives}
 use Rattle.local_law.proofs.Handed.{all_none, none_all}
 use Rattle.value_law.proofs.Fit.{Weights, message_asker, OwnedFits, Fits, TempFits, WordFits, CellFits, CopyFits, ThreadFits, MessageFits, SentFits, FreeFits, AskerFits, MutexFit, StateFits, TaskFits, Base, RestFits}
 

@@ -1,6 +1,6 @@
 //! What each event keeps of names, one clause for each sentence.
 
-ghost use Rattle.heap_law.specs.Coherent.{askers_stand, below_limit, counts_from_one, few_names, holders_short, marks_in_slots, names_counted, objects_made, return_right};
+ghost use Rattle.local_law.specs.Below.heap_law.Coherent.{askers_stand, below_limit, counts_from_one, few_names, holders_short, marks_in_slots, names_counted, objects_made, return_right};
 ghost use Rattle.local_law.specs.Laws.{EachCoherentEventKeeps, EachEventKeeps};
 
 /// What all that is named keeps in a sound cluster, wherever it stands: each word has a colour below the limit, and so has what comes next at a free address; the count of

@@ -1,24 +1,24 @@
 -- How much a weight that sees threads and cells alone sees of the rest of a server: what its partition has, and what its messages carry.
 use Rattle.std.proofs.Common.{◌≡◌, ℕ, ◌+◌, ◌≤◌, Bool, true, false, if◌then◌else◌, List, [], ◌∷◌, ◌++◌, Option, Some, None, refl, ap, arith}
-use Rattle.fr_base.specs.declared.label.Plain.{Plain}
-use Rattle.fr_base.specs.declared.name.MutexNo.{MutexNo}
-use Rattle.heap_partition.specs.Plain.{plain_of}
-use Rattle.heap_partition.specs.declared.value.Owned.{Owned}
-use Rattle.owner_box.specs.View.{PartitionState}
-use Rattle.mutex_home.specs.Mutexes.{Mutex}
-use Rattle.join_home.specs.Tasks.{Task, TaskState, going, let_go, kept, asked, in_pair}
-use Rattle.mut_borrow.specs.declared.shared.SharedRef.{SharedRef}
-use Rattle.thread_state.specs.View.{ThreadState}
-use Rattle.thread_state.specs.declared.value.Value.{Value}
-use Rattle.thread_state.specs.declared.value.Value.TheVariants as value
-use Rattle.server_msgs.specs.declared.message.Message.{Message}
-use Rattle.server_model.specs.Servers.{Sent, Rest}
-use Rattle.heap_law.specs.Names.{tot}
-use Rattle.heap_law.specs.Things.{Spot, as_gift, as_content, as_result, Location, at_slot, at_temp, in_slot, in_temp, Thing, stands, things_at, partition_things, copy_things, content_things, queue_things, mutex_things, result_things, task_things, value_things, gift_things, slot_things, temp_things, thread_things, waiting_things, leaving_things}
-use Rattle.heap_law.proofs.Sums.{tot-append}
-use Rattle.event_law.proofs.Bags.{counts_of, rest_things}
-use Rattle.still_law.specs.Shows.{Sign, nothing, a_value, a_branch, a_count, sign_of, note_sign}
-use Rattle.still_law.proofs.Arrivals.{no_pin, thread_parts}
+use Rattle.ask_law.specs.Below.fr_base.declared.label.Plain.{Plain}
+use Rattle.ask_law.specs.Below.fr_base.declared.name.MutexNo.{MutexNo}
+use Rattle.ask_law.specs.Below.heap_partition.Plain.{plain_of}
+use Rattle.ask_law.specs.Below.heap_partition.declared.value.Owned.{Owned}
+use Rattle.ask_law.specs.Below.owner_box.View.{PartitionState}
+use Rattle.ask_law.specs.Below.mutex_home.Mutexes.{Mutex}
+use Rattle.ask_law.specs.Below.join_home.Tasks.{Task, TaskState, going, let_go, kept, asked, in_pair}
+use Rattle.ask_law.specs.Below.mut_borrow.declared.shared.SharedRef.{SharedRef}
+use Rattle.ask_law.specs.Below.thread_state.View.{ThreadState}
+use Rattle.ask_law.specs.Below.thread_state.declared.value.Value.{Value}
+use Rattle.ask_law.specs.Below.thread_state.declared.value.Value.TheVariants as value
+use Rattle.ask_law.specs.Below.server_msgs.declared.message.Message.{Message}
+use Rattle.ask_law.specs.Below.server_model.Servers.{Sent, Rest}
+use Rattle.ask_law.specs.Below.heap_law.Names.{tot}
+use Rattle.ask_law.specs.Below.heap_law.Things.{Spot, as_gift, as_content, as_result, Location, at_slot, at_temp, in_slot, in_temp, Thing, stands, things_at, partition_things, copy_things, content_things, queue_things, mutex_things, result_things, task_things, value_things, gift_things, slot_things, temp_things, thread_things, waiting_things, leaving_things}
+use Rattle.ask_law.proofs.Below.heap_law.Sums.{tot-append}
+use Rattle.ask_law.proofs.Below.event_law.Bags.{counts_of, rest_things}
+use Rattle.rewrite_law.specs.Below.still_law.Shows.{Sign, nothing, a_value, a_branch, a_count, sign_of, note_sign}
+use Rattle.rewrite_law.proofs.Below.still_law.Arrivals.{no_pin, thread_parts}
 
 -- it sees threads and cells alone
 pub record SeesStanding (w : Sign → ℕ) : Type 0 where

@@ -2,64 +2,64 @@
 use Rattle.std.proofs.Common.{◌≡◌, ℕ, ℤ, zero, suc, ◌+◌, ◌≤◌, ◌==◌, ◌&&◌, nat_lt, is_some, Bool, true, false, if◌then◌else◌, List, [], ◌∷◌, ◌++◌, Option, Some, None, option_map, refl, sym, ap, subst, ◌∙◌, arith}
 use Rattle.std.specs.Prelude.{slice_get, length}
 use Rattle.std.specs.Bool.{⊤}
-use Rattle.fr_base.specs.Rooms.{WithRoom}
-use Rattle.fr_base.specs.declared.label.Plain.{Plain}
-use Rattle.fr_base.specs.declared.name.MutexNo.{MutexNo}
-use Rattle.fr_base.specs.declared.name.ObjNo.{ObjNo}
-use Rattle.fr_base.specs.declared.place.Lval.{Lval}
-use Rattle.fr_base.specs.declared.place.Op.{Op}
-use Rattle.fr_plain.specs.Acts.{result_of}
-use Rattle.fr_base.specs.declared.step.Fresh.{Fresh}
-use Rattle.fr_base.specs.declared.step.Fresh.TheVariants as fresh
-use Rattle.fr_base.specs.declared.release.Released.TheVariants as released
-use Rattle.fr_base.specs.declared.instruction.Instr.{Instr}
-use Rattle.fr_base.specs.declared.instruction.Instr.TheVariants as instr
-use Rattle.fr_base.specs.declared.instruction.Operand.{Operand}
-use Rattle.fr_base.specs.declared.instruction.Operand.TheVariants as operand
-use Rattle.global_addr.specs.Words.{colour_of, server_of, address_of}
-use Rattle.heap_partition.specs.Plain.{plain_of}
-use Rattle.heap_partition.specs.declared.value.Cell.{Cell}
-use Rattle.heap_partition.specs.declared.value.Owned.{Owned}
-use Rattle.heap_partition.specs.declared.value.Owned.TheVariants as owned
-use Rattle.colour_retire.specs.Colours.{picked}
-use Rattle.owner_box.specs.View.{PartitionState}
-use Rattle.owner_box.specs.Partition.{cell_of, stored, made}
-use Rattle.read_cache.specs.Cache.{Copy, can_unpin}
-use Rattle.mutex_home.specs.Mutexes.{can_make}
-use Rattle.join_home.specs.Tasks.{can_begin, can_begin_pair}
-use Rattle.mut_borrow.specs.Refs.{finish_word}
-use Rattle.mut_borrow.specs.declared.shared.SharedRef.{SharedRef}
-use Rattle.mut_borrow.specs.declared.mutable.MutRef.{MutRef}
-use Rattle.migration.specs.Packing.{unpin_all}
-use Rattle.thread_state.specs.View.{new_thread}
-use Rattle.thread_state.specs.declared.phase.Phase.{Phase}
-use Rattle.thread_state.specs.declared.phase.Phase.TheVariants as phase
-use Rattle.thread_state.specs.declared.value.Value.{Value}
-use Rattle.thread_state.specs.declared.value.Value.TheVariants as value
-use Rattle.server_msgs.specs.declared.message.Message.{Message}
-use Rattle.server_msgs.specs.declared.message.Message.TheVariants as message
-use Rattle.journal.specs.declared.act.Act.{Act}
-use Rattle.journal.specs.declared.act.Act.TheVariants as act
-use Rattle.server_model.specs.Servers.{Rest}
-use Rattle.server_model.specs.Work.{Work, Hand, Popped, last_of, front_of, sent_from, leads_here, look, push_slot, push_temp, pop_temp, pop_slot, pop, pop_owned, pop_int, taken_as, owned_of, int_of, task_of, then_some, note, label_all, working, with_partition, with_cache, with_phase}
-use Rattle.server_model.specs.NewWords.{NewWord, can_grow, issue_placed}
-use Rattle.server_model.specs.Places.{Spot, in_slot, on_top, in_cell, in_copy, nowhere, cell_at, value_at, load_at, note_slot, note_write, put_cell, put_slot, put_at, set_pointer, second_of}
-use Rattle.server_model.specs.Drop.{home_of, give_up, unpin_ref, finished_at, finish, drop_value}
-use Rattle.server_model.specs.Start.{next_thread, server_for, start_thread, capture}
-use Rattle.server_model.specs.Commit.{Committed, done, waits, refused, done_where, go_on, goes_on, waiting, let_slot, label_dropped, replace_slot, store_labels, store_at, replace_at, assign, take_out, read_as, read, shared_from, borrow_from, borrow, mutable_from, borrow_mut_from, borrow_mut, discard, drop_slot, next_object, push_box, make_box, box_up, arith as calculate, print, begun, spawn_with, spawn, ask_join, take_gift, join, pair_begun, par_with, par, par_end, end_with, end_thread, mutex_made, mutex, mutex_at, ask_dup, dup, ask_lock, push_content, lock, held_of, send_content, unlock, commit, settle}
-use Rattle.server_model.specs.Events.{Stepped, done_step, wait_step, committed}
-use Rattle.heap_law.specs.Names.{tot}
-use Rattle.heap_law.specs.Things.{Thing, partition_things}
-use Rattle.heap_law.proofs.Names.{and_left, and_right}
-use Rattle.event_law.specs.Laws.{Gives}
-use Rattle.event_law.proofs.Results.{then_gives, map_gives, test_gives, bind_gives, over_gives, weaker}
-use Rattle.event_law.proofs.Bags.{rest_things, of_sending, sent_number}
-use Rattle.event_law.proofs.Values.{stores}
-use Rattle.event_law.proofs.Objects.{makes}
-use Rattle.still_law.specs.Shows.{Sign, nothing, an_object, sign_of}
-use Rattle.still_law.proofs.Addresses.{InPlace, stored_places, next_empty, no_vacancy}
-use Rattle.still_law.proofs.Sites.{shown, Moves}
-use Rattle.still_law.proofs.Readied.{Kept, set_ready}
+use Rattle.ask_law.specs.Below.fr_base.Rooms.{WithRoom}
+use Rattle.ask_law.specs.Below.fr_base.declared.label.Plain.{Plain}
+use Rattle.ask_law.specs.Below.fr_base.declared.name.MutexNo.{MutexNo}
+use Rattle.ask_law.specs.Below.fr_base.declared.name.ObjNo.{ObjNo}
+use Rattle.ask_law.specs.Below.fr_base.declared.place.Lval.{Lval}
+use Rattle.ask_law.specs.Below.fr_base.declared.place.Op.{Op}
+use Rattle.ask_law.specs.Below.fr_plain.Acts.{result_of}
+use Rattle.ask_law.specs.Below.fr_base.declared.step.Fresh.{Fresh}
+use Rattle.ask_law.specs.Below.fr_base.declared.step.Fresh.TheVariants as fresh
+use Rattle.ask_law.specs.Below.fr_base.declared.release.Released.TheVariants as released
+use Rattle.ask_law.specs.Below.fr_base.declared.instruction.Instr.{Instr}
+use Rattle.ask_law.specs.Below.fr_base.declared.instruction.Instr.TheVariants as instr
+use Rattle.ask_law.specs.Below.fr_base.declared.instruction.Operand.{Operand}
+use Rattle.ask_law.specs.Below.fr_base.declared.instruction.Operand.TheVariants as operand
+use Rattle.ask_law.specs.Below.global_addr.Words.{colour_of, server_of, address_of}
+use Rattle.ask_law.specs.Below.heap_partition.Plain.{plain_of}
+use Rattle.ask_law.specs.Below.heap_partition.declared.value.Cell.{Cell}
+use Rattle.ask_law.specs.Below.heap_partition.declared.value.Owned.{Owned}
+use Rattle.ask_law.specs.Below.heap_partition.declared.value.Owned.TheVariants as owned
+use Rattle.ask_law.specs.Below.colour_retire.Colours.{picked}
+use Rattle.ask_law.specs.Below.owner_box.View.{PartitionState}
+use Rattle.ask_law.specs.Below.owner_box.Partition.{cell_of, stored, made}
+use Rattle.ask_law.specs.Below.read_cache.Cache.{Copy, can_unpin}
+use Rattle.ask_law.specs.Below.mutex_home.Mutexes.{can_make}
+use Rattle.ask_law.specs.Below.join_home.Tasks.{can_begin, can_begin_pair}
+use Rattle.ask_law.specs.Below.mut_borrow.Refs.{finish_word}
+use Rattle.ask_law.specs.Below.mut_borrow.declared.shared.SharedRef.{SharedRef}
+use Rattle.ask_law.specs.Below.mut_borrow.declared.mutable.MutRef.{MutRef}
+use Rattle.ask_law.specs.Below.migration.Packing.{unpin_all}
+use Rattle.ask_law.specs.Below.thread_state.View.{new_thread}
+use Rattle.ask_law.specs.Below.thread_state.declared.phase.Phase.{Phase}
+use Rattle.ask_law.specs.Below.thread_state.declared.phase.Phase.TheVariants as phase
+use Rattle.ask_law.specs.Below.thread_state.declared.value.Value.{Value}
+use Rattle.ask_law.specs.Below.thread_state.declared.value.Value.TheVariants as value
+use Rattle.ask_law.specs.Below.server_msgs.declared.message.Message.{Message}
+use Rattle.ask_law.specs.Below.server_msgs.declared.message.Message.TheVariants as message
+use Rattle.ask_law.specs.Below.journal.declared.act.Act.{Act}
+use Rattle.ask_law.specs.Below.journal.declared.act.Act.TheVariants as act
+use Rattle.ask_law.specs.Below.server_model.Servers.{Rest}
+use Rattle.ask_law.specs.Below.server_model.Work.{Work, Hand, Popped, last_of, front_of, sent_from, leads_here, look, push_slot, push_temp, pop_temp, pop_slot, pop, pop_owned, pop_int, taken_as, owned_of, int_of, task_of, then_some, note, label_all, working, with_partition, with_cache, with_phase}
+use Rattle.ask_law.specs.Below.server_model.NewWords.{NewWord, can_grow, issue_placed}
+use Rattle.ask_law.specs.Below.server_model.Places.{Spot, in_slot, on_top, in_cell, in_copy, nowhere, cell_at, value_at, load_at, note_slot, note_write, put_cell, put_slot, put_at, set_pointer, second_of}
+use Rattle.ask_law.specs.Below.server_model.Drop.{home_of, give_up, unpin_ref, finished_at, finish, drop_value}
+use Rattle.ask_law.specs.Below.server_model.Start.{next_thread, server_for, start_thread, capture}
+use Rattle.ask_law.specs.Below.server_model.Commit.{Committed, done, waits, refused, done_where, go_on, goes_on, waiting, let_slot, label_dropped, replace_slot, store_labels, store_at, replace_at, assign, take_out, read_as, read, shared_from, borrow_from, borrow, mutable_from, borrow_mut_from, borrow_mut, discard, drop_slot, next_object, push_box, make_box, box_up, arith as calculate, print, begun, spawn_with, spawn, ask_join, take_gift, join, pair_begun, par_with, par, par_end, end_with, end_thread, mutex_made, mutex, mutex_at, ask_dup, dup, ask_lock, push_content, lock, held_of, send_content, unlock, commit, settle}
+use Rattle.ask_law.specs.Below.server_model.Events.{Stepped, done_step, wait_step, committed}
+use Rattle.ask_law.specs.Below.heap_law.Names.{tot}
+use Rattle.ask_law.specs.Below.heap_law.Things.{Thing, partition_things}
+use Rattle.ask_law.proofs.Below.heap_law.Names.{and_left, and_right}
+use Rattle.ask_law.specs.Below.event_law.Laws.{Gives}
+use Rattle.ask_law.proofs.Below.event_law.Results.{then_gives, map_gives, test_gives, bind_gives, over_gives, weaker}
+use Rattle.ask_law.proofs.Below.event_law.Bags.{rest_things, of_sending, sent_number}
+use Rattle.ask_law.proofs.Below.event_law.Values.{stores}
+use Rattle.ask_law.proofs.Below.event_law.Objects.{makes}
+use Rattle.rewrite_law.specs.Below.still_law.Shows.{Sign, nothing, an_object, sign_of}
+use Rattle.rewrite_law.proofs.Below.still_law.Addresses.{InPlace, stored_places, next_empty, no_vacancy}
+use Rattle.rewrite_law.proofs.Below.still_law.Sites.{shown, Moves}
+use Rattle.rewrite_law.proofs.Below.still_law.Readied.{Kept, set_ready}
 use Rattle.wait_law.proofs.Amounts.{SeesStanding, amount, rest_seen}
 
 same_hand : {a b : Hand} → Some a ≡ Some b → a ≡ b

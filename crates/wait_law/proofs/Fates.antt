@@ -2,51 +2,51 @@
 use Rattle.std.proofs.Common.{◌≡◌, ℕ, ◌+◌, ◌==◌, ◌&&◌, ◌||◌, not, Bool, true, false, nat_lt, if◌then◌else◌, List, [], ◌∷◌, Option, Some, None, refl, sym, subst, arith}
 use Rattle.std.specs.Prelude.{slice_get, option_map, length, drop}
 use Rattle.std.specs.List.{AllByRecursion}
-use Rattle.fr_base.specs.declared.name.MutexNo.{MutexNo}
-use Rattle.fr_base.specs.declared.instruction.Instr.{Instr}
-use Rattle.fr_base.specs.declared.settings.Options.{Options}
-use Rattle.heap_partition.specs.declared.value.Cell.{Cell}
-use Rattle.heap_partition.specs.declared.value.Owned.{Owned}
-use Rattle.heap_partition.specs.declared.value.Owned.TheVariants as owned
-use Rattle.read_cache.specs.Cache.{Copy, can_evict}
-use Rattle.join_home.specs.Tasks.{Task, ended}
-use Rattle.join_home.specs.declared.answers.EndedAs.{EndedAs}
-use Rattle.join_home.specs.declared.answers.EndedAs.TheVariants as over
-use Rattle.thread_state.specs.View.{ThreadState, new_thread}
-use Rattle.thread_state.specs.declared.phase.Phase.{Phase}
-use Rattle.thread_state.specs.declared.phase.Phase.TheVariants as phase
-use Rattle.thread_state.specs.declared.value.Value.{Value}
-use Rattle.server_msgs.specs.declared.message.Message.{Message}
-use Rattle.server_msgs.specs.declared.message.Message.TheVariants as message
-use Rattle.migration.specs.Packing.{unpin_all, used_words, packed, pack_thread}
-use Rattle.journal.specs.View.{EntryView}
-use Rattle.server_model.specs.declared.event.Event.{Event}
-use Rattle.server_model.specs.declared.event.What.{What}
-use Rattle.server_model.specs.declared.event.What.TheVariants.{Step, Deliver, Evict, Migrate}
-use Rattle.server_model.specs.Servers.{Sent, Server, Cluster, server_at}
-use Rattle.server_model.specs.Work.{Work, Hand, Site, then_some, thread_in, set_thread, without_thread, with_thread, put_back, at_thread, beside_threads, with_tasks, with_phase}
-use Rattle.server_model.specs.Objects.{deliver_fetch, deliver_fetched, deliver_move, deliver_moved, deliver_drop}
-use Rattle.server_model.specs.Sharing.{given, waits_for_lock, deliver_lock, deliver_granted, deliver_unlock, deliver_dup, waits_for_dup, deliver_dupped}
-use Rattle.server_model.specs.Joining.{deliver_join, waits_for_join, deliver_joined, got_par, pair_over, end_answer, deliver_finished, arrive}
-use Rattle.server_model.specs.Moving.{depart}
-use Rattle.server_model.specs.Events.{Stepped, has_phase, can_step, is_ready, enabled, begin_work, begin_at, left_by, received, release, deliver_message, evict_copy, step, step_in, stepped, does}
-use Rattle.server_model.specs.Clusters.{done_at, act_at, apply}
-use Rattle.heap_law.specs.Names.{tot}
-use Rattle.heap_law.specs.Things.{server_things, things_of}
-use Rattle.heap_law.specs.Follow.{Standing, threads_in}
-use Rattle.heap_law.specs.Coherent.{IsSound}
-use Rattle.heap_law.proofs.Names.{and_left}
-use Rattle.event_law.specs.Laws.{Gives, FewEvents}
-use Rattle.event_law.proofs.Results.{then_gives, map_gives, over_gives, test_gives, stand_gives, both_give, weaker}
-use Rattle.event_law.proofs.Known.{all_at}
-use Rattle.event_law.proofs.KnownSound.{on_standing, sum_standing}
-use Rattle.event_law.proofs.Events.{tot-server}
-use Rattle.event_law.proofs.Applied.{handed_on}
-use Rattle.event_law.proofs.Sending.{each_event_sends}
-use Rattle.local_law.proofs.Mail.{Mailed, mail_sent, Replies, Requests, StartsAt, Begins, message_says, step_says}
-use Rattle.local_law.proofs.Goes.{IsAsking}
-use Rattle.local_law.proofs.Threads.{set_all, without_all, with_all, found_all, remove_all, Parcel, Held}
-use Rattle.local_law.proofs.Handed.{Stood as StandsThere, InParcel, from_server, to_server}
+use Rattle.ask_law.specs.Below.fr_base.declared.name.MutexNo.{MutexNo}
+use Rattle.ask_law.specs.Below.fr_base.declared.instruction.Instr.{Instr}
+use Rattle.ask_law.specs.Below.fr_base.declared.settings.Options.{Options}
+use Rattle.ask_law.specs.Below.heap_partition.declared.value.Cell.{Cell}
+use Rattle.ask_law.specs.Below.heap_partition.declared.value.Owned.{Owned}
+use Rattle.ask_law.specs.Below.heap_partition.declared.value.Owned.TheVariants as owned
+use Rattle.ask_law.specs.Below.read_cache.Cache.{Copy, can_evict}
+use Rattle.ask_law.specs.Below.join_home.Tasks.{Task, ended}
+use Rattle.ask_law.specs.Below.join_home.declared.answers.EndedAs.{EndedAs}
+use Rattle.ask_law.specs.Below.join_home.declared.answers.EndedAs.TheVariants as over
+use Rattle.ask_law.specs.Below.thread_state.View.{ThreadState, new_thread}
+use Rattle.ask_law.specs.Below.thread_state.declared.phase.Phase.{Phase}
+use Rattle.ask_law.specs.Below.thread_state.declared.phase.Phase.TheVariants as phase
+use Rattle.ask_law.specs.Below.thread_state.declared.value.Value.{Value}
+use Rattle.ask_law.specs.Below.server_msgs.declared.message.Message.{Message}
+use Rattle.ask_law.specs.Below.server_msgs.declared.message.Message.TheVariants as message
+use Rattle.ask_law.specs.Below.migration.Packing.{unpin_all, used_words, packed, pack_thread}
+use Rattle.ask_law.specs.Below.journal.View.{EntryView}
+use Rattle.ask_law.specs.Below.server_model.declared.event.Event.{Event}
+use Rattle.ask_law.specs.Below.server_model.declared.event.What.{What}
+use Rattle.ask_law.specs.Below.server_model.declared.event.What.TheVariants.{Step, Deliver, Evict, Migrate}
+use Rattle.ask_law.specs.Below.server_model.Servers.{Sent, Server, Cluster, server_at}
+use Rattle.ask_law.specs.Below.server_model.Work.{Work, Hand, Site, then_some, thread_in, set_thread, without_thread, with_thread, put_back, at_thread, beside_threads, with_tasks, with_phase}
+use Rattle.ask_law.specs.Below.server_model.Objects.{deliver_fetch, deliver_fetched, deliver_move, deliver_moved, deliver_drop}
+use Rattle.ask_law.specs.Below.server_model.Sharing.{given, waits_for_lock, deliver_lock, deliver_granted, deliver_unlock, deliver_dup, waits_for_dup, deliver_dupped}
+use Rattle.ask_law.specs.Below.server_model.Joining.{deliver_join, waits_for_join, deliver_joined, got_par, pair_over, end_answer, deliver_finished, arrive}
+use Rattle.ask_law.specs.Below.server_model.Moving.{depart}
+use Rattle.ask_law.specs.Below.server_model.Events.{Stepped, has_phase, can_step, is_ready, enabled, begin_work, begin_at, left_by, received, release, deliver_message, evict_copy, step, step_in, stepped, does}
+use Rattle.ask_law.specs.Below.server_model.Clusters.{done_at, act_at, apply}
+use Rattle.ask_law.specs.Below.heap_law.Names.{tot}
+use Rattle.ask_law.specs.Below.heap_law.Things.{server_things, things_of}
+use Rattle.ask_law.specs.Below.heap_law.Follow.{Standing, threads_in}
+use Rattle.ask_law.specs.Below.heap_law.Coherent.{IsSound}
+use Rattle.ask_law.proofs.Below.heap_law.Names.{and_left}
+use Rattle.ask_law.specs.Below.event_law.Laws.{Gives, FewEvents}
+use Rattle.ask_law.proofs.Below.event_law.Results.{then_gives, map_gives, over_gives, test_gives, stand_gives, both_give, weaker}
+use Rattle.ask_law.proofs.Below.event_law.Known.{all_at}
+use Rattle.ask_law.proofs.Below.event_law.KnownSound.{on_standing, sum_standing}
+use Rattle.ask_law.proofs.Below.event_law.Events.{tot-server}
+use Rattle.ask_law.proofs.Below.event_law.Applied.{handed_on}
+use Rattle.ask_law.proofs.Below.event_law.Sending.{each_event_sends}
+use Rattle.ask_law.proofs.Below.local_law.Mail.{Mailed, mail_sent, Replies, Requests, StartsAt, Begins, message_says, step_says}
+use Rattle.ask_law.proofs.Below.local_law.Goes.{IsAsking}
+use Rattle.ask_law.proofs.Below.local_law.Threads.{set_all, without_all, with_all, found_all, remove_all, Parcel, Held}
+use Rattle.ask_law.proofs.Below.local_law.Handed.{Stood as StandsThere, InParcel, from_server, to_server}
 
 -- what a fact on the threads of a server, and on parcels, needs in an event: what its step makes of its thread, an object or a copy that comes, what a home gives
 -- and the end of a pair; and that a thread arrives, starts and leaves

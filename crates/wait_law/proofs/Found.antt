@@ -1,18 +1,18 @@
 -- What such weights find in a list of things: a thread that shows the same, and a cell of an object with the same value.
 use Rattle.std.proofs.Common.{◌≡◌, inl, inr, ℕ, zero, suc, ◌+◌, ◌≤◌, ◌==◌, ◌&&◌, Bool, true, false, List, [], ◌∷◌, refl, sym, ap, subst, arith}
-use Rattle.fr_base.specs.declared.label.Plain.{Plain}
-use Rattle.fr_base.specs.declared.name.ObjNo.{ObjNo}
-use Rattle.fr_base.specs.Names.{same_object, same_plain}
-use Rattle.heap_partition.specs.Plain.{plain_of}
-use Rattle.heap_partition.specs.declared.value.Cell.{Cell}
-use Rattle.join_home.specs.Tasks.{TaskState, going, let_go, kept, asked, in_pair}
-use Rattle.heap_law.specs.Names.{tot, one, Among}
-use Rattle.heap_law.specs.Things.{Thing, holds, shares, borrows, locks, lies, flies, vacant, retired, copied, uses, sent, stands, at_home, queued, noted, counts}
-use Rattle.heap_law.specs.Follow.{Standing, threads_in}
-use Rattle.heap_law.proofs.Names.{and_left, and_right}
-use Rattle.still_law.specs.Shows.{Sign, nothing, a_value, an_object, a_thread, a_branch, a_count, ShownThread, shown_thread, has_both, sign_of, note_sign}
-use Rattle.still_law.proofs.Tests.{IsTest, same_part, threads, objects, plains}
-use Rattle.word_law.proofs.Standing.{CellOf, lying, flying}
+use Rattle.ask_law.specs.Below.fr_base.declared.label.Plain.{Plain}
+use Rattle.ask_law.specs.Below.fr_base.declared.name.ObjNo.{ObjNo}
+use Rattle.ask_law.specs.Below.fr_base.Names.{same_object, same_plain}
+use Rattle.ask_law.specs.Below.heap_partition.Plain.{plain_of}
+use Rattle.ask_law.specs.Below.heap_partition.declared.value.Cell.{Cell}
+use Rattle.ask_law.specs.Below.join_home.Tasks.{TaskState, going, let_go, kept, asked, in_pair}
+use Rattle.ask_law.specs.Below.heap_law.Names.{tot, one, Among}
+use Rattle.ask_law.specs.Below.heap_law.Things.{Thing, holds, shares, borrows, locks, lies, flies, vacant, retired, copied, uses, sent, stands, at_home, queued, noted, counts}
+use Rattle.ask_law.specs.Below.heap_law.Follow.{Standing, threads_in}
+use Rattle.ask_law.proofs.Below.heap_law.Names.{and_left, and_right}
+use Rattle.rewrite_law.specs.Below.still_law.Shows.{Sign, nothing, a_value, an_object, a_thread, a_branch, a_count, ShownThread, shown_thread, has_both, sign_of, note_sign}
+use Rattle.rewrite_law.proofs.Below.still_law.Tests.{IsTest, same_part, threads, objects, plains}
+use Rattle.rewrite_law.proofs.Below.word_law.Standing.{CellOf, lying, flying}
 use Rattle.wait_law.proofs.Amounts.{SeesStanding}
 
 -- what is in a list weighs no more than the list
@@ -50,7 +50,7 @@ pub sees_thread : (z : ShownThread) → SeesStanding (shows_thread z)
 sees_thread z = record { none = refl; values = λ p v. refl; branches = λ t b. refl; counts = λ s m n. refl }
 
 -- a thread is among those of the list
-pub standing_listed : (s : ℕ) (p : Bool) (t : Rattle.thread_state.specs.View.ThreadState) (b : List Thing) → Among (stands s p t) b → Among (record { server = s; packed = p; thread = t }) (threads_in b)
+pub standing_listed : (s : ℕ) (p : Bool) (t : Rattle.ask_law.specs.Below.thread_state.View.ThreadState) (b : List Thing) → Among (stands s p t) b → Among (record { server = s; packed = p; thread = t }) (threads_in b)
 standing_listed s p t [] h = absurd h
 standing_listed s p t (x ∷ b) (inl e) = subst (λ y. Among (record { server = s; packed = p; thread = t }) (threads_in (y ∷ b))) (sym e) (inl refl)
 standing_listed s p t (x ∷ b) (inr h) = later x (standing_listed s p t b h)
@@ -108,7 +108,7 @@ thread_shown z b l = let r = weighing (λ x. shows_thread z (sign_of x)) b l in 
     by (counts r a d c m e) h w = absurd (omega (arith, w))
 
 -- it shows itself
-pub shows_itself : (t : Rattle.thread_state.specs.View.ThreadState) (b : Bool) → shows_thread (shown_thread t) (a_thread (shown_thread t) b) ≡ 1
+pub shows_itself : (t : Rattle.ask_law.specs.Below.thread_state.View.ThreadState) (b : Bool) → shows_thread (shown_thread t) (a_thread (shown_thread t) b) ≡ 1
 shows_itself t b = let test : IsTest same_part = threads in ap one (test.itself (shown_thread t))
 
 -- CELLS

@@ -2,39 +2,39 @@
 use Rattle.std.proofs.Common.{◌≡◌, ◌≢◌, inl, inr, ℕ, zero, suc, ◌+◌, ◌-◌, ◌≤◌, ◌==◌, ◌&&◌, Bool, true, false, if◌then◌else◌, List, [], ◌∷◌, Option, Some, None, option_map, refl, sym, ap, subst, ◌∙◌, arith}
 use Rattle.std.specs.Prelude.{slice_get, reverse}
 use Rattle.std.proofs.lemmas.Bool.Decides.{nat_tests}
-use Rattle.fr_typing.proofs.PlaceLemmas.{eq_cases}
-use Rattle.fr_base.specs.declared.place.Lval.{Lval}
-use Rattle.fr_base.specs.declared.name.ObjNo.{ObjNo}
-use Rattle.fr_base.specs.declared.label.Plain.{Plain}
-use Rattle.fr_base.specs.Names.{same_object, same_plain}
-use Rattle.fr_plain.specs.declared.value.Value.TheVariants.{Own}
-use Rattle.fr_plain.specs.State.{slot_at}
-use Rattle.fr_code.specs.Machine.{CodeRunning}
-use Rattle.fr_sound.specs.Seen.{seen_cell}
-use Rattle.fr_store.specs.Keys.{slot_k}
-use Rattle.fr_store.specs.Store.{below_key}
-use Rattle.fr_store.proofs.Chains.{unique}
-use Rattle.heap_partition.specs.Plain.{plain_of}
-use Rattle.heap_partition.specs.declared.value.Cell.{Cell}
-use Rattle.thread_state.specs.View.{ThreadState, is_over}
-use Rattle.server_model.specs.Servers.{Cluster}
-use Rattle.heap_law.specs.Names.{tot, one, Among}
-use Rattle.heap_law.specs.Things.{Location, at_slot, in_cell, Thing, stands, things_of}
-use Rattle.heap_law.specs.Follow.{Standing, Ground, threads_in, cells_in, thread_at, cell_of, slot_of, value_of, value_in, value_behind, leads, locate, value_at}
-use Rattle.heap_law.specs.Sight.{Sight, sight}
-use Rattle.heap_law.specs.Requests.{mutex_of}
-use Rattle.heap_law.specs.OneHeap.{object_value, plain_value, running_at}
-use Rattle.path_law.specs.HeapStore.{in_store, heap_store, GoesOn, HasPaths}
-use Rattle.path_law.proofs.Shown.{shown_value, object_shown, stands_there}
-use Rattle.path_law.proofs.Alike.{IsShown, a_slot, an_object, leads_in_heap}
-use Rattle.path_law.proofs.FreshPaths.{threads_same}
-use Rattle.word_law.specs.Reworded.{HasPlaces}
-use Rattle.word_law.proofs.Standing.{InCell, cell_among, cell_found}
-use Rattle.read_law.proofs.FreshReads.{Reading}
-use Rattle.still_law.specs.Shows.{a_thread, an_object as an_object_sign, ShownThread, shown_thread, has_both, sign_of}
-use Rattle.still_law.proofs.PlainValues.{plain_leads, plain_mutex, leads_plain, mutex_plain, shown_by_frames}
-use Rattle.still_law.proofs.Tests.{IsTest, same_part, threads, objects}
-use Rattle.still_law.proofs.Told.{found}
+use Rattle.ask_law.proofs.Below.fr_typing.PlaceLemmas.{eq_cases}
+use Rattle.ask_law.specs.Below.fr_base.declared.place.Lval.{Lval}
+use Rattle.ask_law.specs.Below.fr_base.declared.name.ObjNo.{ObjNo}
+use Rattle.ask_law.specs.Below.fr_base.declared.label.Plain.{Plain}
+use Rattle.ask_law.specs.Below.fr_base.Names.{same_object, same_plain}
+use Rattle.ask_law.specs.Below.fr_plain.declared.value.Value.TheVariants.{Own}
+use Rattle.ask_law.specs.Below.fr_plain.State.{slot_at}
+use Rattle.ask_law.specs.Below.fr_code.Machine.{CodeRunning}
+use Rattle.ask_law.specs.Below.fr_sound.Seen.{seen_cell}
+use Rattle.ask_law.specs.Below.fr_store.Keys.{slot_k}
+use Rattle.ask_law.specs.Below.fr_store.Store.{below_key}
+use Rattle.ask_law.proofs.Below.fr_store.Chains.{unique}
+use Rattle.ask_law.specs.Below.heap_partition.Plain.{plain_of}
+use Rattle.ask_law.specs.Below.heap_partition.declared.value.Cell.{Cell}
+use Rattle.ask_law.specs.Below.thread_state.View.{ThreadState, is_over}
+use Rattle.ask_law.specs.Below.server_model.Servers.{Cluster}
+use Rattle.ask_law.specs.Below.heap_law.Names.{tot, one, Among}
+use Rattle.ask_law.specs.Below.heap_law.Things.{Location, at_slot, in_cell, Thing, stands, things_of}
+use Rattle.ask_law.specs.Below.heap_law.Follow.{Standing, Ground, threads_in, cells_in, thread_at, cell_of, slot_of, value_of, value_in, value_behind, leads, locate, value_at}
+use Rattle.ask_law.specs.Below.heap_law.Sight.{Sight, sight}
+use Rattle.ask_law.specs.Below.heap_law.Requests.{mutex_of}
+use Rattle.ask_law.specs.Below.heap_law.OneHeap.{object_value, plain_value, running_at}
+use Rattle.ask_law.specs.Below.path_law.HeapStore.{in_store, heap_store, GoesOn, HasPaths}
+use Rattle.ask_law.proofs.Below.path_law.Shown.{shown_value, object_shown, stands_there}
+use Rattle.ask_law.proofs.Below.path_law.Alike.{IsShown, a_slot, an_object, leads_in_heap}
+use Rattle.ask_law.proofs.Below.path_law.FreshPaths.{threads_same}
+use Rattle.rewrite_law.specs.Below.word_law.Reworded.{HasPlaces}
+use Rattle.rewrite_law.proofs.Below.word_law.Standing.{InCell, cell_among, cell_found}
+use Rattle.rewrite_law.proofs.Below.read_law.FreshReads.{Reading}
+use Rattle.rewrite_law.specs.Below.still_law.Shows.{a_thread, an_object as an_object_sign, ShownThread, shown_thread, has_both, sign_of}
+use Rattle.rewrite_law.proofs.Below.still_law.PlainValues.{plain_leads, plain_mutex, leads_plain, mutex_plain, shown_by_frames}
+use Rattle.rewrite_law.proofs.Below.still_law.Tests.{IsTest, same_part, threads, objects}
+use Rattle.rewrite_law.proofs.Below.still_law.Told.{found}
 use Rattle.wait_law.proofs.Written.{InChain, Written}
 use Rattle.wait_law.proofs.Clusters.{Weight, Leaves}
 use Rattle.wait_law.proofs.Found.{among_weighs, shows_thread, sees_thread, shows_itself, ShowsIt, thread_shown, shows_cell, sees_cell, ShowsCell, cell_shown, cell_weighs}

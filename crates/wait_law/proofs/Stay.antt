@@ -1,28 +1,28 @@
 -- The place that a thread follows leads where it led, after each event that isn't its own step.
 use Rattle.std.proofs.Common.{◌≡◌, ◌≢◌, ℕ, zero, suc, ◌+◌, ◌-◌, ◌≤◌, true, Option, Some, None, refl, sym, ap, subst, ◌∙◌, arith}
-use Rattle.fr_base.specs.declared.place.Lval.{Lval}
-use Rattle.fr_base.specs.declared.step.Fresh.{Fresh}
-use Rattle.fr_plain.specs.PlainState.{SameState, place_in}
-use Rattle.journal.specs.View.{EntryView}
-use Rattle.server_model.specs.declared.event.Event.{Event}
-use Rattle.server_model.specs.declared.event.What.TheVariants.{Step}
-use Rattle.server_model.specs.Servers.{Cluster}
-use Rattle.server_model.specs.Clusters.{apply}
-use Rattle.heap_law.specs.Things.{Location, at_slot, in_cell, things_of}
-use Rattle.heap_law.specs.Follow.{Standing, locate}
-use Rattle.heap_law.specs.Sight.{sight}
-use Rattle.heap_law.specs.OneHeap.{one_heap, running_at}
-use Rattle.type_law.specs.ClusterTypes.{IsCoherent}
-use Rattle.path_law.specs.HeapStore.{GoesOn, HasPaths}
-use Rattle.path_law.proofs.Alike.{coherent_has_paths}
-use Rattle.path_law.proofs.MayWrites.{may_write_there}
-use Rattle.path_law.proofs.Shown.{is_running}
-use Rattle.path_law.proofs.Sole.{some_is}
-use Rattle.word_law.specs.Reworded.{HasPlaces}
-use Rattle.read_law.proofs.FreshReads.{reading_of}
-use Rattle.event_law.specs.Laws.{Gives, FewEvents}
-use Rattle.event_law.proofs.Results.{both_give, weaker}
-use Rattle.event_law.proofs.Sending.{applied_part}
+use Rattle.ask_law.specs.Below.fr_base.declared.place.Lval.{Lval}
+use Rattle.ask_law.specs.Below.fr_base.declared.step.Fresh.{Fresh}
+use Rattle.ask_law.specs.Below.fr_plain.PlainState.{SameState, place_in}
+use Rattle.ask_law.specs.Below.journal.View.{EntryView}
+use Rattle.ask_law.specs.Below.server_model.declared.event.Event.{Event}
+use Rattle.ask_law.specs.Below.server_model.declared.event.What.TheVariants.{Step}
+use Rattle.ask_law.specs.Below.server_model.Servers.{Cluster}
+use Rattle.ask_law.specs.Below.server_model.Clusters.{apply}
+use Rattle.ask_law.specs.Below.heap_law.Things.{Location, at_slot, in_cell, things_of}
+use Rattle.ask_law.specs.Below.heap_law.Follow.{Standing, locate}
+use Rattle.ask_law.specs.Below.heap_law.Sight.{sight}
+use Rattle.ask_law.specs.Below.heap_law.OneHeap.{one_heap, running_at}
+use Rattle.ask_law.specs.Below.type_law.ClusterTypes.{IsCoherent}
+use Rattle.ask_law.specs.Below.path_law.HeapStore.{GoesOn, HasPaths}
+use Rattle.ask_law.proofs.Below.path_law.Alike.{coherent_has_paths}
+use Rattle.ask_law.proofs.Below.path_law.MayWrites.{may_write_there}
+use Rattle.ask_law.proofs.Below.path_law.Shown.{is_running}
+use Rattle.ask_law.proofs.Below.path_law.Sole.{some_is}
+use Rattle.rewrite_law.specs.Below.word_law.Reworded.{HasPlaces}
+use Rattle.rewrite_law.proofs.Below.read_law.FreshReads.{reading_of}
+use Rattle.ask_law.specs.Below.event_law.Laws.{Gives, FewEvents}
+use Rattle.ask_law.proofs.Below.event_law.Results.{both_give, weaker}
+use Rattle.ask_law.proofs.Below.event_law.Sending.{applied_part}
 use Rattle.ask_law.proofs.Below.undone_law.Undone.{each_undone}
 use Rattle.ask_law.proofs.SameHeap.{Runs, runs, SeesSame, place_kept as kept_in_heap}
 use Rattle.wait_law.specs.Places.{Follows, reads, writes, ends_at, LeadsAsItDid, OthersLeavePlaces, UndoneLeavePlaces}

@@ -1,57 +1,57 @@
 -- Who has taken an object has it, under a word that the pointer doesn't have that the place follows last, after each event that words don't see.
 use Rattle.std.proofs.Common.{◌≡◌, ℕ, zero, suc, ◌+◌, ◌≤◌, ◌==◌, ◌&&◌, not, Bool, true, false, List, [], ◌∷◌, Option, Some, None, is_some, option_map, refl, sym, ap, subst, ◌∙◌, arith}
 use Rattle.std.specs.Prelude.{⊤, slice_get}
-use Rattle.fr_base.specs.declared.name.ObjNo.{ObjNo}
-use Rattle.fr_base.specs.declared.place.Lval.{Lval}
-use Rattle.fr_base.specs.declared.instruction.Instr.{Instr}
-use Rattle.heap_partition.specs.declared.value.Cell.{Cell}
-use Rattle.heap_partition.specs.declared.value.Owned.TheVariants as owned
-use Rattle.migration.specs.Packing.{packed}
-use Rattle.thread_state.specs.View.{ThreadState, new_thread}
-use Rattle.thread_state.specs.declared.phase.Phase.{Phase}
-use Rattle.thread_state.specs.declared.phase.Phase.TheVariants as phase
-use Rattle.thread_state.specs.declared.value.Value.{Value}
-use Rattle.thread_state.specs.declared.value.Value.TheVariants as value
-use Rattle.server_msgs.specs.declared.message.Message.{Message}
-use Rattle.server_msgs.specs.declared.message.Message.TheVariants as message
-use Rattle.journal.specs.View.{EntryView}
-use Rattle.server_model.specs.declared.event.Event.{Event}
-use Rattle.server_model.specs.declared.event.What.{What}
-use Rattle.server_model.specs.declared.event.What.TheVariants.{Deliver}
-use Rattle.server_model.specs.Prepare.{is_taken}
-use Rattle.server_model.specs.Servers.{Server, Cluster, server_at}
-use Rattle.server_model.specs.Work.{Hand, thread_in, then_some}
-use Rattle.server_model.specs.Objects.{waits_for_cell, filled, deliver_fetched}
-use Rattle.server_model.specs.Events.{Stepped, can_step, has_phase, is_ready, begin_work, received, step}
-use Rattle.server_model.specs.Clusters.{apply}
-use Rattle.heap_law.specs.Names.{tot, one, other, some, if_so, same_object, Among}
-use Rattle.heap_law.specs.Things.{Location, at_slot, at_temp, in_cell, Thing, holds, shares, borrows, locks, lies, flies, vacant, retired, copied, uses, sent, stands, at_home, queued, noted, counts, things_of}
-use Rattle.heap_law.specs.Follow.{Standing, Ground, threads_in, thread_at, value_in, value_behind, leads, locate, place_at, hop_at}
-use Rattle.heap_law.specs.Sight.{Sight, sight, is_word, word}
-use Rattle.heap_law.specs.Placing.{sum_over}
-use Rattle.heap_law.specs.Weights.{lies_at}
-use Rattle.heap_law.specs.Walking.{instr_of}
-use Rattle.heap_law.specs.Requests.{in_phase, lent_place, lies_here, taken_there, taken_phase, has_word, last_hop, taken_again, old_word}
-use Rattle.heap_law.specs.Words.{HasWords, WordsLaw}
-use Rattle.heap_law.specs.Coherent.{IsSound, Holds, taken_stands, taken_is_new}
-use Rattle.heap_law.proofs.Names.{and_left, and_right, same_number}
-use Rattle.heap_law.proofs.Words.{none_at, none_all, named, itself, equal_numbers, words_law}
-use Rattle.event_law.specs.Kinds.{Kind, evicts, migrates, starts, arrives, fetch, fetched, asks_lock, granted, unlocked, asks_dup, dupped, released, asks_join, joined, finished, moved, step_print, step_arith, step_par_end, message_kind, kind_at}
-use Rattle.event_law.specs.Laws.{Gives, FewEvents}
-use Rattle.event_law.proofs.Results.{map_gives, test_gives, both_give, weaker}
-use Rattle.event_law.proofs.Sending.{applied_part}
-use Rattle.still_law.proofs.Told.{found}
-use Rattle.word_law.specs.Reworded.{HasPlaces}
-use Rattle.word_law.specs.Unmoved.{pointing, Untouched, LeavesWords, WordsStay}
-use Rattle.word_law.proofs.Follows.{seen_places_lead}
-use Rattle.word_law.proofs.Takings.{leads_pointing}
-use Rattle.word_law.proofs.Unmoved.{untouched_stays}
-use Rattle.local_law.proofs.Goes.{Goes, thread_goes}
-use Rattle.local_law.proofs.Handed.{Stood, InParcel}
-use Rattle.stay_law.specs.Laws.{IsOfKind}
-use Rattle.stay_law.proofs.Alike.{Alike}
-use Rattle.stay_law.proofs.Seen.{seen_alike}
-use Rattle.stay_law.proofs.StayKinds.{Stays, Seen, kind_seen}
+use Rattle.ask_law.specs.Below.fr_base.declared.name.ObjNo.{ObjNo}
+use Rattle.ask_law.specs.Below.fr_base.declared.place.Lval.{Lval}
+use Rattle.ask_law.specs.Below.fr_base.declared.instruction.Instr.{Instr}
+use Rattle.ask_law.specs.Below.heap_partition.declared.value.Cell.{Cell}
+use Rattle.ask_law.specs.Below.heap_partition.declared.value.Owned.TheVariants as owned
+use Rattle.ask_law.specs.Below.migration.Packing.{packed}
+use Rattle.ask_law.specs.Below.thread_state.View.{ThreadState, new_thread}
+use Rattle.ask_law.specs.Below.thread_state.declared.phase.Phase.{Phase}
+use Rattle.ask_law.specs.Below.thread_state.declared.phase.Phase.TheVariants as phase
+use Rattle.ask_law.specs.Below.thread_state.declared.value.Value.{Value}
+use Rattle.ask_law.specs.Below.thread_state.declared.value.Value.TheVariants as value
+use Rattle.ask_law.specs.Below.server_msgs.declared.message.Message.{Message}
+use Rattle.ask_law.specs.Below.server_msgs.declared.message.Message.TheVariants as message
+use Rattle.ask_law.specs.Below.journal.View.{EntryView}
+use Rattle.ask_law.specs.Below.server_model.declared.event.Event.{Event}
+use Rattle.ask_law.specs.Below.server_model.declared.event.What.{What}
+use Rattle.ask_law.specs.Below.server_model.declared.event.What.TheVariants.{Deliver}
+use Rattle.ask_law.specs.Below.server_model.Prepare.{is_taken}
+use Rattle.ask_law.specs.Below.server_model.Servers.{Server, Cluster, server_at}
+use Rattle.ask_law.specs.Below.server_model.Work.{Hand, thread_in, then_some}
+use Rattle.ask_law.specs.Below.server_model.Objects.{waits_for_cell, filled, deliver_fetched}
+use Rattle.ask_law.specs.Below.server_model.Events.{Stepped, can_step, has_phase, is_ready, begin_work, received, step}
+use Rattle.ask_law.specs.Below.server_model.Clusters.{apply}
+use Rattle.ask_law.specs.Below.heap_law.Names.{tot, one, other, some, if_so, same_object, Among}
+use Rattle.ask_law.specs.Below.heap_law.Things.{Location, at_slot, at_temp, in_cell, Thing, holds, shares, borrows, locks, lies, flies, vacant, retired, copied, uses, sent, stands, at_home, queued, noted, counts, things_of}
+use Rattle.ask_law.specs.Below.heap_law.Follow.{Standing, Ground, threads_in, thread_at, value_in, value_behind, leads, locate, place_at, hop_at}
+use Rattle.ask_law.specs.Below.heap_law.Sight.{Sight, sight, is_word, word}
+use Rattle.ask_law.specs.Below.heap_law.Placing.{sum_over}
+use Rattle.ask_law.specs.Below.heap_law.Weights.{lies_at}
+use Rattle.ask_law.specs.Below.heap_law.Walking.{instr_of}
+use Rattle.ask_law.specs.Below.heap_law.Requests.{in_phase, lent_place, lies_here, taken_there, taken_phase, has_word, last_hop, taken_again, old_word}
+use Rattle.ask_law.specs.Below.heap_law.Words.{HasWords, WordsLaw}
+use Rattle.ask_law.specs.Below.heap_law.Coherent.{IsSound, Holds, taken_stands, taken_is_new}
+use Rattle.ask_law.proofs.Below.heap_law.Names.{and_left, and_right, same_number}
+use Rattle.ask_law.proofs.Below.heap_law.Words.{none_at, none_all, named, itself, equal_numbers, words_law}
+use Rattle.ask_law.specs.Below.event_law.Kinds.{Kind, evicts, migrates, starts, arrives, fetch, fetched, asks_lock, granted, unlocked, asks_dup, dupped, released, asks_join, joined, finished, moved, step_print, step_arith, step_par_end, message_kind, kind_at}
+use Rattle.ask_law.specs.Below.event_law.Laws.{Gives, FewEvents}
+use Rattle.ask_law.proofs.Below.event_law.Results.{map_gives, test_gives, both_give, weaker}
+use Rattle.ask_law.proofs.Below.event_law.Sending.{applied_part}
+use Rattle.rewrite_law.proofs.Below.still_law.Told.{found}
+use Rattle.rewrite_law.specs.Below.word_law.Reworded.{HasPlaces}
+use Rattle.rewrite_law.specs.Below.word_law.Unmoved.{pointing, Untouched, LeavesWords, WordsStay}
+use Rattle.rewrite_law.proofs.Below.word_law.Follows.{seen_places_lead}
+use Rattle.rewrite_law.proofs.Below.word_law.Takings.{leads_pointing}
+use Rattle.rewrite_law.proofs.Below.word_law.Unmoved.{untouched_stays}
+use Rattle.ask_law.proofs.Below.local_law.Goes.{Goes, thread_goes}
+use Rattle.ask_law.proofs.Below.local_law.Handed.{Stood, InParcel}
+use Rattle.rewrite_law.specs.Below.stay_law.Laws.{IsOfKind}
+use Rattle.rewrite_law.proofs.Below.stay_law.Alike.{Alike}
+use Rattle.rewrite_law.proofs.Below.stay_law.Seen.{seen_alike}
+use Rattle.rewrite_law.proofs.Below.stay_law.StayKinds.{Stays, Seen, kind_seen}
 use Rattle.wait_law.specs.Steady.{IsSteady, EachSteadyEventKeeps}
 use Rattle.wait_law.proofs.Found.{Weighing, weighing, among_weighs}
 use Rattle.wait_law.proofs.Fates.{Fates, fated}

@@ -1,29 +1,29 @@
 -- A step that is done leaves no less to a weight that sees threads and cells alone, and nothing of its thread and of the cell that it writes through stars.
 use Rattle.std.proofs.Common.{◌≡◌, ℕ, zero, suc, ◌≤◌, true, false, Option, Some, None, refl, sym, ap, subst, ◌∙◌, arith}
 use Rattle.std.specs.Bool.{⊤}
-use Rattle.fr_base.specs.declared.label.Plain.{Plain}
-use Rattle.fr_base.specs.declared.name.ObjNo.{ObjNo}
-use Rattle.fr_base.specs.declared.place.Lval.{Lval}
-use Rattle.fr_base.specs.declared.instruction.Instr.{Instr}
-use Rattle.fr_base.specs.declared.instruction.Instr.TheVariants as instr
-use Rattle.heap_partition.specs.declared.value.Cell.{Cell}
-use Rattle.owner_box.specs.View.{PartitionState}
-use Rattle.thread_state.specs.View.{ThreadState}
-use Rattle.server_model.specs.Servers.{Server, Cluster}
-use Rattle.server_model.specs.Work.{Hand, look}
-use Rattle.server_model.specs.Places.{Spot, in_slot, in_cell as in_spot}
-use Rattle.server_model.specs.Prepare.{Prepared, ready, requested, nothing, assigned, read_or_taken, access_of, prepare, read_stars, write_stars}
-use Rattle.server_model.specs.Events.{begin_work, prepared, step}
-use Rattle.heap_law.specs.Things.{Location, at_slot, in_cell}
-use Rattle.heap_law.specs.Follow.{locate}
-use Rattle.heap_law.specs.Sight.{sight}
-use Rattle.path_law.proofs.Sole.{some_is}
-use Rattle.event_law.specs.Laws.{Gives}
-use Rattle.still_law.specs.Shows.{Sign, an_object}
-use Rattle.still_law.proofs.Addresses.{InPlace, in_place}
-use Rattle.still_law.proofs.Leaving.{others, placed_here}
-use Rattle.still_law.proofs.Prepares.{prepare_shows, Fine as Shows}
-use Rattle.result_law.proofs.Known.{Steps}
+use Rattle.ask_law.specs.Below.fr_base.declared.label.Plain.{Plain}
+use Rattle.ask_law.specs.Below.fr_base.declared.name.ObjNo.{ObjNo}
+use Rattle.ask_law.specs.Below.fr_base.declared.place.Lval.{Lval}
+use Rattle.ask_law.specs.Below.fr_base.declared.instruction.Instr.{Instr}
+use Rattle.ask_law.specs.Below.fr_base.declared.instruction.Instr.TheVariants as instr
+use Rattle.ask_law.specs.Below.heap_partition.declared.value.Cell.{Cell}
+use Rattle.ask_law.specs.Below.owner_box.View.{PartitionState}
+use Rattle.ask_law.specs.Below.thread_state.View.{ThreadState}
+use Rattle.ask_law.specs.Below.server_model.Servers.{Server, Cluster}
+use Rattle.ask_law.specs.Below.server_model.Work.{Hand, look}
+use Rattle.ask_law.specs.Below.server_model.Places.{Spot, in_slot, in_cell as in_spot}
+use Rattle.ask_law.specs.Below.server_model.Prepare.{Prepared, ready, requested, nothing, assigned, read_or_taken, access_of, prepare, read_stars, write_stars}
+use Rattle.ask_law.specs.Below.server_model.Events.{begin_work, prepared, step}
+use Rattle.ask_law.specs.Below.heap_law.Things.{Location, at_slot, in_cell}
+use Rattle.ask_law.specs.Below.heap_law.Follow.{locate}
+use Rattle.ask_law.specs.Below.heap_law.Sight.{sight}
+use Rattle.ask_law.proofs.Below.path_law.Sole.{some_is}
+use Rattle.ask_law.specs.Below.event_law.Laws.{Gives}
+use Rattle.rewrite_law.specs.Below.still_law.Shows.{Sign, an_object}
+use Rattle.rewrite_law.proofs.Below.still_law.Addresses.{InPlace, in_place}
+use Rattle.rewrite_law.proofs.Below.still_law.Leaving.{others, placed_here}
+use Rattle.rewrite_law.proofs.Below.still_law.Prepares.{prepare_shows, Fine as Shows}
+use Rattle.ask_law.proofs.Below.result_law.Known.{Steps}
 use Rattle.rewrite_law.proofs.Below.write_law.Memory.{Leads, looks}
 use Rattle.rewrite_law.proofs.Below.write_law.Route.{At, a_slot, a_cell, Fine, begins, all_hops}
 use Rattle.rewrite_law.specs.Writing.{WritesThrough, assigns, moves}

@@ -1,38 +1,38 @@
 -- A thread takes an object only at a mutable borrow.
 use Rattle.std.proofs.Common.{◌≡◌, ℕ, zero, suc, ◌+◌, ◌-◌, ◌==◌, Bool, true, false, if◌then◌else◌, List, [], ◌∷◌, Option, Some, None, is_some, refl, sym, ap, subst, ◌∙◌, arith}
 use Rattle.std.specs.Prelude.{slice_get, option_map, length}
-use Rattle.fr_base.specs.Lists.{last_of}
-use Rattle.fr_base.specs.declared.place.Lval.{Lval}
-use Rattle.fr_base.specs.declared.instruction.Instr.{Instr}
-use Rattle.fr_base.specs.declared.instruction.Instr.TheVariants as instr
-use Rattle.heap_partition.specs.declared.value.Cell.{Cell}
-use Rattle.migration.specs.Packing.{packed}
-use Rattle.thread_state.specs.View.{ThreadState, new_thread}
-use Rattle.thread_state.specs.declared.phase.Phase.{Phase}
-use Rattle.thread_state.specs.declared.phase.Phase.TheVariants as phase
-use Rattle.thread_state.specs.declared.value.Value.{Value}
-use Rattle.thread_state.specs.declared.value.Value.TheVariants as value
-use Rattle.journal.specs.View.{EntryView}
-use Rattle.journal.specs.declared.act.Act.TheVariants as act
-use Rattle.server_model.specs.declared.event.Event.{Event}
-use Rattle.server_model.specs.Servers.{Server, Cluster, server_at}
-use Rattle.server_model.specs.Work.{Work, Hand, thread_in, with_phase, working, note}
-use Rattle.server_model.specs.NewWords.{NewWord, issue_placed}
-use Rattle.server_model.specs.Places.{Spot, in_slot, on_top, value_at, set_pointer}
-use Rattle.server_model.specs.Prepare.{Access, ReadTo, ReadPointer, WriteTo, LendTo, EndRef, ending, assigned, read_or_taken, access_of, is_taken, passing, write_stars}
-use Rattle.server_model.specs.Objects.{waits_for_cell, filled, deliver_fetched, chased, waits_under, arrived_at, arrived_slot, arrived_read, passed_spot, arrived_write, arrived_lend, arrived_end, arrived, instr_access, came, deliver_moved}
-use Rattle.server_model.specs.Events.{Stepped, can_step, has_phase, is_ready, begin_work, received, step}
-use Rattle.server_model.specs.Clusters.{apply}
-use Rattle.heap_law.specs.Names.{tot, other, if_so}
-use Rattle.heap_law.specs.Things.{things_of}
-use Rattle.heap_law.specs.Follow.{Standing, threads_in}
-use Rattle.heap_law.specs.Sight.{Sight, sight}
-use Rattle.heap_law.specs.Requests.{lent_place, taken_phase, taken_there}
-use Rattle.heap_law.specs.Coherent.{IsSound}
-use Rattle.event_law.specs.Laws.{Gives, FewEvents}
-use Rattle.event_law.proofs.Results.{then_gives, map_gives, over_gives, test_gives, both_give, weaker}
-use Rattle.local_law.proofs.Goes.{Goes, on, waits_pair, is_over, asks_cell, asks_home, gets_cell, gets_gift, goes_pair, AsksHome, thread_goes}
-use Rattle.local_law.proofs.Handed.{Stood, InParcel}
+use Rattle.ask_law.specs.Below.fr_base.Lists.{last_of}
+use Rattle.ask_law.specs.Below.fr_base.declared.place.Lval.{Lval}
+use Rattle.ask_law.specs.Below.fr_base.declared.instruction.Instr.{Instr}
+use Rattle.ask_law.specs.Below.fr_base.declared.instruction.Instr.TheVariants as instr
+use Rattle.ask_law.specs.Below.heap_partition.declared.value.Cell.{Cell}
+use Rattle.ask_law.specs.Below.migration.Packing.{packed}
+use Rattle.ask_law.specs.Below.thread_state.View.{ThreadState, new_thread}
+use Rattle.ask_law.specs.Below.thread_state.declared.phase.Phase.{Phase}
+use Rattle.ask_law.specs.Below.thread_state.declared.phase.Phase.TheVariants as phase
+use Rattle.ask_law.specs.Below.thread_state.declared.value.Value.{Value}
+use Rattle.ask_law.specs.Below.thread_state.declared.value.Value.TheVariants as value
+use Rattle.ask_law.specs.Below.journal.View.{EntryView}
+use Rattle.ask_law.specs.Below.journal.declared.act.Act.TheVariants as act
+use Rattle.ask_law.specs.Below.server_model.declared.event.Event.{Event}
+use Rattle.ask_law.specs.Below.server_model.Servers.{Server, Cluster, server_at}
+use Rattle.ask_law.specs.Below.server_model.Work.{Work, Hand, thread_in, with_phase, working, note}
+use Rattle.ask_law.specs.Below.server_model.NewWords.{NewWord, issue_placed}
+use Rattle.ask_law.specs.Below.server_model.Places.{Spot, in_slot, on_top, value_at, set_pointer}
+use Rattle.ask_law.specs.Below.server_model.Prepare.{Access, ReadTo, ReadPointer, WriteTo, LendTo, EndRef, ending, assigned, read_or_taken, access_of, is_taken, passing, write_stars}
+use Rattle.ask_law.specs.Below.server_model.Objects.{waits_for_cell, filled, deliver_fetched, chased, waits_under, arrived_at, arrived_slot, arrived_read, passed_spot, arrived_write, arrived_lend, arrived_end, arrived, instr_access, came, deliver_moved}
+use Rattle.ask_law.specs.Below.server_model.Events.{Stepped, can_step, has_phase, is_ready, begin_work, received, step}
+use Rattle.ask_law.specs.Below.server_model.Clusters.{apply}
+use Rattle.ask_law.specs.Below.heap_law.Names.{tot, other, if_so}
+use Rattle.ask_law.specs.Below.heap_law.Things.{things_of}
+use Rattle.ask_law.specs.Below.heap_law.Follow.{Standing, threads_in}
+use Rattle.ask_law.specs.Below.heap_law.Sight.{Sight, sight}
+use Rattle.ask_law.specs.Below.heap_law.Requests.{lent_place, taken_phase, taken_there}
+use Rattle.ask_law.specs.Below.heap_law.Coherent.{IsSound}
+use Rattle.ask_law.specs.Below.event_law.Laws.{Gives, FewEvents}
+use Rattle.ask_law.proofs.Below.event_law.Results.{then_gives, map_gives, over_gives, test_gives, both_give, weaker}
+use Rattle.ask_law.proofs.Below.local_law.Goes.{Goes, on, waits_pair, is_over, asks_cell, asks_home, gets_cell, gets_gift, goes_pair, AsksHome, thread_goes}
+use Rattle.ask_law.proofs.Below.local_law.Handed.{Stood, InParcel}
 use Rattle.wait_law.specs.Taken.{off_lend, TakersLend, EachEventLeavesTakers}
 use Rattle.wait_law.proofs.Fates.{Fates, fated}
 use Rattle.wait_law.proofs.Waiting.{same_code}

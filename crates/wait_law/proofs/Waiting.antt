@@ -1,42 +1,42 @@
 -- Threads that wait for what a home gives, or have it, stand right after each event: the mutex at the place of a lock or a dup is the one that was there.
 use Rattle.std.proofs.Common.{◌≡◌, ◌≢◌, inl, inr, ℕ, zero, suc, ◌+◌, ◌-◌, ◌≤◌, ◌==◌, ◌&&◌, not, is_some, Bool, true, false, List, [], ◌∷◌, Option, Some, None, refl, sym, ap, subst, ◌∙◌, arith}
 use Rattle.std.specs.Prelude.{slice_get}
-use Rattle.fr_typing.proofs.PlaceLemmas.{eq_cases}
-use Rattle.fr_base.specs.declared.place.Lval.{Lval}
-use Rattle.fr_base.specs.declared.name.MutexNo.{MutexNo}
-use Rattle.fr_base.specs.declared.step.Fresh.{Fresh}
-use Rattle.fr_base.specs.declared.instruction.Instr.{Instr}
-use Rattle.fr_base.specs.declared.instruction.Instr.TheVariants as instr
-use Rattle.heap_partition.specs.declared.value.Owned.{Owned}
-use Rattle.thread_state.specs.View.{ThreadState, is_over}
-use Rattle.thread_state.specs.declared.phase.Phase.{Phase}
-use Rattle.thread_state.specs.declared.phase.Phase.TheVariants as phase
-use Rattle.journal.specs.View.{EntryView}
-use Rattle.server_model.specs.declared.event.Event.{Event}
-use Rattle.server_model.specs.declared.event.What.{What}
-use Rattle.server_model.specs.Servers.{Cluster, server_at}
-use Rattle.server_model.specs.Clusters.{done_at, apply}
-use Rattle.heap_law.specs.Names.{tot, one, other, if_so, Among}
-use Rattle.heap_law.specs.Things.{Location, Thing, stands, things_of}
-use Rattle.heap_law.specs.Follow.{Standing, Ground, threads_in, thread_at, slot_of, value_behind, leads, locate, value_at}
-use Rattle.heap_law.specs.Sight.{sight}
-use Rattle.heap_law.specs.Paths.{joined_thread}
-use Rattle.heap_law.specs.Walking.{instr_of}
-use Rattle.heap_law.specs.Requests.{mutex_of, is_mutex, is_task, is_got, early_gift, is_value_of, stands_wrong, gift_there, gift_fits as fits_at, locked_mutex, dupped_mutex}
-use Rattle.heap_law.specs.Coherent.{Sentence, Holds, phases_stand, gifts_fit, gifts_got}
-use Rattle.type_law.specs.ClusterTypes.{IsCoherent}
-use Rattle.path_law.specs.HeapStore.{GoesOn, HasPaths}
-use Rattle.path_law.proofs.Contained.{among_thread}
-use Rattle.path_law.proofs.Sole.{some_is}
-use Rattle.word_law.specs.Reworded.{HasPlaces}
-use Rattle.read_law.specs.Reading.{Reads, dups, locks}
-use Rattle.read_law.proofs.FreshReads.{Reading, reading_of}
-use Rattle.event_law.specs.Laws.{Gives, FewEvents}
-use Rattle.event_law.proofs.Results.{then_gives, map_gives, both_give}
-use Rattle.event_law.proofs.Sending.{applied_part}
-use Rattle.still_law.specs.Shows.{ShownThread, shown_thread}
-use Rattle.still_law.proofs.Told.{told, at_thread, thread_told, found}
-use Rattle.local_law.specs.Laws.{EachCoherentEventKeeps}
+use Rattle.ask_law.proofs.Below.fr_typing.PlaceLemmas.{eq_cases}
+use Rattle.ask_law.specs.Below.fr_base.declared.place.Lval.{Lval}
+use Rattle.ask_law.specs.Below.fr_base.declared.name.MutexNo.{MutexNo}
+use Rattle.ask_law.specs.Below.fr_base.declared.step.Fresh.{Fresh}
+use Rattle.ask_law.specs.Below.fr_base.declared.instruction.Instr.{Instr}
+use Rattle.ask_law.specs.Below.fr_base.declared.instruction.Instr.TheVariants as instr
+use Rattle.ask_law.specs.Below.heap_partition.declared.value.Owned.{Owned}
+use Rattle.ask_law.specs.Below.thread_state.View.{ThreadState, is_over}
+use Rattle.ask_law.specs.Below.thread_state.declared.phase.Phase.{Phase}
+use Rattle.ask_law.specs.Below.thread_state.declared.phase.Phase.TheVariants as phase
+use Rattle.ask_law.specs.Below.journal.View.{EntryView}
+use Rattle.ask_law.specs.Below.server_model.declared.event.Event.{Event}
+use Rattle.ask_law.specs.Below.server_model.declared.event.What.{What}
+use Rattle.ask_law.specs.Below.server_model.Servers.{Cluster, server_at}
+use Rattle.ask_law.specs.Below.server_model.Clusters.{done_at, apply}
+use Rattle.ask_law.specs.Below.heap_law.Names.{tot, one, other, if_so, Among}
+use Rattle.ask_law.specs.Below.heap_law.Things.{Location, Thing, stands, things_of}
+use Rattle.ask_law.specs.Below.heap_law.Follow.{Standing, Ground, threads_in, thread_at, slot_of, value_behind, leads, locate, value_at}
+use Rattle.ask_law.specs.Below.heap_law.Sight.{sight}
+use Rattle.ask_law.specs.Below.heap_law.Paths.{joined_thread}
+use Rattle.ask_law.specs.Below.heap_law.Walking.{instr_of}
+use Rattle.ask_law.specs.Below.heap_law.Requests.{mutex_of, is_mutex, is_task, is_got, early_gift, is_value_of, stands_wrong, gift_there, gift_fits as fits_at, locked_mutex, dupped_mutex}
+use Rattle.ask_law.specs.Below.heap_law.Coherent.{Sentence, Holds, phases_stand, gifts_fit, gifts_got}
+use Rattle.ask_law.specs.Below.type_law.ClusterTypes.{IsCoherent}
+use Rattle.ask_law.specs.Below.path_law.HeapStore.{GoesOn, HasPaths}
+use Rattle.ask_law.proofs.Below.path_law.Contained.{among_thread}
+use Rattle.ask_law.proofs.Below.path_law.Sole.{some_is}
+use Rattle.rewrite_law.specs.Below.word_law.Reworded.{HasPlaces}
+use Rattle.rewrite_law.specs.Below.read_law.Reading.{Reads, dups, locks}
+use Rattle.rewrite_law.proofs.Below.read_law.FreshReads.{Reading, reading_of}
+use Rattle.ask_law.specs.Below.event_law.Laws.{Gives, FewEvents}
+use Rattle.ask_law.proofs.Below.event_law.Results.{then_gives, map_gives, both_give}
+use Rattle.ask_law.proofs.Below.event_law.Sending.{applied_part}
+use Rattle.rewrite_law.specs.Below.still_law.Shows.{ShownThread, shown_thread}
+use Rattle.rewrite_law.proofs.Below.still_law.Told.{told, at_thread, thread_told, found}
+use Rattle.ask_law.specs.Below.local_law.Laws.{EachCoherentEventKeeps}
 use Rattle.ask_law.specs.Standing.{locked, dupped, phase_off, gift_at, gift_off, off, StandBy, EachUndoneEventKeeps}
 use Rattle.ask_law.proofs.GiftsGot.{gifts_got_kept}
 use Rattle.ask_law.proofs.AtInstructions.{asked_there}

@@ -1,34 +1,34 @@
 -- Where a thread writes through stars: in a chain of its own slots, and no other thread reads there.
 use Rattle.std.proofs.Common.{◌≡◌, ℕ, suc, ◌+◌, ◌-◌, ◌≤◌, ◌<◌, true, false, Option, Some, None, is_some, refl, sym, ap, subst, ◌∙◌, arith}
-use Rattle.fr_base.specs.declared.place.Lval.{Lval}
-use Rattle.fr_base.specs.declared.name.ObjNo.{ObjNo}
-use Rattle.fr_base.specs.declared.instruction.Instr.{Instr}
-use Rattle.fr_code.specs.CodeTypes.{Entry, Table, InstrTypes, i_assign, i_move}
-use Rattle.fr_store.specs.Keys.{Key, slot_k}
-use Rattle.fr_store.specs.Store.{below_key}
-use Rattle.fr_store.specs.Typed.{Exact, Resolves}
-use Rattle.fr_store.proofs.Sound.{ref_at, sound}
-use Rattle.mut_borrow.specs.declared.mutable.MutRef.{MutRef}
-use Rattle.thread_state.specs.View.{ThreadState}
-use Rattle.server_model.specs.Servers.{Server, Cluster}
-use Rattle.heap_law.specs.Things.{Location, in_cell}
-use Rattle.heap_law.specs.Follow.{Standing, locate}
-use Rattle.heap_law.specs.Paths.{ends}
-use Rattle.heap_law.specs.OneHeap.{two_in, pair_of}
-use Rattle.heap_law.specs.Sight.{sight}
-use Rattle.heap_law.specs.Walking.{path}
-use Rattle.path_law.specs.HeapStore.{in_store, heap_store, GoesOn, HasPaths}
-use Rattle.path_law.specs.Pointing.{MayWrite}
-use Rattle.path_law.proofs.Alike.{leads_in_heap}
-use Rattle.path_law.proofs.Circles.{base_in, shorter}
-use Rattle.path_law.proofs.Forms.{running_typed}
-use Rattle.path_law.proofs.FreshPaths.{OwnSlot, own_closed}
-use Rattle.path_law.proofs.Shown.{stands_there}
-use Rattle.read_law.proofs.FreshReads.{Reading, chain_apart}
+use Rattle.ask_law.specs.Below.fr_base.declared.place.Lval.{Lval}
+use Rattle.ask_law.specs.Below.fr_base.declared.name.ObjNo.{ObjNo}
+use Rattle.ask_law.specs.Below.fr_base.declared.instruction.Instr.{Instr}
+use Rattle.ask_law.specs.Below.fr_code.CodeTypes.{Entry, Table, InstrTypes, i_assign, i_move}
+use Rattle.ask_law.specs.Below.fr_store.Keys.{Key, slot_k}
+use Rattle.ask_law.specs.Below.fr_store.Store.{below_key}
+use Rattle.ask_law.specs.Below.fr_store.Typed.{Exact, Resolves}
+use Rattle.ask_law.proofs.Below.fr_store.Sound.{ref_at, sound}
+use Rattle.ask_law.specs.Below.mut_borrow.declared.mutable.MutRef.{MutRef}
+use Rattle.ask_law.specs.Below.thread_state.View.{ThreadState}
+use Rattle.ask_law.specs.Below.server_model.Servers.{Server, Cluster}
+use Rattle.ask_law.specs.Below.heap_law.Things.{Location, in_cell}
+use Rattle.ask_law.specs.Below.heap_law.Follow.{Standing, locate}
+use Rattle.ask_law.specs.Below.heap_law.Paths.{ends}
+use Rattle.ask_law.specs.Below.heap_law.OneHeap.{two_in, pair_of}
+use Rattle.ask_law.specs.Below.heap_law.Sight.{sight}
+use Rattle.ask_law.specs.Below.heap_law.Walking.{path}
+use Rattle.ask_law.specs.Below.path_law.HeapStore.{in_store, heap_store, GoesOn, HasPaths}
+use Rattle.ask_law.specs.Below.path_law.Pointing.{MayWrite}
+use Rattle.ask_law.proofs.Below.path_law.Alike.{leads_in_heap}
+use Rattle.ask_law.proofs.Below.path_law.Circles.{base_in, shorter}
+use Rattle.ask_law.proofs.Below.path_law.Forms.{running_typed}
+use Rattle.ask_law.proofs.Below.path_law.FreshPaths.{OwnSlot, own_closed}
+use Rattle.ask_law.proofs.Below.path_law.Shown.{stands_there}
+use Rattle.rewrite_law.proofs.Below.read_law.FreshReads.{Reading, chain_apart}
 use Rattle.rewrite_law.proofs.Below.end_law.Ends.{EndsAt, ends_at as ends_there}
 use Rattle.rewrite_law.proofs.Below.end_law.Alone.{holder_stars}
-use Rattle.result_law.proofs.Known.{Steps, standing, paths, goes, types, entry, typed}
-use Rattle.result_law.proofs.Readers.{to_entry}
+use Rattle.ask_law.proofs.Below.result_law.Known.{Steps, standing, paths, goes, types, entry, typed}
+use Rattle.ask_law.proofs.Below.result_law.Readers.{to_entry}
 use Rattle.rewrite_law.specs.Writing.{WritesThrough, assigns, moves}
 use Rattle.rewrite_law.proofs.Ways.{may, ends_none}
 

@@ -1,22 +1,22 @@
 -- PLACES OF OTHER THREADS: while one thread steps, or a message is delivered, the place that another thread follows leads where it led (this project's rule).
 use Rattle.std.specs.Prelude.{◌≡◌, ℕ, ◌≤◌, None, Some}
-use Rattle.fr_base.specs.declared.place.Lval.{Lval}
-use Rattle.fr_base.specs.declared.instruction.Instr.{Instr}
-use Rattle.mut_borrow.specs.declared.mutable.MutRef.{MutRef}
-use Rattle.journal.specs.View.{EntryView}
-use Rattle.server_model.specs.declared.event.Event.{Event}
-use Rattle.server_model.specs.declared.event.What.TheVariants.{Step}
-use Rattle.server_model.specs.Servers.{Cluster}
-use Rattle.server_model.specs.Clusters.{apply}
-use Rattle.heap_law.specs.Follow.{Standing, locate}
-use Rattle.heap_law.specs.Paths.{ends}
-use Rattle.heap_law.specs.Sight.{sight}
-use Rattle.heap_law.specs.Walking.{instr_of, path}
-use Rattle.type_law.specs.ClusterTypes.{IsCoherent}
-use Rattle.path_law.specs.HeapStore.{GoesOn}
-use Rattle.path_law.specs.Pointing.{WritesTo}
-use Rattle.read_law.specs.Reading.{Reads}
-use Rattle.event_law.specs.Laws.{Gives, FewEvents}
+use Rattle.ask_law.specs.Below.fr_base.declared.place.Lval.{Lval}
+use Rattle.ask_law.specs.Below.fr_base.declared.instruction.Instr.{Instr}
+use Rattle.ask_law.specs.Below.mut_borrow.declared.mutable.MutRef.{MutRef}
+use Rattle.ask_law.specs.Below.journal.View.{EntryView}
+use Rattle.ask_law.specs.Below.server_model.declared.event.Event.{Event}
+use Rattle.ask_law.specs.Below.server_model.declared.event.What.TheVariants.{Step}
+use Rattle.ask_law.specs.Below.server_model.Servers.{Cluster}
+use Rattle.ask_law.specs.Below.server_model.Clusters.{apply}
+use Rattle.ask_law.specs.Below.heap_law.Follow.{Standing, locate}
+use Rattle.ask_law.specs.Below.heap_law.Paths.{ends}
+use Rattle.ask_law.specs.Below.heap_law.Sight.{sight}
+use Rattle.ask_law.specs.Below.heap_law.Walking.{instr_of, path}
+use Rattle.ask_law.specs.Below.type_law.ClusterTypes.{IsCoherent}
+use Rattle.ask_law.specs.Below.path_law.HeapStore.{GoesOn}
+use Rattle.ask_law.specs.Below.path_law.Pointing.{WritesTo}
+use Rattle.rewrite_law.specs.Below.read_law.Reading.{Reads}
+use Rattle.ask_law.specs.Below.event_law.Laws.{Gives, FewEvents}
 
 -- the place that a thread follows at its instruction: it reads it, all its stars or those before the pointer that it borrows from, or writes it, or it is that
 -- of the holder of a reference that ends

@@ -2,14 +2,14 @@
 -- and filled, a mutex is asked for, granted and given back, a share of it is asked for and comes, a share or a task is let go, a result is asked for and comes, a
 -- home is told that a thread has ended; and prints, arithmetic and the end of a pair.
 use Rattle.std.specs.Prelude.{⊤}
-use Rattle.journal.specs.View.{EntryView}
-use Rattle.server_model.specs.declared.event.Event.{Event}
-use Rattle.server_model.specs.Servers.{Cluster}
-use Rattle.server_model.specs.Clusters.{apply}
-use Rattle.heap_law.specs.Coherent.{Sentence, Holds, IsSound}
-use Rattle.event_law.specs.Kinds.{Kind, evicts, migrates, starts, arrives, fetch, fetched, asks_lock, granted, unlocked, asks_dup, dupped, released, asks_join, joined, finished, step_print, step_arith, step_par_end}
-use Rattle.event_law.specs.Laws.{Gives, FewEvents}
-use Rattle.stay_law.specs.Laws.{IsOfKind}
+use Rattle.ask_law.specs.Below.journal.View.{EntryView}
+use Rattle.ask_law.specs.Below.server_model.declared.event.Event.{Event}
+use Rattle.ask_law.specs.Below.server_model.Servers.{Cluster}
+use Rattle.ask_law.specs.Below.server_model.Clusters.{apply}
+use Rattle.ask_law.specs.Below.heap_law.Coherent.{Sentence, Holds, IsSound}
+use Rattle.ask_law.specs.Below.event_law.Kinds.{Kind, evicts, migrates, starts, arrives, fetch, fetched, asks_lock, granted, unlocked, asks_dup, dupped, released, asks_join, joined, finished, step_print, step_arith, step_par_end}
+use Rattle.ask_law.specs.Below.event_law.Laws.{Gives, FewEvents}
+use Rattle.rewrite_law.specs.Below.stay_law.Laws.{IsOfKind}
 
 abbrev pub IsSteady : Kind → Type 0
 IsSteady evicts = ⊤

@@ -1,13 +1,13 @@
 -- WHO HAS TAKEN AN OBJECT (this project's rule): a thread in phase `Taken` is at a mutable borrow.
 use Rattle.std.specs.Prelude.{◌≡◌, ℕ, List, is_some, slice_get}
-use Rattle.fr_base.specs.declared.instruction.Instr.{Instr}
-use Rattle.server_model.specs.Prepare.{is_taken}
-use Rattle.server_model.specs.Servers.{Cluster}
-use Rattle.heap_law.specs.Names.{tot, other, if_so}
-use Rattle.heap_law.specs.Things.{things_of}
-use Rattle.heap_law.specs.Follow.{Standing, threads_in}
-use Rattle.heap_law.specs.Requests.{lent_place}
-use Rattle.event_law.specs.Laws.{EachEventHandedOver}
+use Rattle.ask_law.specs.Below.fr_base.declared.instruction.Instr.{Instr}
+use Rattle.ask_law.specs.Below.server_model.Prepare.{is_taken}
+use Rattle.ask_law.specs.Below.server_model.Servers.{Cluster}
+use Rattle.ask_law.specs.Below.heap_law.Names.{tot, other, if_so}
+use Rattle.ask_law.specs.Below.heap_law.Things.{things_of}
+use Rattle.ask_law.specs.Below.heap_law.Follow.{Standing, threads_in}
+use Rattle.ask_law.specs.Below.heap_law.Requests.{lent_place}
+use Rattle.ask_law.specs.Below.event_law.Laws.{EachEventHandedOver}
 
 -- a thread that has taken an object at another instruction
 abbrev pub off_lend : List Instr → Standing → ℕ

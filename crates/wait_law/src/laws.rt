@@ -1,7 +1,7 @@
 //! What each event keeps of threads that wait.
 
-ghost use Rattle.heap_law.specs.Coherent.{gifts_fit, phases_stand, taken_is_new, taken_stands};
-ghost use Rattle.local_law.specs.Laws.{EachCoherentEventKeeps};
+ghost use Rattle.ask_law.specs.Below.heap_law.Coherent.{gifts_fit, phases_stand, taken_is_new, taken_stands};
+ghost use Rattle.ask_law.specs.Below.local_law.Laws.{EachCoherentEventKeeps};
 ghost use Rattle.wait_law.specs.Places.{OthersLeavePlaces, UndoneLeavePlaces};
 ghost use Rattle.wait_law.specs.Steady.{EachSteadyEventKeeps};
 ghost use Rattle.wait_law.specs.Taken.{EachEventLeavesTakers};

@@ -1,23 +1,23 @@
 -- In a quiet cluster the contents and the queues of mutexes are those of the mutexes at their homes.
 use Rattle.std.proofs.Common.{◌≡◌, ℕ, ◌+◌, ◌≤◌, ◌&&◌, is_some, Bool, true, false, if◌then◌else◌, List, [], ◌∷◌, ◌++◌, length, Option, Some, None, refl, sym, subst, arith}
-use Rattle.fr_base.specs.declared.name.MutexNo.{MutexNo}
-use Rattle.heap_partition.specs.declared.value.Cell.{Cell}
-use Rattle.heap_partition.specs.declared.value.Owned.{Owned}
-use Rattle.mut_borrow.specs.declared.mutable.MutRef.{MutRef}
-use Rattle.mut_borrow.specs.declared.shared.SharedRef.{SharedRef}
-use Rattle.read_cache.specs.Cache.{Copy}
-use Rattle.mutex_home.specs.Mutexes.{Mutex}
-use Rattle.join_home.specs.Tasks.{Task, TaskState, kept}
-use Rattle.thread_state.specs.View.{ThreadState}
-use Rattle.thread_state.specs.declared.value.Value.{Value}
-use Rattle.thread_state.specs.declared.value.Value.TheVariants as value
-use Rattle.server_model.specs.Servers.{Server}
-use Rattle.drive_model.specs.Ending.{is_none, no_message}
-use Rattle.heap_law.specs.Names.{tot, one, if_so, same_mutex}
-use Rattle.heap_law.specs.Things.{Thing, Spot, Location, in_slot, in_temp, as_gift, as_content, as_result, holds, shares, borrows, locks, lies, vacant, retired, copied, uses, stands, at_home, queued, noted, counts, things_at, is_free, value_things, gift_things, walk_things, slot_things, temp_things, thread_things, standing_things, cell_things, free_things, copy_things, content_things, queue_things, mutex_things, result_things, task_things, waiting_things, leaving_things, server_things, servers_things}
-use Rattle.heap_law.proofs.Names.{and_left, and_right}
-use Rattle.heap_law.proofs.Sums.{tot-append, server_parts}
-use Rattle.event_law.proofs.MutexResults.{weighed}
+use Rattle.ending_law.specs.Below.fr_base.declared.name.MutexNo.{MutexNo}
+use Rattle.ending_law.specs.Below.heap_partition.declared.value.Cell.{Cell}
+use Rattle.ending_law.specs.Below.heap_partition.declared.value.Owned.{Owned}
+use Rattle.ending_law.specs.Below.mut_borrow.declared.mutable.MutRef.{MutRef}
+use Rattle.ending_law.specs.Below.mut_borrow.declared.shared.SharedRef.{SharedRef}
+use Rattle.ending_law.specs.Below.read_cache.Cache.{Copy}
+use Rattle.ending_law.specs.Below.mutex_home.Mutexes.{Mutex}
+use Rattle.ending_law.specs.Below.join_home.Tasks.{Task, TaskState, kept}
+use Rattle.ending_law.specs.Below.thread_state.View.{ThreadState}
+use Rattle.ending_law.specs.Below.thread_state.declared.value.Value.{Value}
+use Rattle.ending_law.specs.Below.thread_state.declared.value.Value.TheVariants as value
+use Rattle.ending_law.specs.Below.server_model.Servers.{Server}
+use Rattle.ending_law.specs.Below.drive_model.Ending.{is_none, no_message}
+use Rattle.ending_law.specs.Below.heap_law.Names.{tot, one, if_so, same_mutex}
+use Rattle.ending_law.specs.Below.heap_law.Things.{Thing, Spot, Location, in_slot, in_temp, as_gift, as_content, as_result, holds, shares, borrows, locks, lies, vacant, retired, copied, uses, stands, at_home, queued, noted, counts, things_at, is_free, value_things, gift_things, walk_things, slot_things, temp_things, thread_things, standing_things, cell_things, free_things, copy_things, content_things, queue_things, mutex_things, result_things, task_things, waiting_things, leaving_things, server_things, servers_things}
+use Rattle.ending_law.proofs.Below.heap_law.Names.{and_left, and_right}
+use Rattle.ending_law.proofs.Below.heap_law.Sums.{tot-append, server_parts}
+use Rattle.ending_law.proofs.Below.event_law.MutexResults.{weighed}
 
 -- a weight of what mutexes have at their homes, beside one of the mutexes
 pub record OfMutexes (f g : Thing → ℕ) : Type 0 where

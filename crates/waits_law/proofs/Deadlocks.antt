@@ -1,20 +1,20 @@
 -- In a deadlocked cluster each thread waits for the same on the plain machine.
 use Rattle.std.proofs.Common.{◌≡◌, ℕ, Bool, true, false, Option, Some, None, refl, ap, ◌∙◌, arith}
-use Rattle.fr_base.specs.declared.step.Ending3.TheVariants.{Deadlocked}
-use Rattle.fr_plain.specs.PlainState.{SameState, plain_state}
-use Rattle.fr_code.specs.Machine.{CodeWhole}
-use Rattle.thread_state.specs.View.{is_over}
-use Rattle.thread_state.specs.declared.phase.Phase.{Phase}
-use Rattle.thread_state.specs.declared.phase.Phase.TheVariants as phase
-use Rattle.server_model.specs.Servers.{Cluster}
-use Rattle.server_model.specs.Questions.{wait_of}
-use Rattle.drive_model.specs.Ending.{no_message, all_in, is_stopped, ending_of}
-use Rattle.heap_law.specs.Follow.{Standing, thread_at}
-use Rattle.heap_law.specs.Things.{things_of}
-use Rattle.heap_law.specs.Sight.{sight}
-use Rattle.heap_law.specs.OneHeap.{one_heap}
-use Rattle.type_law.specs.ClusterTypes.{IsCoherent}
-use Rattle.path_law.proofs.Contained.{among_thread}
+use Rattle.ending_law.specs.Below.fr_base.declared.step.Ending3.TheVariants.{Deadlocked}
+use Rattle.ending_law.specs.Below.fr_plain.PlainState.{SameState, plain_state}
+use Rattle.ending_law.specs.Below.fr_code.Machine.{CodeWhole}
+use Rattle.ending_law.specs.Below.thread_state.View.{is_over}
+use Rattle.ending_law.specs.Below.thread_state.declared.phase.Phase.{Phase}
+use Rattle.ending_law.specs.Below.thread_state.declared.phase.Phase.TheVariants as phase
+use Rattle.ending_law.specs.Below.server_model.Servers.{Cluster}
+use Rattle.ending_law.specs.Below.server_model.Questions.{wait_of}
+use Rattle.ending_law.specs.Below.drive_model.Ending.{no_message, all_in, is_stopped, ending_of}
+use Rattle.ending_law.specs.Below.heap_law.Follow.{Standing, thread_at}
+use Rattle.ending_law.specs.Below.heap_law.Things.{things_of}
+use Rattle.ending_law.specs.Below.heap_law.Sight.{sight}
+use Rattle.ending_law.specs.Below.heap_law.OneHeap.{one_heap}
+use Rattle.task_law.specs.Below.type_law.ClusterTypes.{IsCoherent}
+use Rattle.task_law.proofs.Below.path_law.Contained.{among_thread}
 use Rattle.ending_law.proofs.Servers.{other_so}
 use Rattle.waits_law.specs.Waits.{plain_wait, rests}
 use Rattle.waits_law.proofs.Plain.{resting_wait}

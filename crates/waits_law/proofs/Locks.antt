@@ -3,63 +3,63 @@ use Rattle.std.proofs.Common.{◌≡◌, inl, inr, ℕ, ◌+◌, ◌≤◌, ◌=
 use Rattle.std.specs.Prelude.{slice_get}
 use Rattle.std.proofs.Math.Path.{fun_ext}
 use Rattle.std.proofs.lemmas.Bool.Decides.{nat_tests}
-use Rattle.fr_typing.proofs.PlaceLemmas.{eq_cases}
-use Rattle.fr_base.specs.declared.label.Label.{Label}
-use Rattle.fr_base.specs.declared.name.MutexNo.{MutexNo}
-use Rattle.fr_base.specs.declared.place.Lval.{Lval}
-use Rattle.fr_base.specs.declared.instruction.Instr.{Instr}
-use Rattle.fr_base.specs.declared.instruction.Instr.TheVariants as instr
-use Rattle.fr_base.specs.declared.step.Fresh.TheVariants as fresh
-use Rattle.fr_base.specs.declared.step.Wait.TheVariants as wait
-use Rattle.fr_plain.specs.declared.value.Value.{Value as PlainValue}
-use Rattle.fr_plain.specs.Machine.{lock_waits, content_waits, mutex_behind, takes_name, refused_names, at_mutex, where_there, locked, step, step_of}
-use Rattle.fr_plain.specs.MachineActs.{do_lock, do_end, do_finish, do_leave}
-use Rattle.fr_plain.specs.MachineThreads.{Shared, over, ended, alive, owing, loose, going, on_value, alone, next, life_move, thread_at, mutex_there}
-use Rattle.fr_plain.specs.MachineThreads as machine
-use Rattle.fr_plain.specs.PlainState.{SameState, plain_state}
-use Rattle.fr_code.specs.Machine.{CodeThread, CodeWhole, CodeState}
-use Rattle.fr_code.specs.Steps.{Place, code_move, code_moves, over_at, run_instr}
-use Rattle.fr_code.specs.TableStates.{CodeStateTypes}
+use Rattle.ending_law.proofs.Below.fr_typing.PlaceLemmas.{eq_cases}
+use Rattle.ending_law.specs.Below.fr_base.declared.label.Label.{Label}
+use Rattle.ending_law.specs.Below.fr_base.declared.name.MutexNo.{MutexNo}
+use Rattle.ending_law.specs.Below.fr_base.declared.place.Lval.{Lval}
+use Rattle.ending_law.specs.Below.fr_base.declared.instruction.Instr.{Instr}
+use Rattle.ending_law.specs.Below.fr_base.declared.instruction.Instr.TheVariants as instr
+use Rattle.ending_law.specs.Below.fr_base.declared.step.Fresh.TheVariants as fresh
+use Rattle.ending_law.specs.Below.fr_base.declared.step.Wait.TheVariants as wait
+use Rattle.ending_law.specs.Below.fr_plain.declared.value.Value.{Value as PlainValue}
+use Rattle.ending_law.specs.Below.fr_plain.Machine.{lock_waits, content_waits, mutex_behind, takes_name, refused_names, at_mutex, where_there, locked, step, step_of}
+use Rattle.ending_law.specs.Below.fr_plain.MachineActs.{do_lock, do_end, do_finish, do_leave}
+use Rattle.ending_law.specs.Below.fr_plain.MachineThreads.{Shared, over, ended, alive, owing, loose, going, on_value, alone, next, life_move, thread_at, mutex_there}
+use Rattle.ending_law.specs.Below.fr_plain.MachineThreads as machine
+use Rattle.ending_law.specs.Below.fr_plain.PlainState.{SameState, plain_state}
+use Rattle.ending_law.specs.Below.fr_code.Machine.{CodeThread, CodeWhole, CodeState}
+use Rattle.ending_law.specs.Below.fr_code.Steps.{Place, code_move, code_moves, over_at, run_instr}
+use Rattle.ending_law.specs.Below.fr_code.TableStates.{CodeStateTypes}
 use Rattle.step_types.specs.Steps.{IsNotStuck, has_ended, waits, steps}
 use Rattle.step_types.proofs.CodeSteps.{never_stuck}
-use Rattle.heap_partition.specs.Plain.{plain_of}
-use Rattle.heap_partition.specs.declared.value.Owned.TheVariants as owned
-use Rattle.mutex_home.specs.Mutexes.{Mutex, mutex_in}
-use Rattle.thread_state.specs.View.{ThreadState, is_over}
-use Rattle.thread_state.specs.declared.phase.Phase.{Phase}
-use Rattle.thread_state.specs.declared.phase.Phase.TheVariants as phase
-use Rattle.thread_state.specs.declared.value.Value.{Value}
-use Rattle.thread_state.specs.declared.value.Value.TheVariants as value
-use Rattle.join_home.specs.Tasks.{Task, TaskState, let_go, kept, asked, in_pair}
-use Rattle.join_home.specs.Tasks as tasks
-use Rattle.server_model.specs.Servers.{Server, Cluster, server_at}
-use Rattle.drive_model.specs.Ending.{is_none, no_message, all_threads, all_in, is_stopped}
-use Rattle.heap_law.specs.Names.{tot, one, other, some, if_so, same_mutex, Among}
-use Rattle.heap_law.specs.Things.{Thing, Location, as_gift, as_content, holds, sent, stands, at_home, queued, noted, things_at, thread_things, standing_things, waiting_things, leaving_things, server_things, servers_things, things_of}
-use Rattle.heap_law.specs.Follow.{Standing, Ground, threads_in, locate, value_in, value_behind}
-use Rattle.heap_law.specs.Follow as cluster
-use Rattle.heap_law.specs.Sight.{Sight, sight}
-use Rattle.heap_law.specs.Walking.{instr_of}
-use Rattle.heap_law.specs.Naming.{named_mutexes, uncounted_mutex, threads, uncounted_thread}
-use Rattle.heap_law.specs.Requests as requests
-use Rattle.heap_law.specs.Requests.{halves, halves_to, halves_needed, noted_answer, is_lock, is_join, is_par, is_got, early_gift, in_phase, phase_fits, note_carries, carries, mutex_of, locked_mutex, is_mutex, stands_wrong, Branch, half_noted, pair_notes, pair_places}
-use Rattle.heap_law.specs.Sharing.{queued_inside}
-use Rattle.heap_law.specs.OneHeap.{or_else, one_heap, mutex_n, is_in_state, if_in, first_shown, content_value, share_in, is_gift_of, if_there, running_at}
-use Rattle.heap_law.proofs.Names.{and_left, and_right, same_mutexes}
-use Rattle.heap_law.proofs.Sums.{tot-append}
-use Rattle.type_law.specs.ClusterTypes.{IsCoherent}
-use Rattle.path_law.specs.HeapStore.{GoesOn}
-use Rattle.path_law.proofs.Contained.{among_thread}
-use Rattle.path_law.proofs.Forms.{none_of}
-use Rattle.event_law.proofs.Askers.{mutex_there as home_there}
-use Rattle.event_law.proofs.MutexResults.{weighed, Weight, mutex_weighs}
-use Rattle.event_law.proofs.Unseen.{Unseen, Unnoted, thread_alone, seen_of}
-use Rattle.turn_law.proofs.OneTurn.{Going, as_main, as_owing, as_loose, life_as}
-use Rattle.turn_law.proofs.PlainTurn.{thread_as, goes_as}
-use Rattle.turn_law.proofs.ReadWalk.{passed_loads, loads_of}
-use Rattle.turn_law.proofs.PlainReads.{mutex_shown}
-use Rattle.turn_law.proofs.Instructions.{shown_last}
-use Rattle.lock_law.proofs.PlainMutex.{acts, move_as}
+use Rattle.ending_law.specs.Below.heap_partition.Plain.{plain_of}
+use Rattle.ending_law.specs.Below.heap_partition.declared.value.Owned.TheVariants as owned
+use Rattle.ending_law.specs.Below.mutex_home.Mutexes.{Mutex, mutex_in}
+use Rattle.ending_law.specs.Below.thread_state.View.{ThreadState, is_over}
+use Rattle.ending_law.specs.Below.thread_state.declared.phase.Phase.{Phase}
+use Rattle.ending_law.specs.Below.thread_state.declared.phase.Phase.TheVariants as phase
+use Rattle.ending_law.specs.Below.thread_state.declared.value.Value.{Value}
+use Rattle.ending_law.specs.Below.thread_state.declared.value.Value.TheVariants as value
+use Rattle.ending_law.specs.Below.join_home.Tasks.{Task, TaskState, let_go, kept, asked, in_pair}
+use Rattle.ending_law.specs.Below.join_home.Tasks as tasks
+use Rattle.ending_law.specs.Below.server_model.Servers.{Server, Cluster, server_at}
+use Rattle.ending_law.specs.Below.drive_model.Ending.{is_none, no_message, all_threads, all_in, is_stopped}
+use Rattle.ending_law.specs.Below.heap_law.Names.{tot, one, other, some, if_so, same_mutex, Among}
+use Rattle.ending_law.specs.Below.heap_law.Things.{Thing, Location, as_gift, as_content, holds, sent, stands, at_home, queued, noted, things_at, thread_things, standing_things, waiting_things, leaving_things, server_things, servers_things, things_of}
+use Rattle.ending_law.specs.Below.heap_law.Follow.{Standing, Ground, threads_in, locate, value_in, value_behind}
+use Rattle.ending_law.specs.Below.heap_law.Follow as cluster
+use Rattle.ending_law.specs.Below.heap_law.Sight.{Sight, sight}
+use Rattle.ending_law.specs.Below.heap_law.Walking.{instr_of}
+use Rattle.ending_law.specs.Below.heap_law.Naming.{named_mutexes, uncounted_mutex, threads, uncounted_thread}
+use Rattle.ending_law.specs.Below.heap_law.Requests as requests
+use Rattle.ending_law.specs.Below.heap_law.Requests.{halves, halves_to, halves_needed, noted_answer, is_lock, is_join, is_par, is_got, early_gift, in_phase, phase_fits, note_carries, carries, mutex_of, locked_mutex, is_mutex, stands_wrong, Branch, half_noted, pair_notes, pair_places}
+use Rattle.ending_law.specs.Below.heap_law.Sharing.{queued_inside}
+use Rattle.ending_law.specs.Below.heap_law.OneHeap.{or_else, one_heap, mutex_n, is_in_state, if_in, first_shown, content_value, share_in, is_gift_of, if_there, running_at}
+use Rattle.ending_law.proofs.Below.heap_law.Names.{and_left, and_right, same_mutexes}
+use Rattle.ending_law.proofs.Below.heap_law.Sums.{tot-append}
+use Rattle.task_law.specs.Below.type_law.ClusterTypes.{IsCoherent}
+use Rattle.task_law.specs.Below.path_law.HeapStore.{GoesOn}
+use Rattle.task_law.proofs.Below.path_law.Contained.{among_thread}
+use Rattle.task_law.proofs.Below.path_law.Forms.{none_of}
+use Rattle.ending_law.proofs.Below.event_law.Askers.{mutex_there as home_there}
+use Rattle.ending_law.proofs.Below.event_law.MutexResults.{weighed, Weight, mutex_weighs}
+use Rattle.ending_law.proofs.Below.event_law.Unseen.{Unseen, Unnoted, thread_alone, seen_of}
+use Rattle.task_law.proofs.Below.turn_law.OneTurn.{Going, as_main, as_owing, as_loose, life_as}
+use Rattle.task_law.proofs.Below.turn_law.PlainTurn.{thread_as, goes_as}
+use Rattle.task_law.proofs.Below.turn_law.ReadWalk.{passed_loads, loads_of}
+use Rattle.task_law.proofs.Below.turn_law.PlainReads.{mutex_shown}
+use Rattle.task_law.proofs.Below.turn_law.Instructions.{shown_last}
+use Rattle.task_law.proofs.Below.lock_law.PlainMutex.{acts, move_as}
 use Rattle.ending_law.proofs.Weighing.{weighs, some_weighs, truly, in_such, not_both}
 use Rattle.ending_law.proofs.Servers.{other_so}
 use Rattle.ending_law.proofs.Going.{sends, servers_silent, parents_wait, if_weighs, one_weighs}

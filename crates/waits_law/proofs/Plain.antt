@@ -1,26 +1,26 @@
 -- A thread of a cluster that goes on, on the plain machine: where it is, and what it waits for.
 use Rattle.std.proofs.Common.{◌≡◌, ℕ, Bool, true, false, List, Option, Some, None, refl, ap, ap₂, ◌∙◌}
 use Rattle.std.specs.Prelude.{slice_get}
-use Rattle.fr_base.specs.declared.instruction.Instr.{Instr}
-use Rattle.fr_base.specs.declared.label.Plain.{Plain}
-use Rattle.fr_plain.specs.declared.value.Value.{Value}
-use Rattle.fr_plain.specs.Machine.{act_waits, move_waits, waits_for}
-use Rattle.fr_plain.specs.MachineActs.{do_end, do_finish, do_leave}
-use Rattle.fr_plain.specs.MachineThreads.{over, ended, alive, owing, loose, going, on_value, alone, next, thread_at, result_at, result_in}
-use Rattle.fr_plain.specs.PlainState.{SameState, running, running_in, plain_state}
-use Rattle.fr_code.specs.Machine.{CodeLife, CodeThread, CodeWhole}
-use Rattle.fr_code.specs.Steps.{Place, CodeAct, code_move, code_moves, over_at}
-use Rattle.server_model.specs.Servers.{Cluster}
-use Rattle.heap_law.specs.Follow.{Standing}
-use Rattle.heap_law.specs.Follow as cluster
-use Rattle.heap_law.specs.Sight.{sight}
-use Rattle.heap_law.specs.OneHeap.{one_heap, is_given_thread, result_of, ended_with, if_given, life_at, life_of, running_at}
-use Rattle.type_law.specs.ClusterTypes.{IsCoherent}
-use Rattle.path_law.specs.HeapStore.{GoesOn, HasPaths}
-use Rattle.path_law.proofs.Alike.{coherent_has_paths}
-use Rattle.path_law.proofs.Shown.{stands_there, is_given}
-use Rattle.turn_law.proofs.OneTurn.{Going, as_main, as_owing, as_loose, life_as, going_of, going_is}
-use Rattle.turn_law.proofs.PlainTurn.{thread_as, found_as}
+use Rattle.ending_law.specs.Below.fr_base.declared.instruction.Instr.{Instr}
+use Rattle.ending_law.specs.Below.fr_base.declared.label.Plain.{Plain}
+use Rattle.ending_law.specs.Below.fr_plain.declared.value.Value.{Value}
+use Rattle.ending_law.specs.Below.fr_plain.Machine.{act_waits, move_waits, waits_for}
+use Rattle.ending_law.specs.Below.fr_plain.MachineActs.{do_end, do_finish, do_leave}
+use Rattle.ending_law.specs.Below.fr_plain.MachineThreads.{over, ended, alive, owing, loose, going, on_value, alone, next, thread_at, result_at, result_in}
+use Rattle.ending_law.specs.Below.fr_plain.PlainState.{SameState, running, running_in, plain_state}
+use Rattle.ending_law.specs.Below.fr_code.Machine.{CodeLife, CodeThread, CodeWhole}
+use Rattle.ending_law.specs.Below.fr_code.Steps.{Place, CodeAct, code_move, code_moves, over_at}
+use Rattle.ending_law.specs.Below.server_model.Servers.{Cluster}
+use Rattle.ending_law.specs.Below.heap_law.Follow.{Standing}
+use Rattle.ending_law.specs.Below.heap_law.Follow as cluster
+use Rattle.ending_law.specs.Below.heap_law.Sight.{sight}
+use Rattle.ending_law.specs.Below.heap_law.OneHeap.{one_heap, is_given_thread, result_of, ended_with, if_given, life_at, life_of, running_at}
+use Rattle.task_law.specs.Below.type_law.ClusterTypes.{IsCoherent}
+use Rattle.task_law.specs.Below.path_law.HeapStore.{GoesOn, HasPaths}
+use Rattle.task_law.proofs.Below.path_law.Alike.{coherent_has_paths}
+use Rattle.task_law.proofs.Below.path_law.Shown.{stands_there, is_given}
+use Rattle.task_law.proofs.Below.turn_law.OneTurn.{Going, as_main, as_owing, as_loose, life_as, going_of, going_is}
+use Rattle.task_law.proofs.Below.turn_law.PlainTurn.{thread_as, found_as}
 use Rattle.waits_law.specs.Waits.{wait_in, plain_wait, rests, RestingWaitNot}
 
 module _ (k : Cluster) (co : IsCoherent k) (c : CodeWhole) (same : SameState (plain_state c) (one_heap k)) (x : Standing) (g : GoesOn k x) where

@@ -2,51 +2,51 @@
 use Rattle.std.proofs.Common.{◌≡◌, ◌⊎◌, inl, inr, ℕ, zero, suc, ◌+◌, ◌≤◌, ◌==◌, ◌&&◌, not, Bool, true, false, if◌then◌else◌, List, [], ◌∷◌, Option, Some, None, refl, sym, ap, ap₂, subst, ◌∙◌, arith}
 use Rattle.std.specs.Prelude.{slice_get}
 use Rattle.std.proofs.lemmas.Bool.Decides.{nat_tests}
-use Rattle.fr_base.specs.declared.name.MutexNo.{MutexNo}
-use Rattle.fr_base.specs.declared.instruction.Instr.{Instr}
-use Rattle.fr_base.specs.declared.instruction.Instr.TheVariants as instr
-use Rattle.fr_base.specs.declared.instruction.Operand.{Operand}
-use Rattle.fr_base.specs.declared.instruction.Operand.TheVariants as operand
-use Rattle.fr_base.specs.declared.label.Plain.TheVariants as plain
-use Rattle.fr_base.specs.declared.step.Wait.{Wait}
-use Rattle.fr_base.specs.declared.step.Wait.TheVariants as wait
-use Rattle.fr_plain.specs.declared.value.Value.{Value as PlainValue}
-use Rattle.fr_plain.specs.declared.value.Value.TheVariants as plain_v
-use Rattle.fr_plain.specs.Machine.{unless_some, unless_both, pair_waits}
-use Rattle.fr_plain.specs.MachineActs.{do_join, do_par_end}
-use Rattle.fr_plain.specs.MachineThreads.{result_at, pair_of}
-use Rattle.fr_plain.specs.PlainState.{SameState, plain_state, is_over_in, two_of}
-use Rattle.fr_code.specs.Machine.{CodeWhole}
-use Rattle.fr_code.specs.Steps as ends
-use Rattle.fr_code.specs.Steps.{Place, CodeMove, with_operand, loud, run_instr}
-use Rattle.thread_state.specs.View.{ThreadState, is_over}
-use Rattle.thread_state.specs.declared.phase.Phase.{Phase}
-use Rattle.thread_state.specs.declared.phase.Phase.TheVariants as phase
-use Rattle.thread_state.specs.declared.value.Value.{Value}
-use Rattle.thread_state.specs.declared.value.Value.TheVariants as value
-use Rattle.heap_partition.specs.declared.value.Owned.TheVariants as owned
-use Rattle.join_home.specs.Tasks.{Task, TaskState, let_go, kept, asked, in_pair}
-use Rattle.join_home.specs.Tasks as tasks
-use Rattle.server_model.specs.Servers.{Cluster}
-use Rattle.server_model.specs.Work.{last_of, front_of}
-use Rattle.drive_model.specs.Ending.{no_message}
-use Rattle.heap_law.specs.Names.{tot, one, some, if_so, Among}
-use Rattle.heap_law.specs.Things.{Thing, sent, stands, queued, noted, things_of}
-use Rattle.heap_law.specs.Follow.{Standing, threads_in, thread_at}
-use Rattle.heap_law.specs.Sight.{sight}
-use Rattle.heap_law.specs.Paths.{popped, task_in, joined_thread}
-use Rattle.heap_law.specs.Requests.{waits, halves, halves_to, halves_needed, noted_answer, is_lock, is_join, is_par, is_task, in_phase, phase_fits, note_carries, carries, stands_wrong, is_par_end, same_truth, par_end, Branch, half_noted, half_over, branch_places, pair_notes, pair_places, over_at, both_over}
-use Rattle.heap_law.specs.Sharing.{going_on, going_notes, goes_on}
-use Rattle.heap_law.specs.OneHeap.{one_heap, running_at, two_in}
-use Rattle.heap_law.specs.OneHeap as cluster
-use Rattle.heap_law.proofs.Names.{and_left, and_right, same_number}
-use Rattle.type_law.specs.ClusterTypes.{IsCoherent}
-use Rattle.path_law.specs.HeapStore.{GoesOn}
-use Rattle.path_law.proofs.Contained.{among_thread}
-use Rattle.path_law.proofs.Forms.{none_of}
-use Rattle.event_law.proofs.Values.{last_split}
-use Rattle.turn_law.proofs.PlainTurn.{goes_as}
-use Rattle.turn_law.proofs.Instructions.{shown_last, shown_push}
+use Rattle.ending_law.specs.Below.fr_base.declared.name.MutexNo.{MutexNo}
+use Rattle.ending_law.specs.Below.fr_base.declared.instruction.Instr.{Instr}
+use Rattle.ending_law.specs.Below.fr_base.declared.instruction.Instr.TheVariants as instr
+use Rattle.ending_law.specs.Below.fr_base.declared.instruction.Operand.{Operand}
+use Rattle.ending_law.specs.Below.fr_base.declared.instruction.Operand.TheVariants as operand
+use Rattle.ending_law.specs.Below.fr_base.declared.label.Plain.TheVariants as plain
+use Rattle.ending_law.specs.Below.fr_base.declared.step.Wait.{Wait}
+use Rattle.ending_law.specs.Below.fr_base.declared.step.Wait.TheVariants as wait
+use Rattle.ending_law.specs.Below.fr_plain.declared.value.Value.{Value as PlainValue}
+use Rattle.ending_law.specs.Below.fr_plain.declared.value.Value.TheVariants as plain_v
+use Rattle.ending_law.specs.Below.fr_plain.Machine.{unless_some, unless_both, pair_waits}
+use Rattle.ending_law.specs.Below.fr_plain.MachineActs.{do_join, do_par_end}
+use Rattle.ending_law.specs.Below.fr_plain.MachineThreads.{result_at, pair_of}
+use Rattle.ending_law.specs.Below.fr_plain.PlainState.{SameState, plain_state, is_over_in, two_of}
+use Rattle.ending_law.specs.Below.fr_code.Machine.{CodeWhole}
+use Rattle.ending_law.specs.Below.fr_code.Steps as ends
+use Rattle.ending_law.specs.Below.fr_code.Steps.{Place, CodeMove, with_operand, loud, run_instr}
+use Rattle.ending_law.specs.Below.thread_state.View.{ThreadState, is_over}
+use Rattle.ending_law.specs.Below.thread_state.declared.phase.Phase.{Phase}
+use Rattle.ending_law.specs.Below.thread_state.declared.phase.Phase.TheVariants as phase
+use Rattle.ending_law.specs.Below.thread_state.declared.value.Value.{Value}
+use Rattle.ending_law.specs.Below.thread_state.declared.value.Value.TheVariants as value
+use Rattle.ending_law.specs.Below.heap_partition.declared.value.Owned.TheVariants as owned
+use Rattle.ending_law.specs.Below.join_home.Tasks.{Task, TaskState, let_go, kept, asked, in_pair}
+use Rattle.ending_law.specs.Below.join_home.Tasks as tasks
+use Rattle.ending_law.specs.Below.server_model.Servers.{Cluster}
+use Rattle.ending_law.specs.Below.server_model.Work.{last_of, front_of}
+use Rattle.ending_law.specs.Below.drive_model.Ending.{no_message}
+use Rattle.ending_law.specs.Below.heap_law.Names.{tot, one, some, if_so, Among}
+use Rattle.ending_law.specs.Below.heap_law.Things.{Thing, sent, stands, queued, noted, things_of}
+use Rattle.ending_law.specs.Below.heap_law.Follow.{Standing, threads_in, thread_at}
+use Rattle.ending_law.specs.Below.heap_law.Sight.{sight}
+use Rattle.ending_law.specs.Below.heap_law.Paths.{popped, task_in, joined_thread}
+use Rattle.ending_law.specs.Below.heap_law.Requests.{waits, halves, halves_to, halves_needed, noted_answer, is_lock, is_join, is_par, is_task, in_phase, phase_fits, note_carries, carries, stands_wrong, is_par_end, same_truth, par_end, Branch, half_noted, half_over, branch_places, pair_notes, pair_places, over_at, both_over}
+use Rattle.ending_law.specs.Below.heap_law.Sharing.{going_on, going_notes, goes_on}
+use Rattle.ending_law.specs.Below.heap_law.OneHeap.{one_heap, running_at, two_in}
+use Rattle.ending_law.specs.Below.heap_law.OneHeap as cluster
+use Rattle.ending_law.proofs.Below.heap_law.Names.{and_left, and_right, same_number}
+use Rattle.task_law.specs.Below.type_law.ClusterTypes.{IsCoherent}
+use Rattle.task_law.specs.Below.path_law.HeapStore.{GoesOn}
+use Rattle.task_law.proofs.Below.path_law.Contained.{among_thread}
+use Rattle.task_law.proofs.Below.path_law.Forms.{none_of}
+use Rattle.ending_law.proofs.Below.event_law.Values.{last_split}
+use Rattle.task_law.proofs.Below.turn_law.PlainTurn.{goes_as}
+use Rattle.task_law.proofs.Below.turn_law.Instructions.{shown_last, shown_push}
 use Rattle.task_law.proofs.PlainPairs.{by_pair}
 use Rattle.ending_law.proofs.Weighing.{weighs, some_weighs, truly, in_such, not_both}
 use Rattle.ending_law.proofs.Servers.{other_so}

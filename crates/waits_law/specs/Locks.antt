@@ -1,19 +1,19 @@
 -- WHAT THREADS WAIT FOR AT LOCKS, and in a deadlocked cluster (this project's rule).
 use Rattle.std.specs.Prelude.{◌≡◌, ℕ, true, Option, Some, None}
-use Rattle.fr_base.specs.declared.name.MutexNo.{MutexNo}
-use Rattle.fr_base.specs.declared.step.Ending3.TheVariants.{Deadlocked}
-use Rattle.fr_base.specs.declared.step.Wait.{Wait}
-use Rattle.fr_base.specs.declared.step.Wait.TheVariants as wait
-use Rattle.fr_plain.specs.PlainState.{SameState, plain_state}
-use Rattle.fr_code.specs.Machine.{CodeWhole}
-use Rattle.thread_state.specs.declared.phase.Phase.TheVariants as phase
-use Rattle.server_model.specs.Servers.{Cluster}
-use Rattle.server_model.specs.Questions.{wait_of}
-use Rattle.drive_model.specs.Ending.{no_message, all_in, is_stopped, ending}
-use Rattle.heap_law.specs.Follow.{Standing, thread_at}
-use Rattle.heap_law.specs.Sight.{sight}
-use Rattle.heap_law.specs.OneHeap.{one_heap}
-use Rattle.type_law.specs.ClusterTypes.{IsCoherent}
+use Rattle.ending_law.specs.Below.fr_base.declared.name.MutexNo.{MutexNo}
+use Rattle.ending_law.specs.Below.fr_base.declared.step.Ending3.TheVariants.{Deadlocked}
+use Rattle.ending_law.specs.Below.fr_base.declared.step.Wait.{Wait}
+use Rattle.ending_law.specs.Below.fr_base.declared.step.Wait.TheVariants as wait
+use Rattle.ending_law.specs.Below.fr_plain.PlainState.{SameState, plain_state}
+use Rattle.ending_law.specs.Below.fr_code.Machine.{CodeWhole}
+use Rattle.ending_law.specs.Below.thread_state.declared.phase.Phase.TheVariants as phase
+use Rattle.ending_law.specs.Below.server_model.Servers.{Cluster}
+use Rattle.ending_law.specs.Below.server_model.Questions.{wait_of}
+use Rattle.ending_law.specs.Below.drive_model.Ending.{no_message, all_in, is_stopped, ending}
+use Rattle.ending_law.specs.Below.heap_law.Follow.{Standing, thread_at}
+use Rattle.ending_law.specs.Below.heap_law.Sight.{sight}
+use Rattle.ending_law.specs.Below.heap_law.OneHeap.{one_heap}
+use Rattle.task_law.specs.Below.type_law.ClusterTypes.{IsCoherent}
 use Rattle.waits_law.specs.Waits.{plain_wait}
 
 -- a thread that waits at a lock in a quiet cluster of which each thread is over or waits does so in each state of the plain machine that the cluster stands for

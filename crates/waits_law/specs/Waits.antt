@@ -1,22 +1,22 @@
 -- WHAT A THREAD WAITS FOR, in a cluster where no message waits and on the plain machine (this project's rule).
 use Rattle.std.specs.Prelude.{◌≡◌, ℕ, Bool, true, List, Option, Some, None}
-use Rattle.fr_base.specs.declared.instruction.Instr.{Instr}
-use Rattle.fr_base.specs.declared.step.Wait.{Wait}
-use Rattle.fr_base.specs.declared.step.Wait.TheVariants as wait
-use Rattle.fr_plain.specs.Machine.{waits_for}
-use Rattle.fr_plain.specs.MachineThreads.{thread_at}
-use Rattle.fr_plain.specs.PlainState.{SameState, plain_state}
-use Rattle.fr_code.specs.Machine.{CodeThread, CodeWhole}
-use Rattle.fr_code.specs.Steps.{code_moves}
-use Rattle.thread_state.specs.View.{is_over}
-use Rattle.thread_state.specs.declared.phase.Phase.TheVariants as phase
-use Rattle.server_model.specs.Servers.{Cluster}
-use Rattle.drive_model.specs.Ending.{no_message}
-use Rattle.heap_law.specs.Follow.{Standing}
-use Rattle.heap_law.specs.Follow as cluster
-use Rattle.heap_law.specs.Sight.{sight}
-use Rattle.heap_law.specs.OneHeap.{one_heap}
-use Rattle.type_law.specs.ClusterTypes.{IsCoherent}
+use Rattle.ending_law.specs.Below.fr_base.declared.instruction.Instr.{Instr}
+use Rattle.ending_law.specs.Below.fr_base.declared.step.Wait.{Wait}
+use Rattle.ending_law.specs.Below.fr_base.declared.step.Wait.TheVariants as wait
+use Rattle.ending_law.specs.Below.fr_plain.Machine.{waits_for}
+use Rattle.ending_law.specs.Below.fr_plain.MachineThreads.{thread_at}
+use Rattle.ending_law.specs.Below.fr_plain.PlainState.{SameState, plain_state}
+use Rattle.ending_law.specs.Below.fr_code.Machine.{CodeThread, CodeWhole}
+use Rattle.ending_law.specs.Below.fr_code.Steps.{code_moves}
+use Rattle.ending_law.specs.Below.thread_state.View.{is_over}
+use Rattle.ending_law.specs.Below.thread_state.declared.phase.Phase.TheVariants as phase
+use Rattle.ending_law.specs.Below.server_model.Servers.{Cluster}
+use Rattle.ending_law.specs.Below.drive_model.Ending.{no_message}
+use Rattle.ending_law.specs.Below.heap_law.Follow.{Standing}
+use Rattle.ending_law.specs.Below.heap_law.Follow as cluster
+use Rattle.ending_law.specs.Below.heap_law.Sight.{sight}
+use Rattle.ending_law.specs.Below.heap_law.OneHeap.{one_heap}
+use Rattle.task_law.specs.Below.type_law.ClusterTypes.{IsCoherent}
 
 abbrev pub wait_in : List Instr → CodeWhole → Option CodeThread → Option Wait
 wait_in code c None = None

@@ -1,21 +1,21 @@
 -- How much a weight that sees cells, threads and messages alone, words included, sees of the rest of a server: what its partition has, and what its messages carry.
 use Rattle.std.proofs.Common.{◌≡◌, ℕ, ◌+◌, Bool, true, false, if◌then◌else◌, List, [], ◌∷◌, ◌++◌, Option, Some, None, refl, arith}
-use Rattle.fr_base.specs.declared.name.MutexNo.{MutexNo}
-use Rattle.fr_base.specs.declared.name.ObjNo.{ObjNo}
-use Rattle.heap_partition.specs.declared.value.Owned.{Owned}
-use Rattle.owner_box.specs.View.{PartitionState}
-use Rattle.mutex_home.specs.Mutexes.{Mutex}
-use Rattle.join_home.specs.Tasks.{Task, TaskState, going, let_go, kept, asked, in_pair}
-use Rattle.mut_borrow.specs.declared.shared.SharedRef.{SharedRef}
-use Rattle.thread_state.specs.View.{ThreadState}
-use Rattle.thread_state.specs.declared.value.Value.{Value}
-use Rattle.thread_state.specs.declared.value.Value.TheVariants as value
-use Rattle.server_msgs.specs.declared.message.Message.{Message}
-use Rattle.server_model.specs.Servers.{Sent, Rest}
-use Rattle.heap_law.specs.Names.{tot}
-use Rattle.heap_law.specs.Things.{Spot, in_slot, in_temp, Location, at_slot, at_temp, Thing, lies, flies, stands, sent, uses, things_at, partition_things, copy_things, content_things, queue_things, mutex_things, result_things, task_things, value_things, pin_things, gift_things, walk_things, slot_things, temp_things, thread_things, waiting_things, leaving_things}
-use Rattle.heap_law.proofs.Sums.{tot-append}
-use Rattle.event_law.proofs.Bags.{rest_things}
+use Rattle.free_law.specs.Below.fr_base.declared.name.MutexNo.{MutexNo}
+use Rattle.free_law.specs.Below.fr_base.declared.name.ObjNo.{ObjNo}
+use Rattle.free_law.specs.Below.heap_partition.declared.value.Owned.{Owned}
+use Rattle.free_law.specs.Below.owner_box.View.{PartitionState}
+use Rattle.free_law.specs.Below.mutex_home.Mutexes.{Mutex}
+use Rattle.free_law.specs.Below.join_home.Tasks.{Task, TaskState, going, let_go, kept, asked, in_pair}
+use Rattle.free_law.specs.Below.mut_borrow.declared.shared.SharedRef.{SharedRef}
+use Rattle.free_law.specs.Below.thread_state.View.{ThreadState}
+use Rattle.free_law.specs.Below.thread_state.declared.value.Value.{Value}
+use Rattle.free_law.specs.Below.thread_state.declared.value.Value.TheVariants as value
+use Rattle.free_law.specs.Below.server_msgs.declared.message.Message.{Message}
+use Rattle.free_law.specs.Below.server_model.Servers.{Sent, Rest}
+use Rattle.free_law.specs.Below.heap_law.Names.{tot}
+use Rattle.free_law.specs.Below.heap_law.Things.{Spot, in_slot, in_temp, Location, at_slot, at_temp, Thing, lies, flies, stands, sent, uses, things_at, partition_things, copy_things, content_things, queue_things, mutex_things, result_things, task_things, value_things, pin_things, gift_things, walk_things, slot_things, temp_things, thread_things, waiting_things, leaving_things}
+use Rattle.free_law.proofs.Below.heap_law.Sums.{tot-append}
+use Rattle.free_law.proofs.Below.event_law.Bags.{rest_things}
 
 -- of a cell it sees the object and the value, with the server where it lies, of a thread all of it with where it stands, and each message
 pub record Seeing : Type 0 where

@@ -1,34 +1,34 @@
 -- After the step of a thread a weight that sees cells and threads, words included, sees no less, but for that thread and for what it writes.
 use Rattle.std.proofs.Common.{◌≡◌, ℕ, ◌+◌, ◌≤◌, Bool, true, false, List, ◌++◌, Option, Some, None, refl, subst, ◌∙◌, arith}
 use Rattle.std.specs.Prelude.{slice_get, option_map, length, take, drop}
-use Rattle.fr_base.specs.declared.name.ObjNo.{ObjNo}
-use Rattle.fr_base.specs.declared.instruction.Instr.{Instr}
-use Rattle.heap_partition.specs.declared.value.Owned.{Owned}
-use Rattle.thread_state.specs.View.{ThreadState}
-use Rattle.journal.specs.View.{EntryView}
-use Rattle.server_model.specs.declared.event.Event.{Event}
-use Rattle.server_model.specs.declared.event.What.{What}
-use Rattle.server_model.specs.declared.event.What.TheVariants.{Step, Deliver, Evict, Migrate}
-use Rattle.server_model.specs.Servers.{Server, Cluster, server_at}
-use Rattle.server_model.specs.Work.{Hand, thread_in, without_thread, then_some}
-use Rattle.server_model.specs.Clusters.{with_server, hand_over_newer, done_at, apply}
-use Rattle.server_model.specs.Events.{Stepped, enabled, begin_work, step, step_in, stepped, does}
-use Rattle.heap_law.specs.Names.{tot}
-use Rattle.heap_law.specs.Things.{Thing, thread_things, server_things, servers_things, things_of}
-use Rattle.heap_law.proofs.Sums.{tot-append}
-use Rattle.type_law.specs.ClusterTypes.{IsCoherent}
-use Rattle.event_law.specs.Laws.{Gives, GoTo, FewEvents}
-use Rattle.event_law.proofs.Results.{then_gives, over_gives, both_give, test_gives, weaker}
-use Rattle.event_law.proofs.Bags.{all_standing, rest_things, server_same, thread_number, tot-without, tot-set}
-use Rattle.event_law.proofs.Events.{tot-server}
-use Rattle.event_law.proofs.Applied.{go_with}
-use Rattle.event_law.proofs.Handing.{hand_over_newer_law}
-use Rattle.event_law.proofs.Sending.{each_event_sends}
-use Rattle.still_law.proofs.Addresses.{in_place}
-use Rattle.still_law.proofs.Leaving.{others, placed_here}
-use Rattle.local_law.proofs.Goes.{Goes, on, waits_pair, is_over, asks_cell, asks_home, gets_cell, gets_gift, goes_pair, thread_goes}
-use Rattle.path_law.specs.HeapStore.{HasPaths}
-use Rattle.result_law.proofs.Known.{Steps, paths}
+use Rattle.free_law.specs.Below.fr_base.declared.name.ObjNo.{ObjNo}
+use Rattle.free_law.specs.Below.fr_base.declared.instruction.Instr.{Instr}
+use Rattle.free_law.specs.Below.heap_partition.declared.value.Owned.{Owned}
+use Rattle.free_law.specs.Below.thread_state.View.{ThreadState}
+use Rattle.free_law.specs.Below.journal.View.{EntryView}
+use Rattle.free_law.specs.Below.server_model.declared.event.Event.{Event}
+use Rattle.free_law.specs.Below.server_model.declared.event.What.{What}
+use Rattle.free_law.specs.Below.server_model.declared.event.What.TheVariants.{Step, Deliver, Evict, Migrate}
+use Rattle.free_law.specs.Below.server_model.Servers.{Server, Cluster, server_at}
+use Rattle.free_law.specs.Below.server_model.Work.{Hand, thread_in, without_thread, then_some}
+use Rattle.free_law.specs.Below.server_model.Clusters.{with_server, hand_over_newer, done_at, apply}
+use Rattle.free_law.specs.Below.server_model.Events.{Stepped, enabled, begin_work, step, step_in, stepped, does}
+use Rattle.free_law.specs.Below.heap_law.Names.{tot}
+use Rattle.free_law.specs.Below.heap_law.Things.{Thing, thread_things, server_things, servers_things, things_of}
+use Rattle.free_law.proofs.Below.heap_law.Sums.{tot-append}
+use Rattle.free_law.specs.Below.type_law.ClusterTypes.{IsCoherent}
+use Rattle.free_law.specs.Below.event_law.Laws.{Gives, GoTo, FewEvents}
+use Rattle.free_law.proofs.Below.event_law.Results.{then_gives, over_gives, both_give, test_gives, weaker}
+use Rattle.free_law.proofs.Below.event_law.Bags.{all_standing, rest_things, server_same, thread_number, tot-without, tot-set}
+use Rattle.free_law.proofs.Below.event_law.Events.{tot-server}
+use Rattle.free_law.proofs.Below.event_law.Applied.{go_with}
+use Rattle.free_law.proofs.Below.event_law.Handing.{hand_over_newer_law}
+use Rattle.free_law.proofs.Below.event_law.Sending.{each_event_sends}
+use Rattle.free_law.proofs.Below.still_law.Addresses.{in_place}
+use Rattle.free_law.proofs.Below.still_law.Leaving.{others, placed_here}
+use Rattle.free_law.proofs.Below.local_law.Goes.{Goes, on, waits_pair, is_over, asks_cell, asks_home, gets_cell, gets_gift, goes_pair, thread_goes}
+use Rattle.free_law.specs.Below.path_law.HeapStore.{HasPaths}
+use Rattle.free_law.proofs.Below.result_law.Known.{Steps, paths}
 use Rattle.wait_law.proofs.Written.{Written}
 use Rattle.walk_law.proofs.Cells.{Seeing, cell_weight, rest_seen, thread_seen}
 use Rattle.walk_law.proofs.Commits.{EndsStep}

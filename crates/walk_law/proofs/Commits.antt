@@ -2,52 +2,52 @@
 use Rattle.std.proofs.Common.{◌≡◌, ℕ, zero, suc, ◌+◌, ◌==◌, nat_lt, Bool, true, false, if◌then◌else◌, List, [], Option, Some, None, option_map, refl, sym, subst, arith}
 use Rattle.std.specs.Prelude.{slice_get, length}
 use Rattle.std.specs.Bool.{⊤}
-use Rattle.fr_base.specs.Rooms.{WithRoom}
-use Rattle.fr_base.specs.declared.name.MutexNo.{MutexNo}
-use Rattle.fr_base.specs.declared.place.Lval.{Lval}
-use Rattle.fr_base.specs.declared.place.Op.{Op}
-use Rattle.fr_plain.specs.Acts.{result_of}
-use Rattle.fr_base.specs.declared.step.Fresh.{Fresh}
-use Rattle.fr_base.specs.declared.step.Fresh.TheVariants as fresh
-use Rattle.fr_base.specs.declared.release.Released.TheVariants as released
-use Rattle.fr_base.specs.declared.instruction.Instr.{Instr}
-use Rattle.fr_base.specs.declared.instruction.Instr.TheVariants as instr
-use Rattle.fr_base.specs.declared.instruction.Operand.{Operand}
-use Rattle.fr_base.specs.declared.instruction.Operand.TheVariants as operand
-use Rattle.global_addr.specs.Words.{server_of}
-use Rattle.heap_partition.specs.declared.value.Cell.{Cell}
-use Rattle.heap_partition.specs.declared.value.Owned.{Owned}
-use Rattle.heap_partition.specs.declared.value.Owned.TheVariants as owned
-use Rattle.owner_box.specs.View.{PartitionState}
-use Rattle.owner_box.specs.Partition.{made}
-use Rattle.read_cache.specs.Cache.{Copy, can_unpin}
-use Rattle.mutex_home.specs.Mutexes.{can_make}
-use Rattle.join_home.specs.Tasks.{can_begin, can_begin_pair}
-use Rattle.mut_borrow.specs.Refs.{finish_word}
-use Rattle.mut_borrow.specs.declared.shared.SharedRef.{SharedRef}
-use Rattle.mut_borrow.specs.declared.mutable.MutRef.{MutRef}
-use Rattle.migration.specs.Packing.{unpin_all}
-use Rattle.thread_state.specs.View.{new_thread}
-use Rattle.thread_state.specs.declared.phase.Phase.{Phase}
-use Rattle.thread_state.specs.declared.phase.Phase.TheVariants as phase
-use Rattle.thread_state.specs.declared.value.Value.{Value}
-use Rattle.thread_state.specs.declared.value.Value.TheVariants as value
-use Rattle.server_msgs.specs.declared.message.Message.{Message}
-use Rattle.server_msgs.specs.declared.message.Message.TheVariants as message
-use Rattle.journal.specs.declared.act.Act.TheVariants as act
-use Rattle.server_model.specs.Servers.{Rest}
-use Rattle.server_model.specs.Work.{Work, Hand, Popped, last_of, sent_from, push_temp, pop_temp, pop_slot, pop, pop_owned, pop_int, taken_as, owned_of, int_of, task_of, then_some, label_all, working, with_cache, with_phase}
-use Rattle.server_model.specs.NewWords.{NewWord, can_grow, issue_placed}
-use Rattle.server_model.specs.Places.{Spot, in_slot, on_top, in_cell, in_copy, nowhere, cell_at, value_at, load_at, put_slot, second_of}
-use Rattle.server_model.specs.Drop.{home_of, give_up, unpin_ref, finished_at, drop_value}
-use Rattle.server_model.specs.Start.{next_thread, server_for, start_thread, capture}
-use Rattle.server_model.specs.Commit.{done_where, go_on, waiting, let_slot, label_dropped, replace_slot, store_labels, store_at, replace_at, assign, take_out, read, shared_from, borrow_from, borrow, mutable_from, borrow_mut_from, borrow_mut, discard, drop_slot, next_object, push_box, make_box, box_up, arith as calculate, print, begun, spawn_with, ask_join, take_gift, join, pair_begun, par_with, par_end, end_with, mutex_made, mutex_at, ask_dup, dup, ask_lock, push_content, lock, held_of, send_content, unlock, commit, settle}
-use Rattle.server_model.specs.Events.{Stepped, done_step, committed}
-use Rattle.heap_law.specs.Things.{Thing}
-use Rattle.event_law.specs.Laws.{Gives}
-use Rattle.event_law.proofs.Results.{then_gives, map_gives, test_gives, bind_gives, over_gives}
-use Rattle.event_law.proofs.Objects.{makes}
-use Rattle.still_law.proofs.Addresses.{next_empty}
+use Rattle.free_law.specs.Below.fr_base.Rooms.{WithRoom}
+use Rattle.free_law.specs.Below.fr_base.declared.name.MutexNo.{MutexNo}
+use Rattle.free_law.specs.Below.fr_base.declared.place.Lval.{Lval}
+use Rattle.free_law.specs.Below.fr_base.declared.place.Op.{Op}
+use Rattle.free_law.specs.Below.fr_plain.Acts.{result_of}
+use Rattle.free_law.specs.Below.fr_base.declared.step.Fresh.{Fresh}
+use Rattle.free_law.specs.Below.fr_base.declared.step.Fresh.TheVariants as fresh
+use Rattle.free_law.specs.Below.fr_base.declared.release.Released.TheVariants as released
+use Rattle.free_law.specs.Below.fr_base.declared.instruction.Instr.{Instr}
+use Rattle.free_law.specs.Below.fr_base.declared.instruction.Instr.TheVariants as instr
+use Rattle.free_law.specs.Below.fr_base.declared.instruction.Operand.{Operand}
+use Rattle.free_law.specs.Below.fr_base.declared.instruction.Operand.TheVariants as operand
+use Rattle.free_law.specs.Below.global_addr.Words.{server_of}
+use Rattle.free_law.specs.Below.heap_partition.declared.value.Cell.{Cell}
+use Rattle.free_law.specs.Below.heap_partition.declared.value.Owned.{Owned}
+use Rattle.free_law.specs.Below.heap_partition.declared.value.Owned.TheVariants as owned
+use Rattle.free_law.specs.Below.owner_box.View.{PartitionState}
+use Rattle.free_law.specs.Below.owner_box.Partition.{made}
+use Rattle.free_law.specs.Below.read_cache.Cache.{Copy, can_unpin}
+use Rattle.free_law.specs.Below.mutex_home.Mutexes.{can_make}
+use Rattle.free_law.specs.Below.join_home.Tasks.{can_begin, can_begin_pair}
+use Rattle.free_law.specs.Below.mut_borrow.Refs.{finish_word}
+use Rattle.free_law.specs.Below.mut_borrow.declared.shared.SharedRef.{SharedRef}
+use Rattle.free_law.specs.Below.mut_borrow.declared.mutable.MutRef.{MutRef}
+use Rattle.free_law.specs.Below.migration.Packing.{unpin_all}
+use Rattle.free_law.specs.Below.thread_state.View.{new_thread}
+use Rattle.free_law.specs.Below.thread_state.declared.phase.Phase.{Phase}
+use Rattle.free_law.specs.Below.thread_state.declared.phase.Phase.TheVariants as phase
+use Rattle.free_law.specs.Below.thread_state.declared.value.Value.{Value}
+use Rattle.free_law.specs.Below.thread_state.declared.value.Value.TheVariants as value
+use Rattle.free_law.specs.Below.server_msgs.declared.message.Message.{Message}
+use Rattle.free_law.specs.Below.server_msgs.declared.message.Message.TheVariants as message
+use Rattle.free_law.specs.Below.journal.declared.act.Act.TheVariants as act
+use Rattle.free_law.specs.Below.server_model.Servers.{Rest}
+use Rattle.free_law.specs.Below.server_model.Work.{Work, Hand, Popped, last_of, sent_from, push_temp, pop_temp, pop_slot, pop, pop_owned, pop_int, taken_as, owned_of, int_of, task_of, then_some, label_all, working, with_cache, with_phase}
+use Rattle.free_law.specs.Below.server_model.NewWords.{NewWord, can_grow, issue_placed}
+use Rattle.free_law.specs.Below.server_model.Places.{Spot, in_slot, on_top, in_cell, in_copy, nowhere, cell_at, value_at, load_at, put_slot, second_of}
+use Rattle.free_law.specs.Below.server_model.Drop.{home_of, give_up, unpin_ref, finished_at, drop_value}
+use Rattle.free_law.specs.Below.server_model.Start.{next_thread, server_for, start_thread, capture}
+use Rattle.free_law.specs.Below.server_model.Commit.{done_where, go_on, waiting, let_slot, label_dropped, replace_slot, store_labels, store_at, replace_at, assign, take_out, read, shared_from, borrow_from, borrow, mutable_from, borrow_mut_from, borrow_mut, discard, drop_slot, next_object, push_box, make_box, box_up, arith as calculate, print, begun, spawn_with, ask_join, take_gift, join, pair_begun, par_with, par_end, end_with, mutex_made, mutex_at, ask_dup, dup, ask_lock, push_content, lock, held_of, send_content, unlock, commit, settle}
+use Rattle.free_law.specs.Below.server_model.Events.{Stepped, done_step, committed}
+use Rattle.free_law.specs.Below.heap_law.Things.{Thing}
+use Rattle.free_law.specs.Below.event_law.Laws.{Gives}
+use Rattle.free_law.proofs.Below.event_law.Results.{then_gives, map_gives, test_gives, bind_gives, over_gives}
+use Rattle.free_law.proofs.Below.event_law.Objects.{makes}
+use Rattle.free_law.proofs.Below.still_law.Addresses.{next_empty}
 use Rattle.walk_law.proofs.Cells.{Seeing, cell_weight}
 use Rattle.walk_law.proofs.Ready as much
 use Rattle.walk_law.proofs.Ready.{Blind, place_unseen}

@@ -1,35 +1,35 @@
 -- After the delivery of a `move` or a `drop` each place of each thread leads where it led, over the same pointers, and what is said by these holds.
 use Rattle.std.proofs.Common.{◌≡◌, ◌⊎◌, inl, inr, ℕ, zero, suc, ◌≤◌, Bool, true, false, Option, Some, None, refl, sym, ap, subst, ◌∙◌, arith}
 use Rattle.std.specs.Prelude.{slice_get}
-use Rattle.fr_base.specs.declared.name.ObjNo.{ObjNo}
-use Rattle.fr_base.specs.declared.place.Lval.{Lval}
-use Rattle.fr_base.specs.Names.{same_object}
-use Rattle.heap_partition.specs.declared.value.Cell.{Cell}
-use Rattle.server_msgs.specs.declared.message.Message.{Message}
-use Rattle.server_msgs.specs.declared.message.Message.TheVariants as message
-use Rattle.journal.specs.View.{EntryView}
-use Rattle.server_model.specs.declared.event.Event.{Event}
-use Rattle.server_model.specs.declared.event.What.TheVariants.{Deliver}
-use Rattle.server_model.specs.Servers.{Server, Cluster, server_at}
-use Rattle.server_model.specs.Clusters.{apply}
-use Rattle.heap_law.specs.Names.{tot, one, Among}
-use Rattle.heap_law.specs.Things.{Location, in_cell, Thing, sent, things_of}
-use Rattle.heap_law.specs.Follow.{Standing, threads_in, value_behind, leads, locate}
-use Rattle.heap_law.specs.Sight.{sight}
-use Rattle.heap_law.specs.Walking.{lost_place, out_of_turn}
-use Rattle.heap_law.specs.Requests.{old_word}
-use Rattle.heap_law.specs.Coherent.{Holds, IsSound, passed_in_a_walk, place_followed, waits_in_turn, taken_is_new}
-use Rattle.heap_law.proofs.Words.{itself, named, none_all}
-use Rattle.type_law.specs.ClusterTypes.{IsCoherent}
-use Rattle.path_law.specs.HeapStore.{GoesOn}
-use Rattle.path_law.proofs.Alike.{coherent_has_paths}
-use Rattle.word_law.specs.Reworded.{HasPlaces}
-use Rattle.word_law.specs.Unmoved.{Delivers}
-use Rattle.event_law.specs.Laws.{Gives, FewEvents}
-use Rattle.event_law.proofs.Results.{both_give, weaker}
-use Rattle.event_law.proofs.MutexResults.{has}
-use Rattle.event_law.proofs.Sending.{applied_part}
-use Rattle.local_law.proofs.Sentences.{passed_kept}
+use Rattle.free_law.specs.Below.fr_base.declared.name.ObjNo.{ObjNo}
+use Rattle.free_law.specs.Below.fr_base.declared.place.Lval.{Lval}
+use Rattle.free_law.specs.Below.fr_base.Names.{same_object}
+use Rattle.free_law.specs.Below.heap_partition.declared.value.Cell.{Cell}
+use Rattle.free_law.specs.Below.server_msgs.declared.message.Message.{Message}
+use Rattle.free_law.specs.Below.server_msgs.declared.message.Message.TheVariants as message
+use Rattle.free_law.specs.Below.journal.View.{EntryView}
+use Rattle.free_law.specs.Below.server_model.declared.event.Event.{Event}
+use Rattle.free_law.specs.Below.server_model.declared.event.What.TheVariants.{Deliver}
+use Rattle.free_law.specs.Below.server_model.Servers.{Server, Cluster, server_at}
+use Rattle.free_law.specs.Below.server_model.Clusters.{apply}
+use Rattle.free_law.specs.Below.heap_law.Names.{tot, one, Among}
+use Rattle.free_law.specs.Below.heap_law.Things.{Location, in_cell, Thing, sent, things_of}
+use Rattle.free_law.specs.Below.heap_law.Follow.{Standing, threads_in, value_behind, leads, locate}
+use Rattle.free_law.specs.Below.heap_law.Sight.{sight}
+use Rattle.free_law.specs.Below.heap_law.Walking.{lost_place, out_of_turn}
+use Rattle.free_law.specs.Below.heap_law.Requests.{old_word}
+use Rattle.free_law.specs.Below.heap_law.Coherent.{Holds, IsSound, passed_in_a_walk, place_followed, waits_in_turn, taken_is_new}
+use Rattle.free_law.proofs.Below.heap_law.Words.{itself, named, none_all}
+use Rattle.free_law.specs.Below.type_law.ClusterTypes.{IsCoherent}
+use Rattle.free_law.specs.Below.path_law.HeapStore.{GoesOn}
+use Rattle.free_law.proofs.Below.path_law.Alike.{coherent_has_paths}
+use Rattle.wait_law.specs.Below.word_law.Reworded.{HasPlaces}
+use Rattle.wait_law.specs.Below.word_law.Unmoved.{Delivers}
+use Rattle.free_law.specs.Below.event_law.Laws.{Gives, FewEvents}
+use Rattle.free_law.proofs.Below.event_law.Results.{both_give, weaker}
+use Rattle.free_law.proofs.Below.event_law.MutexResults.{has}
+use Rattle.free_law.proofs.Below.event_law.Sending.{applied_part}
+use Rattle.free_law.proofs.Below.local_law.Sentences.{passed_kept}
 use Rattle.free_law.proofs.Unled.{none_leads}
 use Rattle.wait_law.specs.Places.{Follows}
 use Rattle.wait_law.proofs.Found.{Weighing, weighing}

@@ -1,48 +1,48 @@
 -- The delivery of a `move` or a `drop` leaves each thread, each cell but that of a dropped object, and what is asked for.
 use Rattle.std.proofs.Common.{◌≡◌, ℕ, ◌+◌, ◌≤◌, ◌==◌, ◌&&◌, nat_lt, Bool, true, false, if◌then◌else◌, ◌++◌, Option, Some, None, refl, sym, ap, subst, ◌∙◌, arith}
 use Rattle.std.specs.Prelude.{slice_get, option_map}
-use Rattle.fr_base.specs.declared.name.ObjNo.{ObjNo}
-use Rattle.fr_base.specs.declared.release.Released.TheVariants as released
-use Rattle.fr_base.specs.Names.{same_object}
-use Rattle.global_addr.specs.Words.{colour_of, server_of, address_of}
-use Rattle.heap_partition.specs.Same.{same_owned}
-use Rattle.heap_partition.specs.declared.value.Cell.{Cell}
-use Rattle.heap_partition.specs.declared.value.Owned.{Owned}
-use Rattle.heap_partition.specs.declared.value.Owned.TheVariants as owned
-use Rattle.owner_box.specs.View.{PartitionState}
-use Rattle.owner_box.specs.Partition.{freed}
-use Rattle.server_msgs.specs.declared.message.Message.{Message}
-use Rattle.server_msgs.specs.declared.message.Message.TheVariants as message
-use Rattle.journal.specs.View.{EntryView}
-use Rattle.server_model.specs.declared.event.Event.{Event}
-use Rattle.server_model.specs.declared.event.What.TheVariants.{Deliver}
-use Rattle.server_model.specs.Servers.{Rest, Server, Cluster, server_at}
-use Rattle.server_model.specs.Work.{Work, receive, sent_from, look_object, then_some, beside_threads}
-use Rattle.server_model.specs.Drop.{home_of, give_up}
-use Rattle.server_model.specs.Objects.{deliver_move, deliver_drop}
-use Rattle.server_model.specs.Events.{enabled, received, left_by, deliver_message, does}
-use Rattle.server_model.specs.Clusters.{done_at, act_at, apply}
-use Rattle.heap_law.specs.Names.{tot, one, if_so}
-use Rattle.heap_law.specs.Things.{Thing, lies, flies, stands, sent, vacant, retired, partition_things, server_things, things_of}
-use Rattle.heap_law.specs.Follow.{Standing}
-use Rattle.heap_law.specs.Paths.{Awaited}
-use Rattle.heap_law.specs.Walking.{asks_for, asked_for}
-use Rattle.heap_law.specs.Weights.{states}
-use Rattle.heap_law.specs.Coherent.{IsSound}
-use Rattle.heap_law.proofs.Sums.{tot-append}
-use Rattle.word_law.specs.Unmoved.{Delivers}
-use Rattle.event_law.specs.Laws.{Gives, FewEvents}
-use Rattle.event_law.proofs.Results.{then_gives, map_gives, over_gives, test_gives}
-use Rattle.event_law.proofs.Bags.{all_standing, rest_things, server_same, of_receiving, of_partition, of_sending, sent_number}
-use Rattle.event_law.proofs.Cells.{left_by as address_left, looked, frees, not_free}
-use Rattle.event_law.proofs.Objects.{one_state}
-use Rattle.event_law.proofs.ObjectMessages.{looked_object}
-use Rattle.event_law.proofs.Events.{tot-server}
-use Rattle.event_law.proofs.Applied.{handed_on}
-use Rattle.event_law.proofs.Sending.{each_event_sends}
-use Rattle.still_law.proofs.Leaving.{others, placed_here}
-use Rattle.still_law.proofs.Tests.{IsTest, objects}
-use Rattle.still_law.proofs.Told.{tot_same, at_thread}
+use Rattle.free_law.specs.Below.fr_base.declared.name.ObjNo.{ObjNo}
+use Rattle.free_law.specs.Below.fr_base.declared.release.Released.TheVariants as released
+use Rattle.free_law.specs.Below.fr_base.Names.{same_object}
+use Rattle.free_law.specs.Below.global_addr.Words.{colour_of, server_of, address_of}
+use Rattle.free_law.specs.Below.heap_partition.Same.{same_owned}
+use Rattle.free_law.specs.Below.heap_partition.declared.value.Cell.{Cell}
+use Rattle.free_law.specs.Below.heap_partition.declared.value.Owned.{Owned}
+use Rattle.free_law.specs.Below.heap_partition.declared.value.Owned.TheVariants as owned
+use Rattle.free_law.specs.Below.owner_box.View.{PartitionState}
+use Rattle.free_law.specs.Below.owner_box.Partition.{freed}
+use Rattle.free_law.specs.Below.server_msgs.declared.message.Message.{Message}
+use Rattle.free_law.specs.Below.server_msgs.declared.message.Message.TheVariants as message
+use Rattle.free_law.specs.Below.journal.View.{EntryView}
+use Rattle.free_law.specs.Below.server_model.declared.event.Event.{Event}
+use Rattle.free_law.specs.Below.server_model.declared.event.What.TheVariants.{Deliver}
+use Rattle.free_law.specs.Below.server_model.Servers.{Rest, Server, Cluster, server_at}
+use Rattle.free_law.specs.Below.server_model.Work.{Work, receive, sent_from, look_object, then_some, beside_threads}
+use Rattle.free_law.specs.Below.server_model.Drop.{home_of, give_up}
+use Rattle.free_law.specs.Below.server_model.Objects.{deliver_move, deliver_drop}
+use Rattle.free_law.specs.Below.server_model.Events.{enabled, received, left_by, deliver_message, does}
+use Rattle.free_law.specs.Below.server_model.Clusters.{done_at, act_at, apply}
+use Rattle.free_law.specs.Below.heap_law.Names.{tot, one, if_so}
+use Rattle.free_law.specs.Below.heap_law.Things.{Thing, lies, flies, stands, sent, vacant, retired, partition_things, server_things, things_of}
+use Rattle.free_law.specs.Below.heap_law.Follow.{Standing}
+use Rattle.free_law.specs.Below.heap_law.Paths.{Awaited}
+use Rattle.free_law.specs.Below.heap_law.Walking.{asks_for, asked_for}
+use Rattle.free_law.specs.Below.heap_law.Weights.{states}
+use Rattle.free_law.specs.Below.heap_law.Coherent.{IsSound}
+use Rattle.free_law.proofs.Below.heap_law.Sums.{tot-append}
+use Rattle.wait_law.specs.Below.word_law.Unmoved.{Delivers}
+use Rattle.free_law.specs.Below.event_law.Laws.{Gives, FewEvents}
+use Rattle.free_law.proofs.Below.event_law.Results.{then_gives, map_gives, over_gives, test_gives}
+use Rattle.free_law.proofs.Below.event_law.Bags.{all_standing, rest_things, server_same, of_receiving, of_partition, of_sending, sent_number}
+use Rattle.free_law.proofs.Below.event_law.Cells.{left_by as address_left, looked, frees, not_free}
+use Rattle.free_law.proofs.Below.event_law.Objects.{one_state}
+use Rattle.free_law.proofs.Below.event_law.ObjectMessages.{looked_object}
+use Rattle.free_law.proofs.Below.event_law.Events.{tot-server}
+use Rattle.free_law.proofs.Below.event_law.Applied.{handed_on}
+use Rattle.free_law.proofs.Below.event_law.Sending.{each_event_sends}
+use Rattle.free_law.proofs.Below.still_law.Leaving.{others, placed_here}
+use Rattle.free_law.proofs.Below.still_law.Tests.{IsTest, objects}
+use Rattle.free_law.proofs.Below.still_law.Told.{tot_same, at_thread}
 use Rattle.walk_law.proofs.Cells.{Seeing, cell_weight, amount, rest_seen}
 use Rattle.walk_law.proofs.Still.{shows, Lasts}
 
@@ -278,7 +278,7 @@ move_asks n b w a t o c e =
 
 pub moves_last : (k : Cluster) (e : Event) (w : ℕ) (o : ObjNo) (a t : ℕ) → Delivers k e (message.Move w o a t) → IsSound k → FewEvents k → Gives (λ (d : Cluster × EntryView). Lasts k d.0 None_own None_changed) (apply k e)
 moves_last k e w o a t d sound few =
-    Rattle.event_law.proofs.Results.weaker (Grows MoveFits k) (λ (r : Cluster × EntryView). Lasts k r.0 None_own None_changed) (apply k e) (moves_grow k e w o a t d sound few) (λ r grows. record {
+    Rattle.free_law.proofs.Below.event_law.Results.weaker (Grows MoveFits k) (λ (r : Cluster × EntryView). Lasts k r.0 None_own None_changed) (apply k e) (moves_grow k e w o a t d sound few) (λ r grows. record {
       threads = λ g n ne. weighs k r.0 (threads_of g n) (at_thread g n) (threads_so g n) (grows (threads_of g n, record { even = λ x y q v. refl; answers = λ m b u v q c f. omega arith }));
       cells = λ q v free. weighs k r.0 (cells_of q v) (shows q v) (cells_so q v) (grows (cells_of q v, record { even = λ x y z u. refl; answers = λ m b u z j c f. omega arith }));
       asked = λ n b. weighs k r.0 (asks_of n b) (asked_for n b) (asks_so n b) (grows (asks_of n b, record { even = λ x y z u. refl; answers = λ m y u z j c f. move_asks n b u y z j c f }));
@@ -286,7 +286,7 @@ moves_last k e w o a t d sound few =
 
 pub drops_last : (k : Cluster) (e : Event) (w : ℕ) (o : ObjNo) → Delivers k e (message.Drop w o) → IsSound k → FewEvents k → Gives (λ (d : Cluster × EntryView). Lasts k d.0 None_own (λ q. o ≡ q)) (apply k e)
 drops_last k e w o d sound few =
-    Rattle.event_law.proofs.Results.weaker (Grows (DropFits o) k) (λ (r : Cluster × EntryView). Lasts k r.0 None_own (λ q. o ≡ q)) (apply k e) (drops_grow k e w o d sound few) (λ r grows. record {
+    Rattle.free_law.proofs.Below.event_law.Results.weaker (Grows (DropFits o) k) (λ (r : Cluster × EntryView). Lasts k r.0 None_own (λ q. o ≡ q)) (apply k e) (drops_grow k e w o d sound few) (λ r grows. record {
       threads = λ g n ne. weighs k r.0 (threads_of g n) (at_thread g n) (threads_so g n) (grows (threads_of g n, record { cell = λ x v. refl; message_none = λ x y. refl }));
       cells = λ q v free. weighs k r.0 (cells_of q v) (shows q v) (cells_so q v) (grows (cells_of q v, record { cell = λ x u. other q v free u; message_none = λ x y. refl }));
       asked = λ n b. weighs k r.0 (asks_of n b) (asked_for n b) (asks_so n b) (grows (asks_of n b, record { cell = λ x v. refl; message_none = λ x y. refl }));

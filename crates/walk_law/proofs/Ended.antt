@@ -3,48 +3,48 @@ use Rattle.std.proofs.Common.{◌≡◌, inl, ◌≤◌, ◌<◌, ℕ, zero, suc
 use Rattle.std.specs.Prelude.{slice_get, slice_set}
 use Rattle.std.specs.Bool.{⊤}
 use Rattle.std.proofs.lemmas.Bool.Decides.{nat_tests}
-use Rattle.fr_base.specs.Lists.{last_of}
-use Rattle.fr_base.specs.declared.name.ObjNo.{ObjNo}
-use Rattle.fr_base.specs.declared.place.Lval.{Lval}
-use Rattle.fr_base.specs.declared.instruction.Instr.{Instr}
-use Rattle.global_addr.specs.Words.{colour_of, server_of, next_word}
-use Rattle.heap_partition.specs.declared.value.Cell.{Cell}
-use Rattle.heap_partition.specs.declared.value.Owned.{Owned}
-use Rattle.mut_borrow.specs.Refs.{cleaned_answer}
-use Rattle.mut_borrow.specs.declared.mutable.MutRef.{MutRef}
-use Rattle.mut_borrow.specs.declared.mutable.Cleaned.TheVariants as cleaned
-use Rattle.owner_box.specs.View.{PartitionState}
-use Rattle.thread_state.specs.View.{ThreadState}
-use Rattle.thread_state.specs.declared.value.Value.{Value}
-use Rattle.thread_state.specs.declared.value.Value.TheVariants as value
-use Rattle.server_model.specs.Servers.{Rest, Server, Cluster}
-use Rattle.server_model.specs.Work.{Hand, with_temps, front_of, then_some}
-use Rattle.server_model.specs.NewWords.{NewWord, issue_tint, issue_renewal}
-use Rattle.server_model.specs.Places.{Spot, in_slot, on_top, value_at, put_at, with_word, took, put_word}
-use Rattle.server_model.specs.Prepare.{Prepared, ready, requested, nothing, ready_at, ask_object, box_of, cleaned_by, clean_value, write_stars}
-use Rattle.heap_law.specs.Things.{Location, at_slot, in_cell as in_object}
-use Rattle.heap_law.specs.Follow.{Standing}
-use Rattle.heap_law.specs.Paths.{ends}
-use Rattle.heap_law.specs.Sight.{Pointer, sight}
-use Rattle.heap_law.specs.Walking.{path}
-use Rattle.heap_law.specs.Words.{IsStale}
-use Rattle.path_law.specs.HeapStore.{GoesOn, HasPaths}
-use Rattle.word_law.proofs.Standing.{told, told_standing}
-use Rattle.read_law.specs.Reading.{LiesUnder}
-use Rattle.event_law.proofs.Objects.{length_set}
-use Rattle.end_law.specs.Ending.{EndsAlone}
-use Rattle.end_law.proofs.Alone.{ended_are_alone}
-use Rattle.end_law.proofs.Ends.{EndsAt}
-use Rattle.end_law.proofs.Lying.{ended_lies_there}
-use Rattle.result_law.proofs.Known.{Steps, hand, standing, paths, goes}
-use Rattle.result_law.proofs.Pointing.{Stands, its_partition, its_colour, leads_home}
-use Rattle.result_law.proofs.Borrowing.{puts_reference}
-use Rattle.write_law.proofs.Memory.{Leads, looked, Sane, renewal_issued}
-use Rattle.write_law.proofs.Route.{Route, begins, a_slot, Fine, all_hops, rerouted, set_other}
-use Rattle.write_law.proofs.StepRoutes.{sane_there, roomy, awake}
-use Rattle.write_law.proofs.Holders.{C, at, short_holder, route, object_away, slot_away}
+use Rattle.free_law.specs.Below.fr_base.Lists.{last_of}
+use Rattle.free_law.specs.Below.fr_base.declared.name.ObjNo.{ObjNo}
+use Rattle.free_law.specs.Below.fr_base.declared.place.Lval.{Lval}
+use Rattle.free_law.specs.Below.fr_base.declared.instruction.Instr.{Instr}
+use Rattle.free_law.specs.Below.global_addr.Words.{colour_of, server_of, next_word}
+use Rattle.free_law.specs.Below.heap_partition.declared.value.Cell.{Cell}
+use Rattle.free_law.specs.Below.heap_partition.declared.value.Owned.{Owned}
+use Rattle.free_law.specs.Below.mut_borrow.Refs.{cleaned_answer}
+use Rattle.free_law.specs.Below.mut_borrow.declared.mutable.MutRef.{MutRef}
+use Rattle.free_law.specs.Below.mut_borrow.declared.mutable.Cleaned.TheVariants as cleaned
+use Rattle.free_law.specs.Below.owner_box.View.{PartitionState}
+use Rattle.free_law.specs.Below.thread_state.View.{ThreadState}
+use Rattle.free_law.specs.Below.thread_state.declared.value.Value.{Value}
+use Rattle.free_law.specs.Below.thread_state.declared.value.Value.TheVariants as value
+use Rattle.free_law.specs.Below.server_model.Servers.{Rest, Server, Cluster}
+use Rattle.free_law.specs.Below.server_model.Work.{Hand, with_temps, front_of, then_some}
+use Rattle.free_law.specs.Below.server_model.NewWords.{NewWord, issue_tint, issue_renewal}
+use Rattle.free_law.specs.Below.server_model.Places.{Spot, in_slot, on_top, value_at, put_at, with_word, took, put_word}
+use Rattle.free_law.specs.Below.server_model.Prepare.{Prepared, ready, requested, nothing, ready_at, ask_object, box_of, cleaned_by, clean_value, write_stars}
+use Rattle.free_law.specs.Below.heap_law.Things.{Location, at_slot, in_cell as in_object}
+use Rattle.free_law.specs.Below.heap_law.Follow.{Standing}
+use Rattle.free_law.specs.Below.heap_law.Paths.{ends}
+use Rattle.free_law.specs.Below.heap_law.Sight.{Pointer, sight}
+use Rattle.free_law.specs.Below.heap_law.Walking.{path}
+use Rattle.free_law.specs.Below.heap_law.Words.{IsStale}
+use Rattle.free_law.specs.Below.path_law.HeapStore.{GoesOn, HasPaths}
+use Rattle.wait_law.proofs.Below.word_law.Standing.{told, told_standing}
+use Rattle.wait_law.specs.Below.read_law.Reading.{LiesUnder}
+use Rattle.free_law.proofs.Below.event_law.Objects.{length_set}
+use Rattle.free_law.specs.Below.end_law.Ending.{EndsAlone}
+use Rattle.free_law.proofs.Below.end_law.Alone.{ended_are_alone}
+use Rattle.free_law.proofs.Below.end_law.Ends.{EndsAt}
+use Rattle.free_law.proofs.Below.end_law.Lying.{ended_lies_there}
+use Rattle.free_law.proofs.Below.result_law.Known.{Steps, hand, standing, paths, goes}
+use Rattle.free_law.proofs.Below.result_law.Pointing.{Stands, its_partition, its_colour, leads_home}
+use Rattle.free_law.proofs.Below.result_law.Borrowing.{puts_reference}
+use Rattle.wait_law.proofs.Below.write_law.Memory.{Leads, looked, Sane, renewal_issued}
+use Rattle.wait_law.proofs.Below.write_law.Route.{Route, begins, a_slot, Fine, all_hops, rerouted, set_other}
+use Rattle.wait_law.proofs.Below.write_law.StepRoutes.{sane_there, roomy, awake}
+use Rattle.wait_law.proofs.Below.write_law.Holders.{C, at, short_holder, route, object_away, slot_away}
 use Rattle.wait_law.proofs.Written.{chain_of_holder, Written}
-use Rattle.write_law.proofs.Ends.{value_of_thread, RefAt as StandsAt, in_its_slot, on_its_top}
+use Rattle.wait_law.proofs.Below.write_law.Ends.{value_of_thread, RefAt as StandsAt, in_its_slot, on_its_top}
 use Rattle.walk_law.proofs.Cells.{Seeing}
 use Rattle.walk_law.proofs.Ready.{Blind}
 use Rattle.walk_law.proofs.Steps.{IsPlain, written_in, at_end, less_far}

@@ -1,43 +1,43 @@
 -- What is said of each thread but the event's own one, by the pointers on its way: what it has followed, what it waits for, and what it has taken.
 use Rattle.std.proofs.Common.{◌≡◌, ℕ, ◌+◌, ◌≤◌, ◌==◌, ◌&&◌, not, Bool, true, false, Option, Some, None, is_some, refl, sym, ap, subst, ◌∙◌, arith}
 use Rattle.std.proofs.lemmas.Bool.Decides.{nat_tests}
-use Rattle.fr_base.specs.declared.name.ObjNo.{ObjNo}
-use Rattle.fr_base.specs.declared.place.Lval.{Lval}
-use Rattle.heap_partition.specs.declared.value.Owned.{Owned}
-use Rattle.thread_state.specs.View.{is_over}
-use Rattle.thread_state.specs.declared.phase.Phase.{Phase}
-use Rattle.thread_state.specs.declared.phase.Phase.TheVariants as phase
-use Rattle.journal.specs.View.{EntryView}
-use Rattle.server_model.specs.declared.event.Event.{Event}
-use Rattle.server_model.specs.declared.event.What.TheVariants.{Step}
-use Rattle.server_model.specs.Servers.{Cluster, server_at}
-use Rattle.server_model.specs.Events.{is_ready}
-use Rattle.server_model.specs.Clusters.{done_at, apply}
-use Rattle.heap_law.specs.Names.{tot, one, if_so, Among}
-use Rattle.heap_law.specs.Things.{in_cell, things_of}
-use Rattle.heap_law.specs.Follow.{Standing, Ground, threads_in, thread_at, locate}
-use Rattle.heap_law.specs.Paths.{written_place, followed}
-use Rattle.heap_law.specs.Sight.{Sight, sight}
-use Rattle.heap_law.specs.Walking.{instr_of, path, words_kept, loose_hop, in_walk, early, too_far, over_place, over_passed, away, has_gift_there, has_followed, lost_place, out_of_turn}
-use Rattle.heap_law.specs.Requests.{is_got, early_gift, old_word}
-use Rattle.heap_law.specs.Coherent.{Holds, passed_in_a_walk}
-use Rattle.heap_law.proofs.Words.{none_at}
-use Rattle.type_law.specs.ClusterTypes.{IsCoherent}
-use Rattle.path_law.specs.HeapStore.{GoesOn, HasPaths}
-use Rattle.path_law.proofs.Contained.{among_thread}
-use Rattle.path_law.proofs.Sole.{some_is}
-use Rattle.word_law.specs.Reworded.{HasPlaces}
-use Rattle.event_law.specs.Laws.{Gives, FewEvents}
-use Rattle.event_law.proofs.Results.{then_gives, map_gives, both_give, weaker}
-use Rattle.still_law.proofs.Told.{found}
-use Rattle.local_law.proofs.Sentences.{passed_kept}
+use Rattle.free_law.specs.Below.fr_base.declared.name.ObjNo.{ObjNo}
+use Rattle.free_law.specs.Below.fr_base.declared.place.Lval.{Lval}
+use Rattle.free_law.specs.Below.heap_partition.declared.value.Owned.{Owned}
+use Rattle.free_law.specs.Below.thread_state.View.{is_over}
+use Rattle.free_law.specs.Below.thread_state.declared.phase.Phase.{Phase}
+use Rattle.free_law.specs.Below.thread_state.declared.phase.Phase.TheVariants as phase
+use Rattle.free_law.specs.Below.journal.View.{EntryView}
+use Rattle.free_law.specs.Below.server_model.declared.event.Event.{Event}
+use Rattle.free_law.specs.Below.server_model.declared.event.What.TheVariants.{Step}
+use Rattle.free_law.specs.Below.server_model.Servers.{Cluster, server_at}
+use Rattle.free_law.specs.Below.server_model.Events.{is_ready}
+use Rattle.free_law.specs.Below.server_model.Clusters.{done_at, apply}
+use Rattle.free_law.specs.Below.heap_law.Names.{tot, one, if_so, Among}
+use Rattle.free_law.specs.Below.heap_law.Things.{in_cell, things_of}
+use Rattle.free_law.specs.Below.heap_law.Follow.{Standing, Ground, threads_in, thread_at, locate}
+use Rattle.free_law.specs.Below.heap_law.Paths.{written_place, followed}
+use Rattle.free_law.specs.Below.heap_law.Sight.{Sight, sight}
+use Rattle.free_law.specs.Below.heap_law.Walking.{instr_of, path, words_kept, loose_hop, in_walk, early, too_far, over_place, over_passed, away, has_gift_there, has_followed, lost_place, out_of_turn}
+use Rattle.free_law.specs.Below.heap_law.Requests.{is_got, early_gift, old_word}
+use Rattle.free_law.specs.Below.heap_law.Coherent.{Holds, passed_in_a_walk}
+use Rattle.free_law.proofs.Below.heap_law.Words.{none_at}
+use Rattle.free_law.specs.Below.type_law.ClusterTypes.{IsCoherent}
+use Rattle.free_law.specs.Below.path_law.HeapStore.{GoesOn, HasPaths}
+use Rattle.free_law.proofs.Below.path_law.Contained.{among_thread}
+use Rattle.free_law.proofs.Below.path_law.Sole.{some_is}
+use Rattle.wait_law.specs.Below.word_law.Reworded.{HasPlaces}
+use Rattle.free_law.specs.Below.event_law.Laws.{Gives, FewEvents}
+use Rattle.free_law.proofs.Below.event_law.Results.{then_gives, map_gives, both_give, weaker}
+use Rattle.free_law.proofs.Below.still_law.Told.{found}
+use Rattle.free_law.proofs.Below.local_law.Sentences.{passed_kept}
 use Rattle.wait_law.specs.Places.{Follows}
 use Rattle.wait_law.proofs.Written.{Written}
-use Rattle.heap_law.specs.Passing.{FollowedLaw, PassedLaw}
-use Rattle.heap_law.specs.Turn.{TurnLaw}
-use Rattle.heap_law.proofs.Followed.{followed_law}
-use Rattle.heap_law.proofs.Passing.{passed_law}
-use Rattle.heap_law.proofs.Turn.{turn_law}
+use Rattle.free_law.specs.Below.heap_law.Passing.{FollowedLaw, PassedLaw}
+use Rattle.free_law.specs.Below.heap_law.Turn.{TurnLaw}
+use Rattle.free_law.proofs.Below.heap_law.Followed.{followed_law}
+use Rattle.free_law.proofs.Below.heap_law.Passing.{passed_law}
+use Rattle.free_law.proofs.Below.heap_law.Turn.{turn_law}
 use Rattle.walk_law.specs.Pointers.{SamePointers, OthersStepsKeep}
 use Rattle.walk_law.proofs.Clusters.{SeesOn}
 use Rattle.walk_law.proofs.Still.{places_of, Lasts, Stays, stays, pointers_same}

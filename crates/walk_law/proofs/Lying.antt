@@ -2,23 +2,23 @@
 use Rattle.std.proofs.Common.{◌≡◌, ◌≢◌, ◌⊎◌, inl, inr, ℕ, zero, suc, ◌≤◌, ◌==◌, ◌&&◌, nat_le, Bool, true, false, Option, Some, None, refl, ap, subst, ◌∙◌, arith}
 use Rattle.std.specs.Prelude.{slice_get}
 use Rattle.std.proofs.lemmas.Bool.Decides.{nat_tests}
-use Rattle.fr_base.specs.declared.name.ObjNo.{ObjNo}
-use Rattle.fr_base.specs.declared.place.Lval.{Lval}
-use Rattle.fr_base.specs.Names.{same_object}
-use Rattle.heap_partition.specs.declared.value.Owned.TheVariants as owned
-use Rattle.thread_state.specs.declared.value.Value.{Value}
-use Rattle.thread_state.specs.declared.value.Value.TheVariants as value
-use Rattle.server_model.specs.Servers.{Cluster}
-use Rattle.heap_law.specs.Names.{tot, one, other, some}
-use Rattle.heap_law.specs.Things.{Location, in_cell, Thing, lies, flies, stands, sent, things_of}
-use Rattle.heap_law.specs.Follow.{Standing, Ground, leads, locate, hop_at}
-use Rattle.heap_law.specs.Paths.{Path, no_path, reads, shares, lends, writes, ends, path_of, written_place}
-use Rattle.heap_law.specs.Sight.{sight}
-use Rattle.heap_law.specs.Weights.{lies_at}
-use Rattle.heap_law.specs.Walking.{path, over_hops, over_place, over_passed, away, hop_count, too_far}
-use Rattle.path_law.specs.HeapStore.{GoesOn, HasPaths}
-use Rattle.still_law.proofs.Tests.{IsTest, objects}
-use Rattle.still_law.proofs.Told.{tot_same}
+use Rattle.free_law.specs.Below.fr_base.declared.name.ObjNo.{ObjNo}
+use Rattle.free_law.specs.Below.fr_base.declared.place.Lval.{Lval}
+use Rattle.free_law.specs.Below.fr_base.Names.{same_object}
+use Rattle.free_law.specs.Below.heap_partition.declared.value.Owned.TheVariants as owned
+use Rattle.free_law.specs.Below.thread_state.declared.value.Value.{Value}
+use Rattle.free_law.specs.Below.thread_state.declared.value.Value.TheVariants as value
+use Rattle.free_law.specs.Below.server_model.Servers.{Cluster}
+use Rattle.free_law.specs.Below.heap_law.Names.{tot, one, other, some}
+use Rattle.free_law.specs.Below.heap_law.Things.{Location, in_cell, Thing, lies, flies, stands, sent, things_of}
+use Rattle.free_law.specs.Below.heap_law.Follow.{Standing, Ground, leads, locate, hop_at}
+use Rattle.free_law.specs.Below.heap_law.Paths.{Path, no_path, reads, shares, lends, writes, ends, path_of, written_place}
+use Rattle.free_law.specs.Below.heap_law.Sight.{sight}
+use Rattle.free_law.specs.Below.heap_law.Weights.{lies_at}
+use Rattle.free_law.specs.Below.heap_law.Walking.{path, over_hops, over_place, over_passed, away, hop_count, too_far}
+use Rattle.free_law.specs.Below.path_law.HeapStore.{GoesOn, HasPaths}
+use Rattle.free_law.proofs.Below.still_law.Tests.{IsTest, objects}
+use Rattle.free_law.proofs.Below.still_law.Told.{tot_same}
 use Rattle.wait_law.specs.Places.{Follows}
 use Rattle.wait_law.proofs.Written.{Written}
 use Rattle.walk_law.specs.Pointers.{SamePointers}

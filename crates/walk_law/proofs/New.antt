@@ -1,30 +1,30 @@
 -- Who stands after an event that answers nobody, without having stood before, has just started: it is ready and has no gift.
 use Rattle.std.proofs.Common.{◌≡◌, ◌⊎◌, ℕ, ◌+◌, not, Bool, true, false, Option, Some, None, is_some, inl, inr, refl, sym, ap, ◌∙◌}
 use Rattle.std.specs.Prelude.{slice_get}
-use Rattle.thread_state.specs.View.{ThreadState}
-use Rattle.journal.specs.View.{EntryView}
-use Rattle.heap_partition.specs.declared.value.Cell.{Cell}
-use Rattle.server_msgs.specs.declared.message.Message.TheVariants as message
-use Rattle.server_model.specs.declared.event.Event.{Event}
-use Rattle.server_model.specs.declared.event.What.TheVariants.{Step, Deliver}
-use Rattle.server_model.specs.Servers.{Server, Cluster, server_at}
-use Rattle.server_model.specs.Work.{Hand, thread_in}
-use Rattle.server_model.specs.Events.{Stepped, begin_work, received, step, is_ready}
-use Rattle.server_model.specs.Objects.{deliver_fetched, deliver_moved}
-use Rattle.server_model.specs.Clusters.{apply}
-use Rattle.heap_law.specs.Names.{tot, one, if_so}
-use Rattle.heap_law.specs.Things.{things_of}
-use Rattle.heap_law.specs.Follow.{Standing, threads_in, thread_at}
-use Rattle.heap_law.specs.Sight.{sight}
-use Rattle.heap_law.specs.Coherent.{IsSound}
-use Rattle.heap_law.proofs.Words.{none_all}
-use Rattle.event_law.specs.Laws.{Gives, FewEvents}
-use Rattle.event_law.proofs.Results.{weaker}
-use Rattle.event_law.proofs.Bags.{thread_number}
-use Rattle.event_law.proofs.ThreadThere.{thread_there}
-use Rattle.still_law.proofs.Told.{found}
-use Rattle.local_law.proofs.Goes.{Goes, thread_goes}
-use Rattle.local_law.proofs.Handed.{Stood, InParcel}
+use Rattle.free_law.specs.Below.thread_state.View.{ThreadState}
+use Rattle.free_law.specs.Below.journal.View.{EntryView}
+use Rattle.free_law.specs.Below.heap_partition.declared.value.Cell.{Cell}
+use Rattle.free_law.specs.Below.server_msgs.declared.message.Message.TheVariants as message
+use Rattle.free_law.specs.Below.server_model.declared.event.Event.{Event}
+use Rattle.free_law.specs.Below.server_model.declared.event.What.TheVariants.{Step, Deliver}
+use Rattle.free_law.specs.Below.server_model.Servers.{Server, Cluster, server_at}
+use Rattle.free_law.specs.Below.server_model.Work.{Hand, thread_in}
+use Rattle.free_law.specs.Below.server_model.Events.{Stepped, begin_work, received, step, is_ready}
+use Rattle.free_law.specs.Below.server_model.Objects.{deliver_fetched, deliver_moved}
+use Rattle.free_law.specs.Below.server_model.Clusters.{apply}
+use Rattle.free_law.specs.Below.heap_law.Names.{tot, one, if_so}
+use Rattle.free_law.specs.Below.heap_law.Things.{things_of}
+use Rattle.free_law.specs.Below.heap_law.Follow.{Standing, threads_in, thread_at}
+use Rattle.free_law.specs.Below.heap_law.Sight.{sight}
+use Rattle.free_law.specs.Below.heap_law.Coherent.{IsSound}
+use Rattle.free_law.proofs.Below.heap_law.Words.{none_all}
+use Rattle.free_law.specs.Below.event_law.Laws.{Gives, FewEvents}
+use Rattle.free_law.proofs.Below.event_law.Results.{weaker}
+use Rattle.free_law.proofs.Below.event_law.Bags.{thread_number}
+use Rattle.free_law.proofs.Below.event_law.ThreadThere.{thread_there}
+use Rattle.free_law.proofs.Below.still_law.Told.{found}
+use Rattle.free_law.proofs.Below.local_law.Goes.{Goes, thread_goes}
+use Rattle.free_law.proofs.Below.local_law.Handed.{Stood, InParcel}
 use Rattle.wait_law.proofs.Fates.{Fates, fated}
 use Rattle.walk_law.proofs.Clusters.{goes_number}
 
@@ -65,11 +65,11 @@ module _ (k : Cluster) (sound : IsSound k) where
           (λ d g. stood (record { server = s.rest.number; packed = false; thread = d.hand.thread }) (ap (λ n. is_some (thread_at (sight k).ground.threads n)) (goes_number g) ∙ its t y there));
       comes = λ i t v c y is there at p. any_gives (λ (h : Hand). Stood (newly k) s.rest.number h.thread) (deliver_moved k.code v c (record { work = (received i s).work; thread = y })) (λ h. absurd (quiet s here i t v c is (inl there)));
       copied = λ i t v c y is there at p. any_gives (λ (h : Hand). Stood (newly k) s.rest.number h.thread) (deliver_fetched v c (record { work = (received i s).work; thread = y })) (λ h. absurd (quiet s here i t v c is (inr there)));
-      given_it = λ t y v there p a. stood (record { server = s.rest.number; packed = false; thread = record y { gift = Some v; phase = Rattle.thread_state.specs.declared.phase.Phase.TheVariants.Got } }) (its t y there);
-      paired = λ t a b y there p q. stood (record { server = s.rest.number; packed = false; thread = record y { phase = Rattle.thread_state.specs.declared.phase.Phase.TheVariants.GotPar a b } }) (its t y there);
+      given_it = λ t y v there p a. stood (record { server = s.rest.number; packed = false; thread = record y { gift = Some v; phase = Rattle.free_law.specs.Below.thread_state.declared.phase.Phase.TheVariants.Got } }) (its t y there);
+      paired = λ t a b y there p q. stood (record { server = s.rest.number; packed = false; thread = record y { phase = Rattle.free_law.specs.Below.thread_state.declared.phase.Phase.TheVariants.GotPar a b } }) (its t y there);
       arrives = λ t q. q;
       starts = λ t n y i u pc vs there p at d. none_weighs (is_some (thread_at (sight k).ground.threads u));
-      leaves = λ t n y there p r. stood (record { server = n; packed = true; thread = Rattle.migration.specs.Packing.packed (record y { moved_since_step = true }) }) (its t y there);
+      leaves = λ t n y there p r. stood (record { server = n; packed = true; thread = Rattle.free_law.specs.Below.migration.Packing.packed (record y { moved_since_step = true }) }) (its t y there);
     }
       where
         none_weighs : (b : Bool) → if_so (not b) 0 ≡ 0

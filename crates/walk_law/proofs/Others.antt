@@ -1,32 +1,32 @@
 -- What the step of one thread leaves of each other one: all of it, and the pointers on its way, words included.
 use Rattle.std.proofs.Common.{◌≡◌, ℕ, zero, suc, ◌-◌, ◌≤◌, ◌==◌, ◌&&◌, Bool, true, false, Some, refl, sym, ap, subst, ◌∙◌, arith}
-use Rattle.fr_typing.proofs.PlaceLemmas.{eq_cases}
-use Rattle.fr_base.specs.declared.place.Lval.{Lval}
-use Rattle.fr_base.specs.declared.name.ObjNo.{ObjNo}
-use Rattle.fr_base.specs.Names.{same_object}
-use Rattle.heap_partition.specs.Same.{same_owned}
-use Rattle.heap_partition.specs.declared.value.Owned.{Owned}
-use Rattle.journal.specs.View.{EntryView}
-use Rattle.server_model.specs.declared.event.Event.{Event}
-use Rattle.server_model.specs.Servers.{Cluster}
-use Rattle.server_model.specs.Clusters.{apply}
-use Rattle.heap_law.specs.Names.{tot, one, if_so}
-use Rattle.heap_law.specs.Things.{Location, at_slot, in_cell, Thing, lies, flies, stands, sent, things_of}
-use Rattle.heap_law.specs.Follow.{Standing, locate}
-use Rattle.heap_law.specs.Paths.{Awaited}
-use Rattle.heap_law.specs.Sight.{sight}
-use Rattle.heap_law.specs.Walking.{asks_for, asked_for}
-use Rattle.type_law.specs.ClusterTypes.{IsCoherent}
-use Rattle.path_law.specs.HeapStore.{GoesOn, HasPaths}
-use Rattle.path_law.proofs.MayWrites.{may_write_there}
-use Rattle.path_law.proofs.Sole.{some_is}
-use Rattle.word_law.specs.Reworded.{HasPlaces}
-use Rattle.read_law.proofs.FreshReads.{reading_of}
-use Rattle.event_law.specs.Laws.{Gives, FewEvents}
-use Rattle.event_law.proofs.Results.{both_give, weaker}
-use Rattle.event_law.proofs.Sending.{applied_part}
-use Rattle.still_law.proofs.Tests.{IsTest, objects}
-use Rattle.still_law.proofs.Told.{tot_same, at_thread}
+use Rattle.free_law.proofs.Below.fr_typing.PlaceLemmas.{eq_cases}
+use Rattle.free_law.specs.Below.fr_base.declared.place.Lval.{Lval}
+use Rattle.free_law.specs.Below.fr_base.declared.name.ObjNo.{ObjNo}
+use Rattle.free_law.specs.Below.fr_base.Names.{same_object}
+use Rattle.free_law.specs.Below.heap_partition.Same.{same_owned}
+use Rattle.free_law.specs.Below.heap_partition.declared.value.Owned.{Owned}
+use Rattle.free_law.specs.Below.journal.View.{EntryView}
+use Rattle.free_law.specs.Below.server_model.declared.event.Event.{Event}
+use Rattle.free_law.specs.Below.server_model.Servers.{Cluster}
+use Rattle.free_law.specs.Below.server_model.Clusters.{apply}
+use Rattle.free_law.specs.Below.heap_law.Names.{tot, one, if_so}
+use Rattle.free_law.specs.Below.heap_law.Things.{Location, at_slot, in_cell, Thing, lies, flies, stands, sent, things_of}
+use Rattle.free_law.specs.Below.heap_law.Follow.{Standing, locate}
+use Rattle.free_law.specs.Below.heap_law.Paths.{Awaited}
+use Rattle.free_law.specs.Below.heap_law.Sight.{sight}
+use Rattle.free_law.specs.Below.heap_law.Walking.{asks_for, asked_for}
+use Rattle.free_law.specs.Below.type_law.ClusterTypes.{IsCoherent}
+use Rattle.free_law.specs.Below.path_law.HeapStore.{GoesOn, HasPaths}
+use Rattle.free_law.proofs.Below.path_law.MayWrites.{may_write_there}
+use Rattle.free_law.proofs.Below.path_law.Sole.{some_is}
+use Rattle.wait_law.specs.Below.word_law.Reworded.{HasPlaces}
+use Rattle.wait_law.proofs.Below.read_law.FreshReads.{reading_of}
+use Rattle.free_law.specs.Below.event_law.Laws.{Gives, FewEvents}
+use Rattle.free_law.proofs.Below.event_law.Results.{both_give, weaker}
+use Rattle.free_law.proofs.Below.event_law.Sending.{applied_part}
+use Rattle.free_law.proofs.Below.still_law.Tests.{IsTest, objects}
+use Rattle.free_law.proofs.Below.still_law.Told.{tot_same, at_thread}
 use Rattle.wait_law.specs.Places.{Follows, reads, writes, ends_at}
 use Rattle.wait_law.proofs.Places.{Apart, reads_apart, chain_apart}
 use Rattle.wait_law.proofs.Written.{Written, chain_of, chain_of_holder}

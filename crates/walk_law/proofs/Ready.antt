@@ -3,47 +3,47 @@ use Rattle.std.proofs.Common.{◌≡◌, ◌⊎◌, inl, inr, ⊎_elim, ℕ, zer
 use Rattle.std.specs.Prelude.{slice_get, slice_set}
 use Rattle.std.specs.Bool.{⊤}
 use Rattle.std.proofs.lemmas.Option.{slice_get_within}
-use Rattle.fr_typing.proofs.PlaceLemmas.{eq_cases}
-use Rattle.fr_base.specs.declared.place.Lval.{Lval}
-use Rattle.fr_base.specs.Lists.{is_in}
-use Rattle.global_addr.specs.Words.{colour_of, server_of, address_of}
-use Rattle.heap_partition.specs.declared.value.BoxPtr.{BoxPtr}
-use Rattle.heap_partition.specs.declared.value.Cell.{Cell}
-use Rattle.heap_partition.specs.declared.value.Owned.{Owned}
-use Rattle.owner_box.specs.View.{PartitionState}
-use Rattle.colour_retire.specs.Colours.{picked}
-use Rattle.owner_box.specs.Partition.{put_cell as put_cells, cell_of, stored, freed, made, made_again, renewed}
-use Rattle.read_cache.specs.Cache.{can_pin, pin}
-use Rattle.mut_borrow.specs.Refs.{cleaned_answer, finish_word}
-use Rattle.mut_borrow.specs.declared.shared.SharedRef.{SharedRef}
-use Rattle.mut_borrow.specs.declared.mutable.MutRef.{MutRef}
-use Rattle.mut_borrow.specs.declared.mutable.Cleaned.{Cleaned}
-use Rattle.mut_borrow.specs.declared.mutable.Cleaned.TheVariants as cleaned
-use Rattle.thread_state.specs.declared.value.Value.{Value}
-use Rattle.thread_state.specs.declared.value.Value.TheVariants as value
-use Rattle.server_msgs.specs.declared.message.Message.{Message}
-use Rattle.server_msgs.specs.declared.message.Message.TheVariants as message
-use Rattle.journal.specs.declared.act.Act.{Act}
-use Rattle.journal.specs.declared.act.Act.TheVariants as act
-use Rattle.place_walk.specs.declared.hop.Hop.{Hop}
-use Rattle.place_walk.specs.declared.hop.Hop.TheVariants as hop
-use Rattle.place_walk.specs.Hops.{read_hop, write_hop}
-use Rattle.server_model.specs.Servers.{Rest}
-use Rattle.server_model.specs.Work.{Hand, sent_from, leads_here, look, note, with_cache, with_partition, working, then_some, used_once}
-use Rattle.server_model.specs.NewWords.{NewWord, can_grow, is_last, issue_tint, issue_renewal, issue_colour}
-use Rattle.server_model.specs.Places.{Spot, in_slot, on_top, in_cell, in_copy, nowhere, value_in, value_at, load_at, note_write, put_cell, put_at, pointer_of, with_word, set_pointer, put_word}
-use Rattle.server_model.specs.Prepare.{Access, ReadTo, ReadPointer, WriteTo, LendTo, EndRef, Prepared, ready, requested, nothing, and_then, ready_at, ask_copy, ask_object, request_by, box_of, clean_last, cleaned_by, clean_value, pinned_once, use_copy, hopped, local, hit_by, read_by, read_value, read_clean, tinted_first, read_star, read_stars, passing, box_ready, colour_box, write_by, pass_by, write_value, write_star, write_stars, read_pointer, is_taken, lend_by, lend_value, lend_pointer, follow_holder, follow_ended, unlabelled, end_ref, prepare}
-use Rattle.heap_law.specs.Names.{tot, one}
-use Rattle.heap_law.specs.Things.{Thing, vacant, retired, partition_things}
-use Rattle.heap_law.specs.Weights.{states}
-use Rattle.heap_law.proofs.Names.{and_left, and_right}
-use Rattle.event_law.specs.Laws.{Gives}
-use Rattle.event_law.proofs.Results.{then_gives, test_gives, bind_gives}
-use Rattle.event_law.proofs.Bags.{of_sending, sent_number}
-use Rattle.event_law.proofs.Cells.{left_by, looked, frees}
-use Rattle.event_law.proofs.Objects.{length_set, taken_place, makes}
-use Rattle.event_law.proofs.Values.{stores}
-use Rattle.still_law.proofs.Addresses.{InPlace, lies_alone, next_empty, stored_places, renews}
+use Rattle.free_law.proofs.Below.fr_typing.PlaceLemmas.{eq_cases}
+use Rattle.free_law.specs.Below.fr_base.declared.place.Lval.{Lval}
+use Rattle.free_law.specs.Below.fr_base.Lists.{is_in}
+use Rattle.free_law.specs.Below.global_addr.Words.{colour_of, server_of, address_of}
+use Rattle.free_law.specs.Below.heap_partition.declared.value.BoxPtr.{BoxPtr}
+use Rattle.free_law.specs.Below.heap_partition.declared.value.Cell.{Cell}
+use Rattle.free_law.specs.Below.heap_partition.declared.value.Owned.{Owned}
+use Rattle.free_law.specs.Below.owner_box.View.{PartitionState}
+use Rattle.free_law.specs.Below.colour_retire.Colours.{picked}
+use Rattle.free_law.specs.Below.owner_box.Partition.{put_cell as put_cells, cell_of, stored, freed, made, made_again, renewed}
+use Rattle.free_law.specs.Below.read_cache.Cache.{can_pin, pin}
+use Rattle.free_law.specs.Below.mut_borrow.Refs.{cleaned_answer, finish_word}
+use Rattle.free_law.specs.Below.mut_borrow.declared.shared.SharedRef.{SharedRef}
+use Rattle.free_law.specs.Below.mut_borrow.declared.mutable.MutRef.{MutRef}
+use Rattle.free_law.specs.Below.mut_borrow.declared.mutable.Cleaned.{Cleaned}
+use Rattle.free_law.specs.Below.mut_borrow.declared.mutable.Cleaned.TheVariants as cleaned
+use Rattle.free_law.specs.Below.thread_state.declared.value.Value.{Value}
+use Rattle.free_law.specs.Below.thread_state.declared.value.Value.TheVariants as value
+use Rattle.free_law.specs.Below.server_msgs.declared.message.Message.{Message}
+use Rattle.free_law.specs.Below.server_msgs.declared.message.Message.TheVariants as message
+use Rattle.free_law.specs.Below.journal.declared.act.Act.{Act}
+use Rattle.free_law.specs.Below.journal.declared.act.Act.TheVariants as act
+use Rattle.free_law.specs.Below.place_walk.declared.hop.Hop.{Hop}
+use Rattle.free_law.specs.Below.place_walk.declared.hop.Hop.TheVariants as hop
+use Rattle.free_law.specs.Below.place_walk.Hops.{read_hop, write_hop}
+use Rattle.free_law.specs.Below.server_model.Servers.{Rest}
+use Rattle.free_law.specs.Below.server_model.Work.{Hand, sent_from, leads_here, look, note, with_cache, with_partition, working, then_some, used_once}
+use Rattle.free_law.specs.Below.server_model.NewWords.{NewWord, can_grow, is_last, issue_tint, issue_renewal, issue_colour}
+use Rattle.free_law.specs.Below.server_model.Places.{Spot, in_slot, on_top, in_cell, in_copy, nowhere, value_in, value_at, load_at, note_write, put_cell, put_at, pointer_of, with_word, set_pointer, put_word}
+use Rattle.free_law.specs.Below.server_model.Prepare.{Access, ReadTo, ReadPointer, WriteTo, LendTo, EndRef, Prepared, ready, requested, nothing, and_then, ready_at, ask_copy, ask_object, request_by, box_of, clean_last, cleaned_by, clean_value, pinned_once, use_copy, hopped, local, hit_by, read_by, read_value, read_clean, tinted_first, read_star, read_stars, passing, box_ready, colour_box, write_by, pass_by, write_value, write_star, write_stars, read_pointer, is_taken, lend_by, lend_value, lend_pointer, follow_holder, follow_ended, unlabelled, end_ref, prepare}
+use Rattle.free_law.specs.Below.heap_law.Names.{tot, one}
+use Rattle.free_law.specs.Below.heap_law.Things.{Thing, vacant, retired, partition_things}
+use Rattle.free_law.specs.Below.heap_law.Weights.{states}
+use Rattle.free_law.proofs.Below.heap_law.Names.{and_left, and_right}
+use Rattle.free_law.specs.Below.event_law.Laws.{Gives}
+use Rattle.free_law.proofs.Below.event_law.Results.{then_gives, test_gives, bind_gives}
+use Rattle.free_law.proofs.Below.event_law.Bags.{of_sending, sent_number}
+use Rattle.free_law.proofs.Below.event_law.Cells.{left_by, looked, frees}
+use Rattle.free_law.proofs.Below.event_law.Objects.{length_set, taken_place, makes}
+use Rattle.free_law.proofs.Below.event_law.Values.{stores}
+use Rattle.free_law.proofs.Below.still_law.Addresses.{InPlace, lies_alone, next_empty, stored_places, renews}
 use Rattle.walk_law.proofs.Cells.{Seeing, cell_weight, amount, rest_seen}
 
 -- a message leaves the partition

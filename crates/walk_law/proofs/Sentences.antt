@@ -4,24 +4,24 @@ use Rattle.std.specs.Prelude.{slice_get, reverse, map}
 use Rattle.std.proofs.lemmas.List.{map-append, reverse-append}
 use Rattle.std.specs.Bool.{⊤}
 use Rattle.std.proofs.lemmas.Bool.Decides.{nat_tests}
-use Rattle.fr_base.specs.declared.place.Lval.{Lval}
-use Rattle.fr_base.specs.declared.instruction.Instr.{Instr}
-use Rattle.fr_base.specs.declared.instruction.Instr.TheVariants as instr
-use Rattle.heap_partition.specs.declared.value.Owned.TheVariants as owned
-use Rattle.thread_state.specs.declared.phase.Phase.{Phase}
-use Rattle.thread_state.specs.declared.phase.Phase.TheVariants as phase
-use Rattle.thread_state.specs.declared.value.Value.{Value}
-use Rattle.thread_state.specs.declared.value.Value.TheVariants as value
-use Rattle.server_model.specs.Servers.{Cluster}
-use Rattle.heap_law.specs.Names.{tot, one, other, if_so, some}
-use Rattle.heap_law.specs.Things.{things_of}
-use Rattle.heap_law.specs.Follow.{Standing, Ground, hop_at, hops_from, hops}
-use Rattle.heap_law.specs.Paths.{Path, no_path, reads, shares, lends, writes, ends, path_of, Awaited, to_read, to_write, to_clean, all_to, borrow_to, awaited, followed, first_unreadable}
-use Rattle.heap_law.specs.Sight.{sight}
-use Rattle.heap_law.specs.Walking.{instr_of, path, words_kept, loose_hop, is_pull, has_gift_there, waits_for_lent, has_followed, lost_place, first_of, next_hop, in_turn, asked_for, not_asked, out_of_turn}
-use Rattle.heap_law.specs.Requests.{lent_place, has_word, last_hop, taken_again, old_word}
-use Rattle.heap_law.proofs.Names.{and_left, and_right}
-use Rattle.word_law.specs.Unmoved.{pointing}
+use Rattle.free_law.specs.Below.fr_base.declared.place.Lval.{Lval}
+use Rattle.free_law.specs.Below.fr_base.declared.instruction.Instr.{Instr}
+use Rattle.free_law.specs.Below.fr_base.declared.instruction.Instr.TheVariants as instr
+use Rattle.free_law.specs.Below.heap_partition.declared.value.Owned.TheVariants as owned
+use Rattle.free_law.specs.Below.thread_state.declared.phase.Phase.{Phase}
+use Rattle.free_law.specs.Below.thread_state.declared.phase.Phase.TheVariants as phase
+use Rattle.free_law.specs.Below.thread_state.declared.value.Value.{Value}
+use Rattle.free_law.specs.Below.thread_state.declared.value.Value.TheVariants as value
+use Rattle.free_law.specs.Below.server_model.Servers.{Cluster}
+use Rattle.free_law.specs.Below.heap_law.Names.{tot, one, other, if_so, some}
+use Rattle.free_law.specs.Below.heap_law.Things.{things_of}
+use Rattle.free_law.specs.Below.heap_law.Follow.{Standing, Ground, hop_at, hops_from, hops}
+use Rattle.free_law.specs.Below.heap_law.Paths.{Path, no_path, reads, shares, lends, writes, ends, path_of, Awaited, to_read, to_write, to_clean, all_to, borrow_to, awaited, followed, first_unreadable}
+use Rattle.free_law.specs.Below.heap_law.Sight.{sight}
+use Rattle.free_law.specs.Below.heap_law.Walking.{instr_of, path, words_kept, loose_hop, is_pull, has_gift_there, waits_for_lent, has_followed, lost_place, first_of, next_hop, in_turn, asked_for, not_asked, out_of_turn}
+use Rattle.free_law.specs.Below.heap_law.Requests.{lent_place, has_word, last_hop, taken_again, old_word}
+use Rattle.free_law.proofs.Below.heap_law.Names.{and_left, and_right}
+use Rattle.wait_law.specs.Below.word_law.Unmoved.{pointing}
 
 -- the pointers on a place are the same, but for pins
 abbrev pub SameHops : Cluster → Cluster → ℕ → Lval → Type 0
@@ -142,7 +142,7 @@ module _ (k c : Cluster) (x : Standing) (code : c.code ≡ k.code) (options : c.
   -- WHAT IT HAS FOLLOWED
 
   lent_same : (p : Path) (w : ℕ) → SameOn k c n p → waits_for_lent (sight c) x p w ≡ waits_for_lent (sight k) x p w
-  lent_same (lends v) w h = ap (λ o. is_pull (awaited o G2 n (lends v)) w) (ap (λ (o : Rattle.fr_base.specs.declared.settings.Options.Options). o.colours) options) ∙ ap (λ l. is_pull l w) (awaited_same k.options.colours (lends v) h)
+  lent_same (lends v) w h = ap (λ o. is_pull (awaited o G2 n (lends v)) w) (ap (λ (o : Rattle.free_law.specs.Below.fr_base.declared.settings.Options.Options). o.colours) options) ∙ ap (λ l. is_pull l w) (awaited_same k.options.colours (lends v) h)
   lent_same no_path w h = refl
   lent_same (reads v) w h = refl
   lent_same (shares v) w h = refl
@@ -182,7 +182,7 @@ module _ (k c : Cluster) (x : Standing) (code : c.code ≡ k.code) (options : c.
       by false e = refl
 
   colours_same : (sight c).options.colours ≡ (sight k).options.colours
-  colours_same = ap (λ (o : Rattle.fr_base.specs.declared.settings.Options.Options). o.colours) options
+  colours_same = ap (λ (o : Rattle.free_law.specs.Below.fr_base.declared.settings.Options.Options). o.colours) options
 
   first_same : (p : Path) → SameOn k c n p
       → first_unreadable (words_kept x.thread) x.server (awaited (sight c).options.colours G2 n p) ≡ first_unreadable (words_kept x.thread) x.server (awaited (sight k).options.colours G n p)

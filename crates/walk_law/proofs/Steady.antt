@@ -1,59 +1,59 @@
 -- Events in which no object comes or goes leave the pointers of each thread, and what each has followed.
 use Rattle.std.proofs.Common.{◌≡◌, inl, inr, ℕ, zero, suc, ◌&&◌, not, Bool, true, false, Option, Some, None, is_some, option_map, refl, sym, ap, subst, ◌∙◌}
 use Rattle.std.specs.Prelude.{⊤, slice_get}
-use Rattle.fr_base.specs.declared.name.ObjNo.{ObjNo}
-use Rattle.fr_base.specs.declared.place.Lval.{Lval}
-use Rattle.fr_base.specs.declared.instruction.Instr.{Instr}
-use Rattle.fr_base.specs.declared.instruction.Instr.TheVariants as instr
-use Rattle.fr_base.specs.Lists.{is_in}
-use Rattle.heap_partition.specs.declared.value.Cell.{Cell}
-use Rattle.heap_partition.specs.declared.value.Owned.{Owned}
-use Rattle.heap_partition.specs.declared.value.Owned.TheVariants as owned
-use Rattle.read_cache.specs.Cache.{can_fill, can_pin}
-use Rattle.migration.specs.Packing.{packed}
-use Rattle.thread_state.specs.View.{ThreadState}
-use Rattle.thread_state.specs.declared.phase.Phase.{Phase}
-use Rattle.thread_state.specs.declared.phase.Phase.TheVariants as phase
-use Rattle.thread_state.specs.declared.value.Value.{Value}
-use Rattle.thread_state.specs.declared.value.Value.TheVariants as value
-use Rattle.server_msgs.specs.declared.message.Message.TheVariants as message
-use Rattle.journal.specs.View.{EntryView}
-use Rattle.server_model.specs.declared.event.Event.{Event}
-use Rattle.server_model.specs.declared.event.What.TheVariants.{Step, Deliver}
-use Rattle.server_model.specs.Servers.{Server, Cluster, server_at}
-use Rattle.server_model.specs.Work.{Hand, thread_in, then_some, used_once}
-use Rattle.server_model.specs.Prepare.{access_of}
-use Rattle.server_model.specs.Objects.{waits_for_cell, filled}
-use Rattle.server_model.specs.Events.{Stepped, can_step, has_phase, is_ready, begin_work, received, step}
-use Rattle.server_model.specs.Clusters.{apply}
-use Rattle.heap_law.specs.Names.{tot, one, other, if_so, Among}
-use Rattle.heap_law.specs.Things.{Location, at_slot, at_temp, in_cell, things_of}
-use Rattle.heap_law.specs.Follow.{Standing, Ground, threads_in, value_in, value_behind, leads, locate, hop_at}
-use Rattle.heap_law.specs.Paths.{Path, no_path, reads, shares, lends, writes, ends, path_of, joined_thread, followed}
-use Rattle.heap_law.specs.Passing.{FollowedLaw}
-use Rattle.heap_law.specs.Sight.{Sight, sight}
-use Rattle.heap_law.specs.Walking.{instr_of, path, words_kept, loose_hop, has_gift_there, waits_for_lent, has_followed, lost_place}
-use Rattle.heap_law.specs.Requests.{is_got, is_task, early_gift, stands_wrong, gift_fits, gift_there}
-use Rattle.heap_law.specs.Coherent.{IsSound, Holds, place_followed}
-use Rattle.heap_law.proofs.Followed.{followed_law}
-use Rattle.heap_law.proofs.Words.{none_at, none_all}
-use Rattle.event_law.specs.Kinds.{Kind, evicts, migrates, starts, arrives, fetch, fetched, asks_lock, granted, unlocked, asks_dup, dupped, released, asks_join, joined, finished, moved, step_print, step_arith, step_par_end, message_kind, instr_kind, kind_at}
-use Rattle.event_law.specs.Laws.{Gives, FewEvents}
-use Rattle.event_law.proofs.Results.{over_gives, test_gives, both_give, weaker}
-use Rattle.event_law.proofs.Sending.{applied_part}
-use Rattle.event_law.proofs.ThreadThere.{thread_there}
-use Rattle.path_law.proofs.Contained.{among_thread}
-use Rattle.word_law.specs.Reworded.{HasPlaces}
-use Rattle.word_law.specs.Unmoved.{pointing, Untouched}
-use Rattle.word_law.proofs.Follows.{seen_places_lead}
-use Rattle.word_law.proofs.Takings.{leads_pointing}
-use Rattle.local_law.proofs.Goes.{Goes, on, waits_pair, is_over, asks_cell, asks_home, gets_cell, gets_gift, goes_pair, Left, IsAsking, AsksHome, thread_goes}
-use Rattle.local_law.proofs.Small.{Follows}
-use Rattle.local_law.proofs.Handed.{Stood, InParcel}
-use Rattle.stay_law.specs.Laws.{IsOfKind}
-use Rattle.stay_law.proofs.Alike.{Alike}
-use Rattle.stay_law.proofs.Seen.{seen_alike}
-use Rattle.stay_law.proofs.StayKinds.{Stays, Seen, kind_seen}
+use Rattle.free_law.specs.Below.fr_base.declared.name.ObjNo.{ObjNo}
+use Rattle.free_law.specs.Below.fr_base.declared.place.Lval.{Lval}
+use Rattle.free_law.specs.Below.fr_base.declared.instruction.Instr.{Instr}
+use Rattle.free_law.specs.Below.fr_base.declared.instruction.Instr.TheVariants as instr
+use Rattle.free_law.specs.Below.fr_base.Lists.{is_in}
+use Rattle.free_law.specs.Below.heap_partition.declared.value.Cell.{Cell}
+use Rattle.free_law.specs.Below.heap_partition.declared.value.Owned.{Owned}
+use Rattle.free_law.specs.Below.heap_partition.declared.value.Owned.TheVariants as owned
+use Rattle.free_law.specs.Below.read_cache.Cache.{can_fill, can_pin}
+use Rattle.free_law.specs.Below.migration.Packing.{packed}
+use Rattle.free_law.specs.Below.thread_state.View.{ThreadState}
+use Rattle.free_law.specs.Below.thread_state.declared.phase.Phase.{Phase}
+use Rattle.free_law.specs.Below.thread_state.declared.phase.Phase.TheVariants as phase
+use Rattle.free_law.specs.Below.thread_state.declared.value.Value.{Value}
+use Rattle.free_law.specs.Below.thread_state.declared.value.Value.TheVariants as value
+use Rattle.free_law.specs.Below.server_msgs.declared.message.Message.TheVariants as message
+use Rattle.free_law.specs.Below.journal.View.{EntryView}
+use Rattle.free_law.specs.Below.server_model.declared.event.Event.{Event}
+use Rattle.free_law.specs.Below.server_model.declared.event.What.TheVariants.{Step, Deliver}
+use Rattle.free_law.specs.Below.server_model.Servers.{Server, Cluster, server_at}
+use Rattle.free_law.specs.Below.server_model.Work.{Hand, thread_in, then_some, used_once}
+use Rattle.free_law.specs.Below.server_model.Prepare.{access_of}
+use Rattle.free_law.specs.Below.server_model.Objects.{waits_for_cell, filled}
+use Rattle.free_law.specs.Below.server_model.Events.{Stepped, can_step, has_phase, is_ready, begin_work, received, step}
+use Rattle.free_law.specs.Below.server_model.Clusters.{apply}
+use Rattle.free_law.specs.Below.heap_law.Names.{tot, one, other, if_so, Among}
+use Rattle.free_law.specs.Below.heap_law.Things.{Location, at_slot, at_temp, in_cell, things_of}
+use Rattle.free_law.specs.Below.heap_law.Follow.{Standing, Ground, threads_in, value_in, value_behind, leads, locate, hop_at}
+use Rattle.free_law.specs.Below.heap_law.Paths.{Path, no_path, reads, shares, lends, writes, ends, path_of, joined_thread, followed}
+use Rattle.free_law.specs.Below.heap_law.Passing.{FollowedLaw}
+use Rattle.free_law.specs.Below.heap_law.Sight.{Sight, sight}
+use Rattle.free_law.specs.Below.heap_law.Walking.{instr_of, path, words_kept, loose_hop, has_gift_there, waits_for_lent, has_followed, lost_place}
+use Rattle.free_law.specs.Below.heap_law.Requests.{is_got, is_task, early_gift, stands_wrong, gift_fits, gift_there}
+use Rattle.free_law.specs.Below.heap_law.Coherent.{IsSound, Holds, place_followed}
+use Rattle.free_law.proofs.Below.heap_law.Followed.{followed_law}
+use Rattle.free_law.proofs.Below.heap_law.Words.{none_at, none_all}
+use Rattle.free_law.specs.Below.event_law.Kinds.{Kind, evicts, migrates, starts, arrives, fetch, fetched, asks_lock, granted, unlocked, asks_dup, dupped, released, asks_join, joined, finished, moved, step_print, step_arith, step_par_end, message_kind, instr_kind, kind_at}
+use Rattle.free_law.specs.Below.event_law.Laws.{Gives, FewEvents}
+use Rattle.free_law.proofs.Below.event_law.Results.{over_gives, test_gives, both_give, weaker}
+use Rattle.free_law.proofs.Below.event_law.Sending.{applied_part}
+use Rattle.free_law.proofs.Below.event_law.ThreadThere.{thread_there}
+use Rattle.free_law.proofs.Below.path_law.Contained.{among_thread}
+use Rattle.wait_law.specs.Below.word_law.Reworded.{HasPlaces}
+use Rattle.wait_law.specs.Below.word_law.Unmoved.{pointing, Untouched}
+use Rattle.wait_law.proofs.Below.word_law.Follows.{seen_places_lead}
+use Rattle.wait_law.proofs.Below.word_law.Takings.{leads_pointing}
+use Rattle.free_law.proofs.Below.local_law.Goes.{Goes, on, waits_pair, is_over, asks_cell, asks_home, gets_cell, gets_gift, goes_pair, Left, IsAsking, AsksHome, thread_goes}
+use Rattle.free_law.proofs.Below.local_law.Small.{Follows}
+use Rattle.free_law.proofs.Below.local_law.Handed.{Stood, InParcel}
+use Rattle.wait_law.specs.Below.stay_law.Laws.{IsOfKind}
+use Rattle.wait_law.proofs.Below.stay_law.Alike.{Alike}
+use Rattle.wait_law.proofs.Below.stay_law.Seen.{seen_alike}
+use Rattle.wait_law.proofs.Below.stay_law.StayKinds.{Stays, Seen, kind_seen}
 use Rattle.wait_law.specs.Steady.{IsSteady, EachSteadyEventKeeps}
 use Rattle.wait_law.proofs.Fates.{Fates, fated}
 use Rattle.walk_law.specs.Steady.{AlikePointers, SteadyEventsLeavePointers}

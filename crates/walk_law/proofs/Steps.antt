@@ -1,32 +1,32 @@
 -- The step of a thread leaves each cell, words included, but for those of objects in chains of its own slots that nobody else reads.
 use Rattle.std.proofs.Common.{◌≡◌, ◌⊎◌, inl, inr, ℕ, ◌≤◌, false, Option, Some, None, is_some, refl, sym, ap, subst, ◌∙◌, arith}
 use Rattle.std.specs.Bool.{⊤}
-use Rattle.fr_base.specs.declared.name.ObjNo.{ObjNo}
-use Rattle.fr_base.specs.declared.place.Lval.{Lval}
-use Rattle.fr_base.specs.declared.instruction.Operand.{Operand}
-use Rattle.fr_base.specs.declared.instruction.Instr.{Instr}
-use Rattle.fr_base.specs.declared.instruction.Instr.TheVariants as instr
-use Rattle.fr_code.specs.CodeTypes.{Entry, Table, InstrTypes, i_par_end}
-use Rattle.heap_partition.specs.declared.value.Cell.{Cell}
-use Rattle.heap_partition.specs.declared.value.Owned.{Owned}
-use Rattle.owner_box.specs.View.{PartitionState}
-use Rattle.thread_state.specs.View.{ThreadState}
-use Rattle.server_model.specs.Servers.{Server, Cluster, Rest}
-use Rattle.server_model.specs.Work.{Hand}
-use Rattle.server_model.specs.Places.{Spot, in_slot}
-use Rattle.server_model.specs.Prepare.{ready, write_stars}
-use Rattle.server_model.specs.Events.{begin_work}
-use Rattle.heap_law.specs.Things.{Location, at_slot, in_cell}
-use Rattle.heap_law.specs.Follow.{Standing}
-use Rattle.heap_law.specs.OneHeap.{two_in, pair_of}
-use Rattle.path_law.specs.HeapStore.{GoesOn, HasPaths}
-use Rattle.path_law.proofs.Forms.{running_typed}
-use Rattle.path_law.proofs.Shown.{stands_there}
-use Rattle.read_law.proofs.FreshReads.{chain_apart}
-use Rattle.result_law.proofs.Known.{Steps, standing, paths, goes, types, entry, typed}
-use Rattle.result_law.proofs.Readers.{to_entry}
-use Rattle.write_law.proofs.Memory.{looks}
-use Rattle.write_law.proofs.Route.{Route, At, a_slot, a_cell, Fine, begins, all_hops}
+use Rattle.free_law.specs.Below.fr_base.declared.name.ObjNo.{ObjNo}
+use Rattle.free_law.specs.Below.fr_base.declared.place.Lval.{Lval}
+use Rattle.free_law.specs.Below.fr_base.declared.instruction.Operand.{Operand}
+use Rattle.free_law.specs.Below.fr_base.declared.instruction.Instr.{Instr}
+use Rattle.free_law.specs.Below.fr_base.declared.instruction.Instr.TheVariants as instr
+use Rattle.free_law.specs.Below.fr_code.CodeTypes.{Entry, Table, InstrTypes, i_par_end}
+use Rattle.free_law.specs.Below.heap_partition.declared.value.Cell.{Cell}
+use Rattle.free_law.specs.Below.heap_partition.declared.value.Owned.{Owned}
+use Rattle.free_law.specs.Below.owner_box.View.{PartitionState}
+use Rattle.free_law.specs.Below.thread_state.View.{ThreadState}
+use Rattle.free_law.specs.Below.server_model.Servers.{Server, Cluster, Rest}
+use Rattle.free_law.specs.Below.server_model.Work.{Hand}
+use Rattle.free_law.specs.Below.server_model.Places.{Spot, in_slot}
+use Rattle.free_law.specs.Below.server_model.Prepare.{ready, write_stars}
+use Rattle.free_law.specs.Below.server_model.Events.{begin_work}
+use Rattle.free_law.specs.Below.heap_law.Things.{Location, at_slot, in_cell}
+use Rattle.free_law.specs.Below.heap_law.Follow.{Standing}
+use Rattle.free_law.specs.Below.heap_law.OneHeap.{two_in, pair_of}
+use Rattle.free_law.specs.Below.path_law.HeapStore.{GoesOn, HasPaths}
+use Rattle.free_law.proofs.Below.path_law.Forms.{running_typed}
+use Rattle.free_law.proofs.Below.path_law.Shown.{stands_there}
+use Rattle.wait_law.proofs.Below.read_law.FreshReads.{chain_apart}
+use Rattle.free_law.proofs.Below.result_law.Known.{Steps, standing, paths, goes, types, entry, typed}
+use Rattle.free_law.proofs.Below.result_law.Readers.{to_entry}
+use Rattle.wait_law.proofs.Below.write_law.Memory.{looks}
+use Rattle.wait_law.proofs.Below.write_law.Route.{Route, At, a_slot, a_cell, Fine, begins, all_hops}
 use Rattle.wait_law.specs.Below.rewrite_law.Writing.{WritesThrough, assigns, moves}
 use Rattle.wait_law.proofs.Below.rewrite_law.Ways.{may, cell_there, place, route}
 use Rattle.wait_law.proofs.Written.{InChain, chain_of, Written}

@@ -1,32 +1,32 @@
 -- Where a thread and the cells on its way are there still, each place of it leads where it led, over the same pointers.
 use Rattle.std.proofs.Common.{◌≡◌, ℕ, zero, suc, ◌+◌, ◌-◌, ◌≤◌, ◌&&◌, Bool, true, false, Option, Some, None, refl, sym, ap, subst, ◌∙◌, arith}
 use Rattle.std.specs.Prelude.{slice_get}
-use Rattle.fr_base.specs.declared.place.Lval.{Lval}
-use Rattle.fr_base.specs.declared.name.ObjNo.{ObjNo}
-use Rattle.fr_base.specs.declared.label.Plain.{Plain}
-use Rattle.fr_base.specs.Names.{same_object}
-use Rattle.fr_sound.specs.Seen.{seen_cell}
-use Rattle.heap_partition.specs.Same.{same_owned}
-use Rattle.heap_partition.specs.declared.value.Cell.{Cell}
-use Rattle.heap_partition.specs.declared.value.Owned.{Owned}
-use Rattle.thread_state.specs.declared.value.Value.TheVariants as value
-use Rattle.server_model.specs.Servers.{Cluster}
-use Rattle.heap_law.specs.Names.{tot, one, Among}
-use Rattle.heap_law.specs.Things.{Location, in_cell, Thing, lies, flies, things_of}
-use Rattle.heap_law.specs.Follow.{Standing, Ground, thread_at, cell_of, slot_of, value_of, value_in, value_behind, leads, locate}
-use Rattle.heap_law.specs.Paths.{Awaited}
-use Rattle.heap_law.specs.Sight.{sight}
-use Rattle.heap_law.specs.Walking.{asked_for}
-use Rattle.heap_law.specs.OneHeap.{object_value}
-use Rattle.heap_law.proofs.Names.{and_left, and_right}
-use Rattle.type_law.specs.ClusterTypes.{IsCoherent}
-use Rattle.path_law.specs.HeapStore.{GoesOn, HasPaths}
-use Rattle.path_law.proofs.Alike.{IsShown, a_slot, an_object, leads_in_heap}
-use Rattle.path_law.proofs.Shown.{object_shown}
-use Rattle.word_law.specs.Reworded.{HasPlaces}
-use Rattle.word_law.proofs.Standing.{CellOf, lying, flying, cell_among, cell_found}
-use Rattle.still_law.proofs.Tests.{objects}
-use Rattle.still_law.proofs.Told.{told, same_told, at_thread, thread_told, found}
+use Rattle.free_law.specs.Below.fr_base.declared.place.Lval.{Lval}
+use Rattle.free_law.specs.Below.fr_base.declared.name.ObjNo.{ObjNo}
+use Rattle.free_law.specs.Below.fr_base.declared.label.Plain.{Plain}
+use Rattle.free_law.specs.Below.fr_base.Names.{same_object}
+use Rattle.free_law.specs.Below.fr_sound.Seen.{seen_cell}
+use Rattle.free_law.specs.Below.heap_partition.Same.{same_owned}
+use Rattle.free_law.specs.Below.heap_partition.declared.value.Cell.{Cell}
+use Rattle.free_law.specs.Below.heap_partition.declared.value.Owned.{Owned}
+use Rattle.free_law.specs.Below.thread_state.declared.value.Value.TheVariants as value
+use Rattle.free_law.specs.Below.server_model.Servers.{Cluster}
+use Rattle.free_law.specs.Below.heap_law.Names.{tot, one, Among}
+use Rattle.free_law.specs.Below.heap_law.Things.{Location, in_cell, Thing, lies, flies, things_of}
+use Rattle.free_law.specs.Below.heap_law.Follow.{Standing, Ground, thread_at, cell_of, slot_of, value_of, value_in, value_behind, leads, locate}
+use Rattle.free_law.specs.Below.heap_law.Paths.{Awaited}
+use Rattle.free_law.specs.Below.heap_law.Sight.{sight}
+use Rattle.free_law.specs.Below.heap_law.Walking.{asked_for}
+use Rattle.free_law.specs.Below.heap_law.OneHeap.{object_value}
+use Rattle.free_law.proofs.Below.heap_law.Names.{and_left, and_right}
+use Rattle.free_law.specs.Below.type_law.ClusterTypes.{IsCoherent}
+use Rattle.free_law.specs.Below.path_law.HeapStore.{GoesOn, HasPaths}
+use Rattle.free_law.proofs.Below.path_law.Alike.{IsShown, a_slot, an_object, leads_in_heap}
+use Rattle.free_law.proofs.Below.path_law.Shown.{object_shown}
+use Rattle.wait_law.specs.Below.word_law.Reworded.{HasPlaces}
+use Rattle.wait_law.proofs.Below.word_law.Standing.{CellOf, lying, flying, cell_among, cell_found}
+use Rattle.free_law.proofs.Below.still_law.Tests.{objects}
+use Rattle.free_law.proofs.Below.still_law.Told.{told, same_told, at_thread, thread_told, found}
 use Rattle.wait_law.proofs.Found.{weighing, among_weighs}
 use Rattle.walk_law.specs.Pointers.{SamePointers}
 use Rattle.walk_law.proofs.Tests.{owneds, same_value, values}

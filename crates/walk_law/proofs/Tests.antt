@@ -2,19 +2,19 @@
 use Rattle.std.proofs.Common.{◌≡◌, ℕ, Bool, true, false, ◌&&◌, refl, ap, ap₂, ◌∙◌}
 use Rattle.std.specs.Prelude.{◌==◌}
 use Rattle.std.proofs.lemmas.Bool.Decides.{Decides-int_eq}
-use Rattle.fr_base.specs.declared.name.ObjNo.{ObjNo}
-use Rattle.fr_base.specs.declared.place.Lval.{Lval}
-use Rattle.fr_base.specs.Names.{same_object, same_mutex}
-use Rattle.heap_partition.specs.Same.{same_box, same_owned}
-use Rattle.heap_partition.specs.declared.value.BoxPtr.{BoxPtr}
-use Rattle.heap_partition.specs.declared.value.Owned.{Owned}
-use Rattle.heap_partition.specs.declared.value.Owned.TheVariants as owned
-use Rattle.mut_borrow.specs.declared.shared.SharedRef.{SharedRef}
-use Rattle.mut_borrow.specs.declared.mutable.MutRef.{MutRef}
-use Rattle.thread_state.specs.declared.value.Value.{Value}
-use Rattle.thread_state.specs.declared.value.Value.TheVariants as value
-use Rattle.heap_law.proofs.Names.{and_left, and_right}
-use Rattle.still_law.proofs.Tests.{IsTest, numbers, same_truth, truths, objects, mutexes, same_place, places}
+use Rattle.free_law.specs.Below.fr_base.declared.name.ObjNo.{ObjNo}
+use Rattle.free_law.specs.Below.fr_base.declared.place.Lval.{Lval}
+use Rattle.free_law.specs.Below.fr_base.Names.{same_object, same_mutex}
+use Rattle.free_law.specs.Below.heap_partition.Same.{same_box, same_owned}
+use Rattle.free_law.specs.Below.heap_partition.declared.value.BoxPtr.{BoxPtr}
+use Rattle.free_law.specs.Below.heap_partition.declared.value.Owned.{Owned}
+use Rattle.free_law.specs.Below.heap_partition.declared.value.Owned.TheVariants as owned
+use Rattle.free_law.specs.Below.mut_borrow.declared.shared.SharedRef.{SharedRef}
+use Rattle.free_law.specs.Below.mut_borrow.declared.mutable.MutRef.{MutRef}
+use Rattle.free_law.specs.Below.thread_state.declared.value.Value.{Value}
+use Rattle.free_law.specs.Below.thread_state.declared.value.Value.TheVariants as value
+use Rattle.free_law.proofs.Below.heap_law.Names.{and_left, and_right}
+use Rattle.free_law.proofs.Below.still_law.Tests.{IsTest, numbers, same_truth, truths, objects, mutexes, same_place, places}
 
 both : (p q : Bool) → p ≡ true → q ≡ true → (p && q) ≡ true
 both true q a b = b

@@ -2,21 +2,21 @@
 use Rattle.std.proofs.Common.{◌≡◌, ℕ, zero, suc, true, false, Option, Some, None, refl, ap, ◌∙◌, arith}
 use Rattle.std.specs.Prelude.{slice_get}
 use Rattle.std.specs.Bool.{⊤}
-use Rattle.fr_base.specs.Lists.{last_of}
-use Rattle.fr_base.specs.declared.place.Lval.{Lval}
-use Rattle.fr_base.specs.declared.instruction.Instr.{Instr}
-use Rattle.fr_base.specs.declared.instruction.Instr.TheVariants as instr
-use Rattle.thread_state.specs.declared.value.Value.{Value}
-use Rattle.thread_state.specs.declared.value.Value.TheVariants as value
-use Rattle.server_model.specs.Servers.{Cluster}
-use Rattle.heap_law.specs.Follow.{Standing}
-use Rattle.heap_law.specs.Paths.{Path, no_path, reads, shares, lends, writes, ends, ending, taking, assigning, path_of}
-use Rattle.heap_law.specs.Sight.{sight}
-use Rattle.heap_law.specs.Walking.{instr_of, path}
-use Rattle.path_law.specs.Pointing.{assigns, moves}
-use Rattle.read_law.specs.Reading.{copies, shares as shares_it, lends as lends_it, dups, locks}
+use Rattle.free_law.specs.Below.fr_base.Lists.{last_of}
+use Rattle.free_law.specs.Below.fr_base.declared.place.Lval.{Lval}
+use Rattle.free_law.specs.Below.fr_base.declared.instruction.Instr.{Instr}
+use Rattle.free_law.specs.Below.fr_base.declared.instruction.Instr.TheVariants as instr
+use Rattle.free_law.specs.Below.thread_state.declared.value.Value.{Value}
+use Rattle.free_law.specs.Below.thread_state.declared.value.Value.TheVariants as value
+use Rattle.free_law.specs.Below.server_model.Servers.{Cluster}
+use Rattle.free_law.specs.Below.heap_law.Follow.{Standing}
+use Rattle.free_law.specs.Below.heap_law.Paths.{Path, no_path, reads, shares, lends, writes, ends, ending, taking, assigning, path_of}
+use Rattle.free_law.specs.Below.heap_law.Sight.{sight}
+use Rattle.free_law.specs.Below.heap_law.Walking.{instr_of, path}
+use Rattle.free_law.specs.Below.path_law.Pointing.{assigns, moves}
+use Rattle.wait_law.specs.Below.read_law.Reading.{copies, shares as shares_it, lends as lends_it, dups, locks}
 use Rattle.wait_law.specs.Places.{Follows, reads as follows_read, writes as follows_write, ends_at}
-use Rattle.word_law.specs.Unmoved.{pointing}
+use Rattle.wait_law.specs.Below.word_law.Unmoved.{pointing}
 use Rattle.walk_law.specs.Pointers.{SamePointers}
 use Rattle.walk_law.proofs.Sentences.{SameHops, SameOn}
 

@@ -2,43 +2,43 @@
 use Rattle.std.proofs.Common.{◌≡◌, ℕ, zero, suc, ◌-◌, true, false, Option, Some, None, length, refl, sym, ap, subst, ◌∙◌, arith}
 use Rattle.std.specs.Prelude.{slice_get}
 use Rattle.std.specs.Bool.{⊤}
-use Rattle.fr_base.specs.Lists.{last_of}
-use Rattle.fr_base.specs.declared.name.ObjNo.{ObjNo}
-use Rattle.fr_base.specs.declared.place.Lval.{Lval}
-use Rattle.fr_base.specs.declared.instruction.Operand.{Operand}
-use Rattle.fr_base.specs.declared.instruction.Instr.{Instr}
-use Rattle.fr_base.specs.declared.instruction.Instr.TheVariants as instr
-use Rattle.fr_store.specs.Keys.{slot_k, temp_k}
-use Rattle.fr_store.specs.Typed.{KeyTypes, Unnamed}
-use Rattle.heap_partition.specs.declared.value.Owned.{Owned}
-use Rattle.mut_borrow.specs.Refs.{finish_word}
-use Rattle.mut_borrow.specs.declared.mutable.MutRef.{MutRef}
-use Rattle.thread_state.specs.View.{ThreadState}
-use Rattle.thread_state.specs.declared.value.Value.{Value}
-use Rattle.thread_state.specs.declared.value.Value.TheVariants as value
-use Rattle.server_model.specs.Servers.{Server, Cluster}
-use Rattle.server_model.specs.Work.{Hand}
-use Rattle.server_model.specs.Places.{Spot, in_slot, on_top, value_at}
-use Rattle.server_model.specs.Prepare.{Access, WriteTo, EndRef, Prepared, ready, requested, nothing, and_then, ending, assigned, read_or_taken, access_of, clean_value, follow_holder, follow_ended, unlabelled, end_ref, prepare, read_stars, write_stars}
-use Rattle.server_model.specs.Events.{begin_work, prepared, step}
-use Rattle.heap_law.specs.Things.{at_slot, at_temp}
-use Rattle.heap_law.specs.Follow.{Standing, slot_of, temp_of}
-use Rattle.heap_law.specs.Paths as paths_of
-use Rattle.heap_law.specs.Paths.{ends, path_of, assigning}
-use Rattle.heap_law.specs.Sight.{sight}
-use Rattle.heap_law.specs.Walking.{path}
-use Rattle.path_law.specs.HeapStore.{GoesOn, HasPaths}
-use Rattle.path_law.specs.Pointing.{assigns as assigns_to}
-use Rattle.path_law.proofs.Ended.{newest_free, dropped_at}
-use Rattle.path_law.proofs.FreshPaths.{slot_there, temp_there}
-use Rattle.path_law.proofs.MayWrites.{may_write_there}
-use Rattle.path_law.proofs.Pointers.{temp_unnamed}
-use Rattle.path_law.proofs.Shown.{stands_there}
-use Rattle.event_law.specs.Laws.{Gives}
-use Rattle.still_law.proofs.Addresses.{InPlace}
-use Rattle.end_law.proofs.Ends.{EndsAt, last_is, key_of}
-use Rattle.result_law.proofs.Known.{Steps, standing, paths, goes, types, entry, typed}
-use Rattle.write_law.proofs.Ends.{RefAt, in_its_slot, on_its_top}
+use Rattle.free_law.specs.Below.fr_base.Lists.{last_of}
+use Rattle.free_law.specs.Below.fr_base.declared.name.ObjNo.{ObjNo}
+use Rattle.free_law.specs.Below.fr_base.declared.place.Lval.{Lval}
+use Rattle.free_law.specs.Below.fr_base.declared.instruction.Operand.{Operand}
+use Rattle.free_law.specs.Below.fr_base.declared.instruction.Instr.{Instr}
+use Rattle.free_law.specs.Below.fr_base.declared.instruction.Instr.TheVariants as instr
+use Rattle.free_law.specs.Below.fr_store.Keys.{slot_k, temp_k}
+use Rattle.free_law.specs.Below.fr_store.Typed.{KeyTypes, Unnamed}
+use Rattle.free_law.specs.Below.heap_partition.declared.value.Owned.{Owned}
+use Rattle.free_law.specs.Below.mut_borrow.Refs.{finish_word}
+use Rattle.free_law.specs.Below.mut_borrow.declared.mutable.MutRef.{MutRef}
+use Rattle.free_law.specs.Below.thread_state.View.{ThreadState}
+use Rattle.free_law.specs.Below.thread_state.declared.value.Value.{Value}
+use Rattle.free_law.specs.Below.thread_state.declared.value.Value.TheVariants as value
+use Rattle.free_law.specs.Below.server_model.Servers.{Server, Cluster}
+use Rattle.free_law.specs.Below.server_model.Work.{Hand}
+use Rattle.free_law.specs.Below.server_model.Places.{Spot, in_slot, on_top, value_at}
+use Rattle.free_law.specs.Below.server_model.Prepare.{Access, WriteTo, EndRef, Prepared, ready, requested, nothing, and_then, ending, assigned, read_or_taken, access_of, clean_value, follow_holder, follow_ended, unlabelled, end_ref, prepare, read_stars, write_stars}
+use Rattle.free_law.specs.Below.server_model.Events.{begin_work, prepared, step}
+use Rattle.free_law.specs.Below.heap_law.Things.{at_slot, at_temp}
+use Rattle.free_law.specs.Below.heap_law.Follow.{Standing, slot_of, temp_of}
+use Rattle.free_law.specs.Below.heap_law.Paths as paths_of
+use Rattle.free_law.specs.Below.heap_law.Paths.{ends, path_of, assigning}
+use Rattle.free_law.specs.Below.heap_law.Sight.{sight}
+use Rattle.free_law.specs.Below.heap_law.Walking.{path}
+use Rattle.free_law.specs.Below.path_law.HeapStore.{GoesOn, HasPaths}
+use Rattle.free_law.specs.Below.path_law.Pointing.{assigns as assigns_to}
+use Rattle.free_law.proofs.Below.path_law.Ended.{newest_free, dropped_at}
+use Rattle.free_law.proofs.Below.path_law.FreshPaths.{slot_there, temp_there}
+use Rattle.free_law.proofs.Below.path_law.MayWrites.{may_write_there}
+use Rattle.free_law.proofs.Below.path_law.Pointers.{temp_unnamed}
+use Rattle.free_law.proofs.Below.path_law.Shown.{stands_there}
+use Rattle.free_law.specs.Below.event_law.Laws.{Gives}
+use Rattle.free_law.proofs.Below.still_law.Addresses.{InPlace}
+use Rattle.free_law.proofs.Below.end_law.Ends.{EndsAt, last_is, key_of}
+use Rattle.free_law.proofs.Below.result_law.Known.{Steps, standing, paths, goes, types, entry, typed}
+use Rattle.wait_law.proofs.Below.write_law.Ends.{RefAt, in_its_slot, on_its_top}
 use Rattle.wait_law.specs.Below.rewrite_law.Writing.{WritesThrough, assigns, moves}
 use Rattle.wait_law.proofs.Written.{Written}
 use Rattle.walk_law.proofs.Cells.{Seeing, amount}
@@ -186,7 +186,7 @@ module _ (k : Cluster) (n t : ℕ) (s : Server) (y : ThreadState) (i : Instr) (z
       let is : path (sight k) x ≡ ends r = ap (λ b. path_of b y) (z.code ∙ ap Some e) ∙ ap paths_of.ending last in
       let l = last_is y.slots (value.Mut r) last in
       let at_it = typed k n t s y i z in
-      let free = newest_free k c x on l.0 l.1 (dropped_at (types k n t s y i z).table y.pc (entry k n t s y i z) at_it.0 (subst (λ j. Rattle.fr_code.specs.CodeTable.Leads (types k n t s y i z).table y.pc (entry k n t s y i z) j at_it.0) e at_it.1)) in
+      let free = newest_free k c x on l.0 l.1 (dropped_at (types k n t s y i z).table y.pc (entry k n t s y i z) at_it.0 (subst (λ j. Rattle.free_law.specs.Below.fr_code.CodeTable.Leads (types k n t s y i z).table y.pc (entry k n t s y i z) j at_it.0) e at_it.1)) in
       let it = in_slot_it r l.0 l.2 free in
       let where_it : l.0 ≡ length y.slots - 1 = (let q = l.1 in omega (arith, q)) in
       subst (λ j. Fits (Some (EndRef (in_slot j)))) where_it

@@ -1,16 +1,16 @@
 -- DELIVERIES IN WHICH AN OBJECT LEAVES OR GOES (this project's rule): the place that a thread follows leads where it led, over the same pointers.
-use Rattle.fr_base.specs.declared.place.Lval.{Lval}
-use Rattle.journal.specs.View.{EntryView}
-use Rattle.server_msgs.specs.declared.message.Message.{Message}
-use Rattle.server_model.specs.declared.event.Event.{Event}
-use Rattle.server_model.specs.Servers.{Cluster}
-use Rattle.server_model.specs.Clusters.{apply}
-use Rattle.heap_law.specs.Follow.{Standing}
-use Rattle.heap_law.specs.Coherent.{Sentence, Holds}
-use Rattle.type_law.specs.ClusterTypes.{IsCoherent}
-use Rattle.path_law.specs.HeapStore.{GoesOn}
-use Rattle.word_law.specs.Unmoved.{Delivers}
-use Rattle.event_law.specs.Laws.{Gives, FewEvents}
+use Rattle.free_law.specs.Below.fr_base.declared.place.Lval.{Lval}
+use Rattle.free_law.specs.Below.journal.View.{EntryView}
+use Rattle.free_law.specs.Below.server_msgs.declared.message.Message.{Message}
+use Rattle.free_law.specs.Below.server_model.declared.event.Event.{Event}
+use Rattle.free_law.specs.Below.server_model.Servers.{Cluster}
+use Rattle.free_law.specs.Below.server_model.Clusters.{apply}
+use Rattle.free_law.specs.Below.heap_law.Follow.{Standing}
+use Rattle.free_law.specs.Below.heap_law.Coherent.{Sentence, Holds}
+use Rattle.free_law.specs.Below.type_law.ClusterTypes.{IsCoherent}
+use Rattle.free_law.specs.Below.path_law.HeapStore.{GoesOn}
+use Rattle.wait_law.specs.Below.word_law.Unmoved.{Delivers}
+use Rattle.free_law.specs.Below.event_law.Laws.{Gives, FewEvents}
 use Rattle.wait_law.specs.Places.{Follows}
 use Rattle.walk_law.specs.Pointers.{SamePointers}
 

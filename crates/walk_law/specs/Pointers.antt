@@ -1,18 +1,18 @@
 -- POINTERS OF OTHER THREADS: while one thread steps, the place that another thread follows leads where it led, over the same pointers, words included (this
 -- project's rule).
 use Rattle.std.specs.Prelude.{◌≡◌, ℕ, ◌≤◌}
-use Rattle.fr_base.specs.declared.place.Lval.{Lval}
-use Rattle.journal.specs.View.{EntryView}
-use Rattle.server_model.specs.declared.event.Event.{Event}
-use Rattle.server_model.specs.declared.event.What.TheVariants.{Step}
-use Rattle.server_model.specs.Servers.{Cluster}
-use Rattle.server_model.specs.Clusters.{apply}
-use Rattle.heap_law.specs.Names.{Among}
-use Rattle.heap_law.specs.Follow.{Standing, locate, hop_at}
-use Rattle.heap_law.specs.Sight.{Sight, sight}
-use Rattle.type_law.specs.ClusterTypes.{IsCoherent}
-use Rattle.path_law.specs.HeapStore.{GoesOn}
-use Rattle.event_law.specs.Laws.{Gives, FewEvents}
+use Rattle.free_law.specs.Below.fr_base.declared.place.Lval.{Lval}
+use Rattle.free_law.specs.Below.journal.View.{EntryView}
+use Rattle.free_law.specs.Below.server_model.declared.event.Event.{Event}
+use Rattle.free_law.specs.Below.server_model.declared.event.What.TheVariants.{Step}
+use Rattle.free_law.specs.Below.server_model.Servers.{Cluster}
+use Rattle.free_law.specs.Below.server_model.Clusters.{apply}
+use Rattle.free_law.specs.Below.heap_law.Names.{Among}
+use Rattle.free_law.specs.Below.heap_law.Follow.{Standing, locate, hop_at}
+use Rattle.free_law.specs.Below.heap_law.Sight.{Sight, sight}
+use Rattle.free_law.specs.Below.type_law.ClusterTypes.{IsCoherent}
+use Rattle.free_law.specs.Below.path_law.HeapStore.{GoesOn}
+use Rattle.free_law.specs.Below.event_law.Laws.{Gives, FewEvents}
 use Rattle.wait_law.specs.Places.{Follows}
 
 -- with each count of its stars the place leads in the second cluster where it led in the first, and the value there is the same, its word, its mark and its pin

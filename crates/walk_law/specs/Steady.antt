@@ -1,17 +1,17 @@
 -- POINTERS AFTER EVENTS IN WHICH NO OBJECT COMES OR GOES (this project's rule): each place of each thread leads where it led, over the same pointers.
 use Rattle.std.specs.Prelude.{◌≡◌, ℕ}
-use Rattle.fr_base.specs.declared.place.Lval.{Lval}
-use Rattle.journal.specs.View.{EntryView}
-use Rattle.server_model.specs.declared.event.Event.{Event}
-use Rattle.server_model.specs.Servers.{Cluster}
-use Rattle.server_model.specs.Clusters.{apply}
-use Rattle.heap_law.specs.Follow.{locate, hop_at}
-use Rattle.heap_law.specs.Sight.{sight}
-use Rattle.heap_law.specs.Coherent.{IsSound}
-use Rattle.word_law.specs.Unmoved.{pointing}
-use Rattle.event_law.specs.Kinds.{Kind}
-use Rattle.event_law.specs.Laws.{Gives, FewEvents}
-use Rattle.stay_law.specs.Laws.{IsOfKind}
+use Rattle.free_law.specs.Below.fr_base.declared.place.Lval.{Lval}
+use Rattle.free_law.specs.Below.journal.View.{EntryView}
+use Rattle.free_law.specs.Below.server_model.declared.event.Event.{Event}
+use Rattle.free_law.specs.Below.server_model.Servers.{Cluster}
+use Rattle.free_law.specs.Below.server_model.Clusters.{apply}
+use Rattle.free_law.specs.Below.heap_law.Follow.{locate, hop_at}
+use Rattle.free_law.specs.Below.heap_law.Sight.{sight}
+use Rattle.free_law.specs.Below.heap_law.Coherent.{IsSound}
+use Rattle.wait_law.specs.Below.word_law.Unmoved.{pointing}
+use Rattle.free_law.specs.Below.event_law.Kinds.{Kind}
+use Rattle.free_law.specs.Below.event_law.Laws.{Gives, FewEvents}
+use Rattle.wait_law.specs.Below.stay_law.Laws.{IsOfKind}
 use Rattle.wait_law.specs.Steady.{IsSteady}
 
 -- with each count of its stars the place leads in the second cluster where it led in the first, and the pointer there is the same, its word and its mark included;

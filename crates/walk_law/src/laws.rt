@@ -1,11 +1,11 @@
 //! What an event leaves of the pointers that threads follow.
 
 ghost use Rattle.std.specs.Prelude.{ℕ};
-ghost use Rattle.fr_base.specs.declared.name.ObjNo.{ObjNo};
-ghost use Rattle.heap_law.specs.Coherent.{place_followed, taken_is_new, waits_in_turn};
-ghost use Rattle.heap_law.specs.Requests.{old_word};
-ghost use Rattle.heap_law.specs.Walking.{away, lost_place, out_of_turn, over_passed};
-ghost use Rattle.server_msgs.specs.declared.message.Message.TheVariants.{Drop, Move};
+ghost use Rattle.free_law.specs.Below.fr_base.declared.name.ObjNo.{ObjNo};
+ghost use Rattle.free_law.specs.Below.heap_law.Coherent.{place_followed, taken_is_new, waits_in_turn};
+ghost use Rattle.free_law.specs.Below.heap_law.Requests.{old_word};
+ghost use Rattle.free_law.specs.Below.heap_law.Walking.{away, lost_place, out_of_turn, over_passed};
+ghost use Rattle.free_law.specs.Below.server_msgs.declared.message.Message.TheVariants.{Drop, Move};
 ghost use Rattle.wait_law.specs.Steady.{EachSteadyEventKeeps};
 ghost use Rattle.walk_law.specs.Deliveries.{DeliveryKeeps, DeliveryLeavesPointers};
 ghost use Rattle.walk_law.specs.Pointers.{OthersStepsKeep, OthersStepsLeavePointers};

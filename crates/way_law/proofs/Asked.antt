@@ -1,17 +1,17 @@
 -- A thread that waits for what its message asks for waits in turn, where that is what it waits for on its path.
 use Rattle.std.proofs.Common.{◌≡◌, ℕ, zero, suc, ◌≤◌, ◌==◌, ◌&&◌, nat_lt, Bool, true, false, if◌then◌else◌, [], ◌∷◌, Some, None, refl, ap, subst, ◌∙◌, arith}
-use Rattle.fr_base.specs.declared.place.Lval.{Lval}
-use Rattle.fr_base.specs.Names.{same_object}
-use Rattle.fr_typing.proofs.PlaceLemmas.{eq_cases}
-use Rattle.server_msgs.specs.declared.message.Message.TheVariants as message
-use Rattle.thread_state.specs.declared.phase.Phase.TheVariants as phase
-use Rattle.thread_state.specs.declared.value.Value.{Value}
-use Rattle.heap_law.specs.Names.{tot, one, other, some}
-use Rattle.heap_law.specs.Follow.{Standing, hop_at}
-use Rattle.heap_law.specs.Paths.{Awaited, to_write}
-use Rattle.heap_law.specs.Sight.{Sight}
-use Rattle.heap_law.specs.Walking.{path, first_of, next_hop, in_turn, asks_for, asked_for, out_of_turn}
-use Rattle.still_law.proofs.Tests.{objects}
+use Rattle.walk_law.specs.Below.fr_base.declared.place.Lval.{Lval}
+use Rattle.walk_law.specs.Below.fr_base.Names.{same_object}
+use Rattle.walk_law.proofs.Below.fr_typing.PlaceLemmas.{eq_cases}
+use Rattle.walk_law.specs.Below.server_msgs.declared.message.Message.TheVariants as message
+use Rattle.walk_law.specs.Below.thread_state.declared.phase.Phase.TheVariants as phase
+use Rattle.walk_law.specs.Below.thread_state.declared.value.Value.{Value}
+use Rattle.walk_law.specs.Below.heap_law.Names.{tot, one, other, some}
+use Rattle.walk_law.specs.Below.heap_law.Follow.{Standing, hop_at}
+use Rattle.walk_law.specs.Below.heap_law.Paths.{Awaited, to_write}
+use Rattle.walk_law.specs.Below.heap_law.Sight.{Sight}
+use Rattle.walk_law.specs.Below.heap_law.Walking.{path, first_of, next_hop, in_turn, asks_for, asked_for, out_of_turn}
+use Rattle.walk_law.proofs.Below.still_law.Tests.{objects}
 
 one_some : (m : ℕ) → 1 ≤ m → some m ≡ true
 one_some zero l = absurd (omega (arith, l))
@@ -26,7 +26,7 @@ itself n = eq_cases (λ b. b ≡ true) n n (λ e. refl) (λ ne. absurd (ne refl)
 
 pub waits_right : (s : Sight) (x : Standing) (w : ℕ) (a : Awaited) → in_turn s x w (path s x) ≡ Some a → a.word ≡ w → 1 ≤ tot (asked_for x.thread.number a) s.things → out_of_turn s x (phase.WaitCell w) ≡ 0
 waits_right s x w a turn word asked =
-    ap (Rattle.heap_law.specs.Walking.not_asked s x w) turn ∙ ap other (both (a.word == w) (some (tot (asked_for x.thread.number a) s.things)) (subst (λ u. (a.word == u) ≡ true) word (itself a.word)) (one_some (tot (asked_for x.thread.number a) s.things) asked))
+    ap (Rattle.walk_law.specs.Below.heap_law.Walking.not_asked s x w) turn ∙ ap other (both (a.word == w) (some (tot (asked_for x.thread.number a) s.things)) (subst (λ u. (a.word == u) ≡ true) word (itself a.word)) (one_some (tot (asked_for x.thread.number a) s.things) asked))
 
 -- the next hop of a write
 pub next_is : (s : Sight) (x : Standing) (w : Lval) (v : Value) (a : Awaited) → nat_lt x.thread.passed w.depth ≡ true → hop_at s.ground x.thread.number w x.thread.passed ≡ Some v → to_write (Some v) ≡ a ∷ [] → next_hop s x w ≡ Some a

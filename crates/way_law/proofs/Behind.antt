@@ -1,40 +1,40 @@
 -- A step that reads its place and asks for something: what is behind is at hand, and it waits for the first hop that it can't read.
 use Rattle.std.proofs.Common.{◌≡◌, inl, inr, ℕ, zero, suc, ◌<◌, ◌≤◌, not, is_some, Bool, true, false, List, [], ◌∷◌, ◌++◌, Option, Some, None, refl, sym, ap, ◌∙◌, arith}
 use Rattle.std.specs.Prelude.{slice_get}
-use Rattle.fr_base.specs.Lists.{is_in}
-use Rattle.fr_base.specs.declared.name.ObjNo.{ObjNo}
-use Rattle.fr_base.specs.declared.place.Lval.{Lval}
-use Rattle.heap_partition.specs.declared.value.Cell.{Cell}
-use Rattle.heap_partition.specs.declared.value.Owned.TheVariants as owned
-use Rattle.journal.specs.View.{EntryView}
-use Rattle.read_cache.specs.Cache.{Copy, copy_of, is_cached, users, users_in}
-use Rattle.thread_state.specs.View.{ThreadState}
-use Rattle.thread_state.specs.declared.value.Value.{Value}
-use Rattle.thread_state.specs.declared.value.Value.TheVariants as value
-use Rattle.server_model.specs.Servers.{Server, Cluster}
-use Rattle.server_model.specs.Work.{Hand}
-use Rattle.server_model.specs.Places.{Spot, in_slot}
-use Rattle.server_model.specs.Prepare.{ready, read_stars}
-use Rattle.server_model.specs.Events.{Stepped, begin_work, wait_step}
-use Rattle.heap_law.specs.Names.{tot, other, Among}
-use Rattle.heap_law.specs.Things.{Location, at_slot, in_cell}
-use Rattle.heap_law.specs.Follow.{Standing, Ground, thread_at, cell_of, value_of, value_in, value_behind, slot_of, locate, hop_at, hops}
-use Rattle.heap_law.specs.Paths.{Awaited, to_read, is_at_hand, is_readable}
-use Rattle.heap_law.specs.Sight.{sight}
-use Rattle.heap_law.specs.Walking.{words_kept, loose_hop}
-use Rattle.heap_law.specs.Turn.{IsAsked}
-use Rattle.heap_law.proofs.Passing.{paths_law, one_more}
-use Rattle.heap_law.proofs.Sums.{tot-append}
-use Rattle.path_law.specs.HeapStore.{GoesOn, HasPaths}
-use Rattle.path_law.proofs.Alike.{IsShown, a_slot as shown_slot, an_object, leads_in_heap}
-use Rattle.path_law.proofs.Shown.{stands_there}
-use Rattle.word_law.specs.Reworded.{HasPlaces}
-use Rattle.event_law.proofs.Bags.{thread_number}
-use Rattle.read_law.specs.Reading.{Reads}
-use Rattle.result_law.proofs.Known.{Steps, standing, paths, goes}
-use Rattle.result_law.proofs.Reading.{alike_at, Reading}
-use Rattle.result_law.proofs.Usable.{times}
-use Rattle.wait_law.specs.Places.{LeadsAsItDid}
+use Rattle.walk_law.specs.Below.fr_base.Lists.{is_in}
+use Rattle.walk_law.specs.Below.fr_base.declared.name.ObjNo.{ObjNo}
+use Rattle.walk_law.specs.Below.fr_base.declared.place.Lval.{Lval}
+use Rattle.walk_law.specs.Below.heap_partition.declared.value.Cell.{Cell}
+use Rattle.walk_law.specs.Below.heap_partition.declared.value.Owned.TheVariants as owned
+use Rattle.walk_law.specs.Below.journal.View.{EntryView}
+use Rattle.walk_law.specs.Below.read_cache.Cache.{Copy, copy_of, is_cached, users, users_in}
+use Rattle.walk_law.specs.Below.thread_state.View.{ThreadState}
+use Rattle.walk_law.specs.Below.thread_state.declared.value.Value.{Value}
+use Rattle.walk_law.specs.Below.thread_state.declared.value.Value.TheVariants as value
+use Rattle.walk_law.specs.Below.server_model.Servers.{Server, Cluster}
+use Rattle.walk_law.specs.Below.server_model.Work.{Hand}
+use Rattle.walk_law.specs.Below.server_model.Places.{Spot, in_slot}
+use Rattle.walk_law.specs.Below.server_model.Prepare.{ready, read_stars}
+use Rattle.walk_law.specs.Below.server_model.Events.{Stepped, begin_work, wait_step}
+use Rattle.walk_law.specs.Below.heap_law.Names.{tot, other, Among}
+use Rattle.walk_law.specs.Below.heap_law.Things.{Location, at_slot, in_cell}
+use Rattle.walk_law.specs.Below.heap_law.Follow.{Standing, Ground, thread_at, cell_of, value_of, value_in, value_behind, slot_of, locate, hop_at, hops}
+use Rattle.walk_law.specs.Below.heap_law.Paths.{Awaited, to_read, is_at_hand, is_readable}
+use Rattle.walk_law.specs.Below.heap_law.Sight.{sight}
+use Rattle.walk_law.specs.Below.heap_law.Walking.{words_kept, loose_hop}
+use Rattle.walk_law.specs.Below.heap_law.Turn.{IsAsked}
+use Rattle.walk_law.proofs.Below.heap_law.Passing.{paths_law, one_more}
+use Rattle.walk_law.proofs.Below.heap_law.Sums.{tot-append}
+use Rattle.walk_law.specs.Below.path_law.HeapStore.{GoesOn, HasPaths}
+use Rattle.walk_law.proofs.Below.path_law.Alike.{IsShown, a_slot as shown_slot, an_object, leads_in_heap}
+use Rattle.walk_law.proofs.Below.path_law.Shown.{stands_there}
+use Rattle.borrow_law.specs.Below.word_law.Reworded.{HasPlaces}
+use Rattle.walk_law.proofs.Below.event_law.Bags.{thread_number}
+use Rattle.borrow_law.specs.Below.read_law.Reading.{Reads}
+use Rattle.walk_law.proofs.Below.result_law.Known.{Steps, standing, paths, goes}
+use Rattle.walk_law.proofs.Below.result_law.Reading.{alike_at, Reading}
+use Rattle.walk_law.proofs.Below.result_law.Usable.{times}
+use Rattle.walk_law.specs.Below.wait_law.Places.{LeadsAsItDid}
 use Rattle.way_law.proofs.Own.{Own, me, slot_is}
 use Rattle.way_law.proofs.Stops.{all_read}
 use Rattle.way_law.proofs.ReadStars.{Grows, in_times, loose_grows}
@@ -153,7 +153,7 @@ module _ (k c : Cluster) (v : EntryView) (t : ℕ) (o : Own k c v t) (after : Ha
 
       by : (l : Location) → IsShown k p x on l → locate G tn w.slot i ≡ Some l → value_in G l ≡ Some u → loose_hop r kept (value_in G2 l) ≡ 0
       by _ (shown_slot b) at_it there =
-          let reading : Reading y s.rest (Rattle.result_law.proofs.Starred.bound k n t s y o.instruction z) j a = (reaches k n t s y o.instruction z w m reads j le a sp reached).3 in
+          let reading : Reading y s.rest (Rattle.walk_law.proofs.Below.result_law.Starred.bound k n t s y o.instruction z) j a = (reaches k n t s y o.instruction z w m reads j le a sp reached).3 in
           let same = alike_at a.thread.slots y.slots b u reading.slots (ap (λ q. slot_of q b) (sym (stands_there k p x on)) ∙ there) in
           ap (loose_hop r kept) (slot_then k c v t o after h is b ∙ slots_like i lt b at_it ∙ same.1) ∙ alike_loose r kept same.0 u same.2 ∙ behind
       by _ (an_object q e f) at_it there = ap (loose_hop r kept) (memory_then q u there) ∙ behind

@@ -1,33 +1,33 @@
 -- A borrow that asks for something waits in turn: for the first pointer before the last that it can't read, or for the last one in its own way.
 use Rattle.std.proofs.Common.{◌≡◌, ℕ, zero, suc, ◌+◌, ◌<◌, ◌==◌, ◌&&◌, nat_lt, Bool, true, false, if◌then◌else◌, [], ◌∷◌, Option, Some, None, refl, sym, ap, subst, ◌∙◌, arith}
-use Rattle.fr_base.specs.declared.place.Lval.{Lval}
-use Rattle.fr_base.specs.declared.instruction.Instr.{Instr}
-use Rattle.fr_base.specs.declared.instruction.Instr.TheVariants as instr
-use Rattle.global_addr.specs.Words.{colour_of, server_of, next_word}
-use Rattle.heap_partition.specs.declared.value.BoxPtr.{BoxPtr}
-use Rattle.heap_partition.specs.declared.value.Owned.TheVariants as owned
-use Rattle.journal.specs.View.{EntryView}
-use Rattle.mut_borrow.specs.Refs.{cleaned_answer}
-use Rattle.mut_borrow.specs.declared.mutable.Cleaned.TheVariants as cleaned
-use Rattle.mut_borrow.specs.declared.mutable.MutRef.{MutRef}
-use Rattle.place_walk.specs.declared.hop.Hop.TheVariants as jump
-use Rattle.thread_state.specs.View.{ThreadState}
-use Rattle.thread_state.specs.declared.value.Value.{Value}
-use Rattle.thread_state.specs.declared.value.Value.TheVariants as value
-use Rattle.server_model.specs.Servers.{Server, Cluster}
-use Rattle.server_model.specs.Work.{Hand, then_some}
-use Rattle.server_model.specs.NewWords.{issue_tint, issue_renewal}
-use Rattle.server_model.specs.Places.{Spot, in_slot, value_at, load_at, put_word, pointer_of}
-use Rattle.server_model.specs.Prepare.{Prepared, ready, requested, nothing, and_then, ready_at, box_of, cleaned_by, clean_value, ask_object, is_taken, lend_by, lend_value, access_of, prepare, read_stars, read_pointer, lend_pointer}
-use Rattle.server_model.specs.Events.{begin_work, wait_step}
-use Rattle.heap_law.specs.Follow.{Standing}
-use Rattle.heap_law.specs.Paths.{Path, shares, lends, Awaited, to_read, to_write, to_clean}
-use Rattle.heap_law.specs.Sight.{sight}
-use Rattle.heap_law.specs.Turn.{IsAsked, InTurn, by_share as in_share, by_lend as in_lend, AwaitsAt, before_share, at_share, before_lend, at_lend}
-use Rattle.heap_law.specs.Walking.{path, out_of_turn}
-use Rattle.heap_law.proofs.Turn.{turn_law}
-use Rattle.read_law.specs.Reading as reading
-use Rattle.read_law.specs.Reading.{Reads}
+use Rattle.walk_law.specs.Below.fr_base.declared.place.Lval.{Lval}
+use Rattle.walk_law.specs.Below.fr_base.declared.instruction.Instr.{Instr}
+use Rattle.walk_law.specs.Below.fr_base.declared.instruction.Instr.TheVariants as instr
+use Rattle.walk_law.specs.Below.global_addr.Words.{colour_of, server_of, next_word}
+use Rattle.walk_law.specs.Below.heap_partition.declared.value.BoxPtr.{BoxPtr}
+use Rattle.walk_law.specs.Below.heap_partition.declared.value.Owned.TheVariants as owned
+use Rattle.walk_law.specs.Below.journal.View.{EntryView}
+use Rattle.walk_law.specs.Below.mut_borrow.Refs.{cleaned_answer}
+use Rattle.walk_law.specs.Below.mut_borrow.declared.mutable.Cleaned.TheVariants as cleaned
+use Rattle.walk_law.specs.Below.mut_borrow.declared.mutable.MutRef.{MutRef}
+use Rattle.walk_law.specs.Below.place_walk.declared.hop.Hop.TheVariants as jump
+use Rattle.walk_law.specs.Below.thread_state.View.{ThreadState}
+use Rattle.walk_law.specs.Below.thread_state.declared.value.Value.{Value}
+use Rattle.walk_law.specs.Below.thread_state.declared.value.Value.TheVariants as value
+use Rattle.walk_law.specs.Below.server_model.Servers.{Server, Cluster}
+use Rattle.walk_law.specs.Below.server_model.Work.{Hand, then_some}
+use Rattle.walk_law.specs.Below.server_model.NewWords.{issue_tint, issue_renewal}
+use Rattle.walk_law.specs.Below.server_model.Places.{Spot, in_slot, value_at, load_at, put_word, pointer_of}
+use Rattle.walk_law.specs.Below.server_model.Prepare.{Prepared, ready, requested, nothing, and_then, ready_at, box_of, cleaned_by, clean_value, ask_object, is_taken, lend_by, lend_value, access_of, prepare, read_stars, read_pointer, lend_pointer}
+use Rattle.walk_law.specs.Below.server_model.Events.{begin_work, wait_step}
+use Rattle.walk_law.specs.Below.heap_law.Follow.{Standing}
+use Rattle.walk_law.specs.Below.heap_law.Paths.{Path, shares, lends, Awaited, to_read, to_write, to_clean}
+use Rattle.walk_law.specs.Below.heap_law.Sight.{sight}
+use Rattle.walk_law.specs.Below.heap_law.Turn.{IsAsked, InTurn, by_share as in_share, by_lend as in_lend, AwaitsAt, before_share, at_share, before_lend, at_lend}
+use Rattle.walk_law.specs.Below.heap_law.Walking.{path, out_of_turn}
+use Rattle.walk_law.proofs.Below.heap_law.Turn.{turn_law}
+use Rattle.borrow_law.specs.Below.read_law.Reading as reading
+use Rattle.borrow_law.specs.Below.read_law.Reading.{Reads}
 use Rattle.way_law.proofs.Own.{Own, me}
 use Rattle.way_law.proofs.ReadWalk.{reaches}
 use Rattle.way_law.proofs.ReadTurns.{WaitsAt, waits_at, pulls, spent_here}

@@ -1,18 +1,18 @@
 -- A thread that asks for something on its way waits for a cell, at the instruction at which it was.
 use Rattle.std.proofs.Common.{◌≡◌, ℕ, nat_lt, length, Option, Some, None, refl, subst}
 use Rattle.std.specs.Bool.{⊤}
-use Rattle.owner_box.specs.Partition.{stored}
-use Rattle.thread_state.specs.View.{ThreadState}
-use Rattle.thread_state.specs.declared.phase.Phase.TheVariants as phase
-use Rattle.thread_state.specs.declared.value.Value.{Value}
-use Rattle.thread_state.specs.declared.value.Value.TheVariants as value
-use Rattle.server_model.specs.Servers.{Rest}
-use Rattle.server_model.specs.Work.{Hand, leads_here, with_partition, working}
-use Rattle.server_model.specs.Places.{Spot, in_slot, on_top, in_cell, in_copy, nowhere, note_write, put_at}
-use Rattle.server_model.specs.Prepare.{Access, requested, prepare}
-use Rattle.event_law.specs.Laws.{Gives}
-use Rattle.event_law.proofs.Results.{test_gives}
-use Rattle.local_law.proofs.Small.{Of, Small, Made, prepare_makes}
+use Rattle.walk_law.specs.Below.owner_box.Partition.{stored}
+use Rattle.walk_law.specs.Below.thread_state.View.{ThreadState}
+use Rattle.walk_law.specs.Below.thread_state.declared.phase.Phase.TheVariants as phase
+use Rattle.walk_law.specs.Below.thread_state.declared.value.Value.{Value}
+use Rattle.walk_law.specs.Below.thread_state.declared.value.Value.TheVariants as value
+use Rattle.walk_law.specs.Below.server_model.Servers.{Rest}
+use Rattle.walk_law.specs.Below.server_model.Work.{Hand, leads_here, with_partition, working}
+use Rattle.walk_law.specs.Below.server_model.Places.{Spot, in_slot, on_top, in_cell, in_copy, nowhere, note_write, put_at}
+use Rattle.walk_law.specs.Below.server_model.Prepare.{Access, requested, prepare}
+use Rattle.walk_law.specs.Below.event_law.Laws.{Gives}
+use Rattle.walk_law.proofs.Below.event_law.Results.{test_gives}
+use Rattle.borrow_law.proofs.Below.local_law.Small.{Of, Small, Made, prepare_makes}
 
 module _ (place : ℕ) where
   abbrev At : Rest → ThreadState → Type 0

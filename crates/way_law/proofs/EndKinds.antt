@@ -1,38 +1,38 @@
 -- The three instructions that may end a mutable reference, each by where that stands.
 use Rattle.std.proofs.Common.{◌≡◌, ℕ, ◌-◌, length, Option, Some, None, refl, sym, ap, subst, ◌∙◌, arith}
 use Rattle.std.specs.Prelude.{slice_get}
-use Rattle.fr_base.specs.Lists.{last_of}
-use Rattle.fr_base.specs.declared.place.Lval.{Lval}
-use Rattle.fr_base.specs.declared.instruction.Instr.{Instr}
-use Rattle.fr_base.specs.declared.instruction.Instr.TheVariants as instr
-use Rattle.fr_base.specs.declared.instruction.Operand.{Operand}
-use Rattle.fr_store.specs.Keys.{slot_k, temp_k}
-use Rattle.fr_store.specs.Typed.{KeyTypes, Unnamed}
-use Rattle.mut_borrow.specs.declared.mutable.MutRef.{MutRef}
-use Rattle.thread_state.specs.View.{ThreadState}
-use Rattle.thread_state.specs.declared.value.Value.{Value}
-use Rattle.thread_state.specs.declared.value.Value.TheVariants as value
-use Rattle.server_model.specs.Servers.{Server, Cluster}
-use Rattle.server_model.specs.Work.{Hand}
-use Rattle.server_model.specs.Places.{Spot, in_slot, on_top}
-use Rattle.server_model.specs.Prepare.{EndRef, requested, ending, assigned, access_of, prepare}
-use Rattle.server_model.specs.Events.{begin_work}
-use Rattle.heap_law.specs.Things.{at_slot, at_temp}
-use Rattle.heap_law.specs.Follow.{Standing, slot_of, temp_of}
-use Rattle.heap_law.specs.Paths as paths_of
-use Rattle.heap_law.specs.Paths.{ends, path_of, assigning}
-use Rattle.heap_law.specs.Sight.{sight}
-use Rattle.heap_law.specs.Walking.{path}
-use Rattle.path_law.specs.HeapStore.{GoesOn, HasPaths}
-use Rattle.path_law.specs.Pointing.{assigns as assigns_to}
-use Rattle.path_law.proofs.Ended.{newest_free, dropped_at}
-use Rattle.path_law.proofs.FreshPaths.{slot_there, temp_there}
-use Rattle.path_law.proofs.MayWrites.{may_write_there}
-use Rattle.path_law.proofs.Pointers.{temp_unnamed}
-use Rattle.path_law.proofs.Shown.{stands_there}
-use Rattle.end_law.proofs.Ends.{EndsAt, last_is, key_of}
-use Rattle.result_law.proofs.Known.{Steps, standing, paths, goes, types, entry, typed}
-use Rattle.write_law.proofs.Ends.{value_of_thread, RefAt as StandsAt, in_its_slot, on_its_top}
+use Rattle.walk_law.specs.Below.fr_base.Lists.{last_of}
+use Rattle.walk_law.specs.Below.fr_base.declared.place.Lval.{Lval}
+use Rattle.walk_law.specs.Below.fr_base.declared.instruction.Instr.{Instr}
+use Rattle.walk_law.specs.Below.fr_base.declared.instruction.Instr.TheVariants as instr
+use Rattle.walk_law.specs.Below.fr_base.declared.instruction.Operand.{Operand}
+use Rattle.walk_law.specs.Below.fr_store.Keys.{slot_k, temp_k}
+use Rattle.walk_law.specs.Below.fr_store.Typed.{KeyTypes, Unnamed}
+use Rattle.walk_law.specs.Below.mut_borrow.declared.mutable.MutRef.{MutRef}
+use Rattle.walk_law.specs.Below.thread_state.View.{ThreadState}
+use Rattle.walk_law.specs.Below.thread_state.declared.value.Value.{Value}
+use Rattle.walk_law.specs.Below.thread_state.declared.value.Value.TheVariants as value
+use Rattle.walk_law.specs.Below.server_model.Servers.{Server, Cluster}
+use Rattle.walk_law.specs.Below.server_model.Work.{Hand}
+use Rattle.walk_law.specs.Below.server_model.Places.{Spot, in_slot, on_top}
+use Rattle.walk_law.specs.Below.server_model.Prepare.{EndRef, requested, ending, assigned, access_of, prepare}
+use Rattle.walk_law.specs.Below.server_model.Events.{begin_work}
+use Rattle.walk_law.specs.Below.heap_law.Things.{at_slot, at_temp}
+use Rattle.walk_law.specs.Below.heap_law.Follow.{Standing, slot_of, temp_of}
+use Rattle.walk_law.specs.Below.heap_law.Paths as paths_of
+use Rattle.walk_law.specs.Below.heap_law.Paths.{ends, path_of, assigning}
+use Rattle.walk_law.specs.Below.heap_law.Sight.{sight}
+use Rattle.walk_law.specs.Below.heap_law.Walking.{path}
+use Rattle.walk_law.specs.Below.path_law.HeapStore.{GoesOn, HasPaths}
+use Rattle.walk_law.specs.Below.path_law.Pointing.{assigns as assigns_to}
+use Rattle.walk_law.proofs.Below.path_law.Ended.{newest_free, dropped_at}
+use Rattle.walk_law.proofs.Below.path_law.FreshPaths.{slot_there, temp_there}
+use Rattle.walk_law.proofs.Below.path_law.MayWrites.{may_write_there}
+use Rattle.walk_law.proofs.Below.path_law.Pointers.{temp_unnamed}
+use Rattle.walk_law.proofs.Below.path_law.Shown.{stands_there}
+use Rattle.borrow_law.proofs.Below.end_law.Ends.{EndsAt, last_is, key_of}
+use Rattle.walk_law.proofs.Below.result_law.Known.{Steps, standing, paths, goes, types, entry, typed}
+use Rattle.walk_law.proofs.Below.write_law.Ends.{value_of_thread, RefAt as StandsAt, in_its_slot, on_its_top}
 
 slots_of_one : {t u i j : ℕ} → slot_k t i ≡ slot_k u j → t ≡ u
 slots_of_one e = cc
@@ -135,7 +135,7 @@ module _ (k : Cluster) (n t : ℕ) (s : Server) (y : ThreadState) (i : Instr) (z
       let code = zz.code ∙ ap (λ u. Some u) e in
       let l = last_is y.slots (value.Mut r) last in
       let at_entry = typed k n t s y i z in
-      let free = newest_free k c x on l.0 l.1 (dropped_at (types k n t s y i z).table y.pc (entry k n t s y i z) at_entry.0 (subst (λ j. Rattle.fr_code.specs.CodeTable.Leads (types k n t s y i z).table y.pc (entry k n t s y i z) j at_entry.0) e at_entry.1)) in
+      let free = newest_free k c x on l.0 l.1 (dropped_at (types k n t s y i z).table y.pc (entry k n t s y i z) at_entry.0 (subst (λ j. Rattle.walk_law.specs.Below.fr_code.CodeTable.Leads (types k n t s y i z).table y.pc (entry k n t s y i z) j at_entry.0) e at_entry.1)) in
       let where_it : length y.slots - 1 ≡ l.0 = (let q = l.1 in omega (arith, q)) in record {
         reference = r;
         ended = ap (λ b. path_of b y) code ∙ ap paths_of.ending last;

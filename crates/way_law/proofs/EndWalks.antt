@@ -3,57 +3,57 @@ use Rattle.std.proofs.Common.{◌≡◌, ◌⊎◌, inl, inr, ℕ, suc, ◌<◌,
 use Rattle.std.specs.Prelude.{slice_get}
 use Rattle.std.proofs.lemmas.Option.{slice_get-map}
 use Rattle.std.proofs.lemmas.Bool.Decides.{nat_tests}
-use Rattle.fr_base.specs.Lists.{last_of}
-use Rattle.fr_base.specs.declared.name.ObjNo.{ObjNo}
-use Rattle.fr_base.specs.declared.place.Lval.{Lval}
-use Rattle.fr_base.specs.declared.instruction.Instr.{Instr}
-use Rattle.global_addr.specs.Words.{server_of, address_of}
-use Rattle.heap_partition.specs.declared.value.BoxPtr.{BoxPtr}
-use Rattle.heap_partition.specs.declared.value.Cell.{Cell}
-use Rattle.journal.specs.View.{EntryView}
-use Rattle.mut_borrow.specs.Refs.{finish_word}
-use Rattle.mut_borrow.specs.declared.mutable.MutRef.{MutRef}
-use Rattle.thread_state.specs.View.{ThreadState}
-use Rattle.server_msgs.specs.declared.message.Message.TheVariants as message
-use Rattle.thread_state.specs.declared.phase.Phase.TheVariants as phase
-use Rattle.thread_state.specs.declared.value.Value.TheVariants as value
-use Rattle.server_model.specs.Servers.{Rest, Server, Cluster}
-use Rattle.server_model.specs.Work.{Hand}
-use Rattle.server_model.specs.Places.{Spot, in_slot, value_at, value_in as cell_value, load_at}
-use Rattle.server_model.specs.Prepare.{WriteTo, EndRef, Prepared, ready, requested, nothing, and_then, unlabelled, follow_ended, follow_holder, clean_value, ask_object, box_of, access_of, prepare, write_stars}
-use Rattle.server_model.specs.Events.{Stepped, begin_work, wait_step}
-use Rattle.heap_law.specs.Names.{tot, one, other, Among}
-use Rattle.heap_law.specs.Things.{Location, at_slot, in_cell, lies, things_of}
-use Rattle.heap_law.specs.Coherent.{IsSound}
-use Rattle.heap_law.specs.Follow.{Standing, Ground, cell_of, value_of, value_in, value_behind, slot_of, leads as leads_to, locate, hop_at}
-use Rattle.heap_law.specs.Weights.{states}
-use Rattle.heap_law.specs.Paths.{ends, path_of, written_place, Awaited, to_write}
-use Rattle.heap_law.specs.Sight.{sight}
-use Rattle.heap_law.specs.Walking.{path, over_hops, over_place, over_passed, away, hop_count, too_far, first_of, next_hop, in_turn, asks_for, asked_for, out_of_turn}
-use Rattle.heap_law.proofs.Words.{none_at}
-use Rattle.path_law.specs.HeapStore.{GoesOn, HasPaths}
-use Rattle.path_law.proofs.Alike.{IsShown, a_slot as shown_slot, an_object, leads_in_heap}
-use Rattle.path_law.proofs.InState.{only_one}
-use Rattle.path_law.proofs.Shown.{stands_there}
-use Rattle.word_law.specs.Reworded.{HasPlaces}
-use Rattle.event_law.proofs.Cells.{self_state}
-use Rattle.event_law.proofs.Each.{at_most}
-use Rattle.read_law.specs.Reading.{LiesUnder}
-use Rattle.read_law.proofs.Homes.{pointer_leads}
-use Rattle.read_law.proofs.Lookups.{one_state}
-use Rattle.still_law.specs.Shows.{frame_of}
-use Rattle.still_law.proofs.Addresses.{InPlace}
-use Rattle.still_law.proofs.Prepares.{prepare_shows, Fine as Shows}
-use Rattle.still_law.proofs.Readied.{Readied}
-use Rattle.end_law.proofs.Ends.{EndsAt}
-use Rattle.end_law.proofs.Lying.{written_lie_there, ended_lies_there}
-use Rattle.result_law.proofs.Known.{Steps, standing, paths, goes}
-use Rattle.result_law.proofs.Pointing.{its_partition}
-use Rattle.write_law.proofs.Memory.{Leads, looks}
-use Rattle.write_law.proofs.Route.{Route, At, a_slot, a_cell}
-use Rattle.write_law.proofs.StepRoutes.{awake}
-use Rattle.write_law.proofs.Holders.{C, at, route, slot_away, object_away}
-use Rattle.write_law.proofs.Ends.{value_of_thread, RefAt as StandsAt, in_its_slot, on_its_top}
+use Rattle.walk_law.specs.Below.fr_base.Lists.{last_of}
+use Rattle.walk_law.specs.Below.fr_base.declared.name.ObjNo.{ObjNo}
+use Rattle.walk_law.specs.Below.fr_base.declared.place.Lval.{Lval}
+use Rattle.walk_law.specs.Below.fr_base.declared.instruction.Instr.{Instr}
+use Rattle.walk_law.specs.Below.global_addr.Words.{server_of, address_of}
+use Rattle.walk_law.specs.Below.heap_partition.declared.value.BoxPtr.{BoxPtr}
+use Rattle.walk_law.specs.Below.heap_partition.declared.value.Cell.{Cell}
+use Rattle.walk_law.specs.Below.journal.View.{EntryView}
+use Rattle.walk_law.specs.Below.mut_borrow.Refs.{finish_word}
+use Rattle.walk_law.specs.Below.mut_borrow.declared.mutable.MutRef.{MutRef}
+use Rattle.walk_law.specs.Below.thread_state.View.{ThreadState}
+use Rattle.walk_law.specs.Below.server_msgs.declared.message.Message.TheVariants as message
+use Rattle.walk_law.specs.Below.thread_state.declared.phase.Phase.TheVariants as phase
+use Rattle.walk_law.specs.Below.thread_state.declared.value.Value.TheVariants as value
+use Rattle.walk_law.specs.Below.server_model.Servers.{Rest, Server, Cluster}
+use Rattle.walk_law.specs.Below.server_model.Work.{Hand}
+use Rattle.walk_law.specs.Below.server_model.Places.{Spot, in_slot, value_at, value_in as cell_value, load_at}
+use Rattle.walk_law.specs.Below.server_model.Prepare.{WriteTo, EndRef, Prepared, ready, requested, nothing, and_then, unlabelled, follow_ended, follow_holder, clean_value, ask_object, box_of, access_of, prepare, write_stars}
+use Rattle.walk_law.specs.Below.server_model.Events.{Stepped, begin_work, wait_step}
+use Rattle.walk_law.specs.Below.heap_law.Names.{tot, one, other, Among}
+use Rattle.walk_law.specs.Below.heap_law.Things.{Location, at_slot, in_cell, lies, things_of}
+use Rattle.walk_law.specs.Below.heap_law.Coherent.{IsSound}
+use Rattle.walk_law.specs.Below.heap_law.Follow.{Standing, Ground, cell_of, value_of, value_in, value_behind, slot_of, leads as leads_to, locate, hop_at}
+use Rattle.walk_law.specs.Below.heap_law.Weights.{states}
+use Rattle.walk_law.specs.Below.heap_law.Paths.{ends, path_of, written_place, Awaited, to_write}
+use Rattle.walk_law.specs.Below.heap_law.Sight.{sight}
+use Rattle.walk_law.specs.Below.heap_law.Walking.{path, over_hops, over_place, over_passed, away, hop_count, too_far, first_of, next_hop, in_turn, asks_for, asked_for, out_of_turn}
+use Rattle.walk_law.proofs.Below.heap_law.Words.{none_at}
+use Rattle.walk_law.specs.Below.path_law.HeapStore.{GoesOn, HasPaths}
+use Rattle.walk_law.proofs.Below.path_law.Alike.{IsShown, a_slot as shown_slot, an_object, leads_in_heap}
+use Rattle.walk_law.proofs.Below.path_law.InState.{only_one}
+use Rattle.walk_law.proofs.Below.path_law.Shown.{stands_there}
+use Rattle.borrow_law.specs.Below.word_law.Reworded.{HasPlaces}
+use Rattle.walk_law.proofs.Below.event_law.Cells.{self_state}
+use Rattle.walk_law.proofs.Below.event_law.Each.{at_most}
+use Rattle.borrow_law.specs.Below.read_law.Reading.{LiesUnder}
+use Rattle.borrow_law.proofs.Below.read_law.Homes.{pointer_leads}
+use Rattle.borrow_law.proofs.Below.read_law.Lookups.{one_state}
+use Rattle.walk_law.specs.Below.still_law.Shows.{frame_of}
+use Rattle.walk_law.proofs.Below.still_law.Addresses.{InPlace}
+use Rattle.walk_law.proofs.Below.still_law.Prepares.{prepare_shows, Fine as Shows}
+use Rattle.walk_law.proofs.Below.still_law.Readied.{Readied}
+use Rattle.borrow_law.proofs.Below.end_law.Ends.{EndsAt}
+use Rattle.borrow_law.proofs.Below.end_law.Lying.{written_lie_there, ended_lies_there}
+use Rattle.walk_law.proofs.Below.result_law.Known.{Steps, standing, paths, goes}
+use Rattle.walk_law.proofs.Below.result_law.Pointing.{its_partition}
+use Rattle.walk_law.proofs.Below.write_law.Memory.{Leads, looks}
+use Rattle.walk_law.proofs.Below.write_law.Route.{Route, At, a_slot, a_cell}
+use Rattle.walk_law.proofs.Below.write_law.StepRoutes.{awake}
+use Rattle.walk_law.proofs.Below.write_law.Holders.{C, at, route, slot_away, object_away}
+use Rattle.walk_law.proofs.Below.write_law.Ends.{value_of_thread, RefAt as StandsAt, in_its_slot, on_its_top}
 use Rattle.way_law.proofs.Borrows.{CleansBy, clean_value_asks, split}
 use Rattle.way_law.proofs.Cell.{waits_there}
 use Rattle.way_law.proofs.Cleaned.{IsCleaned, CleanFine, cleans, value_is, route_again, its_slot}

@@ -1,25 +1,25 @@
 -- The step of a thread that asks for something takes no object away: what lay at its server lies there.
 use Rattle.std.proofs.Common.{◌≡◌, ℕ, zero, suc, ◌+◌, ◌≤◌, true, false, List, [], ◌∷◌, refl, sym, subst, arith}
-use Rattle.fr_base.specs.declared.name.ObjNo.{ObjNo}
-use Rattle.thread_state.specs.View.{ThreadState}
-use Rattle.journal.specs.View.{EntryView}
-use Rattle.server_msgs.specs.declared.message.Message.{Message}
-use Rattle.server_msgs.specs.declared.message.Message.TheVariants as message
-use Rattle.server_model.specs.Servers.{Server, Sent, Cluster}
-use Rattle.server_model.specs.Work.{Hand}
-use Rattle.server_model.specs.Prepare.{requested, access_of, prepare}
-use Rattle.server_model.specs.Events.{Stepped, begin_work, wait_step}
-use Rattle.heap_law.specs.Names.{tot}
-use Rattle.heap_law.specs.Things.{Thing, things_at, partition_things, message_things, waiting_things, leaving_things, things_of}
-use Rattle.heap_law.specs.Weights.{lies_at}
-use Rattle.heap_law.proofs.Sums.{tot-append}
-use Rattle.word_law.specs.Reworded.{HasPlaces}
-use Rattle.event_law.proofs.Bags.{all_standing, rest_things, server_same, tot-without}
-use Rattle.event_law.proofs.Events.{tot-server}
-use Rattle.still_law.proofs.Addresses.{InPlace, in_place}
-use Rattle.still_law.proofs.Leaving.{others, placed_here}
-use Rattle.still_law.proofs.Told.{tot_same}
-use Rattle.local_law.proofs.Small.{Made}
+use Rattle.walk_law.specs.Below.fr_base.declared.name.ObjNo.{ObjNo}
+use Rattle.walk_law.specs.Below.thread_state.View.{ThreadState}
+use Rattle.walk_law.specs.Below.journal.View.{EntryView}
+use Rattle.walk_law.specs.Below.server_msgs.declared.message.Message.{Message}
+use Rattle.walk_law.specs.Below.server_msgs.declared.message.Message.TheVariants as message
+use Rattle.walk_law.specs.Below.server_model.Servers.{Server, Sent, Cluster}
+use Rattle.walk_law.specs.Below.server_model.Work.{Hand}
+use Rattle.walk_law.specs.Below.server_model.Prepare.{requested, access_of, prepare}
+use Rattle.walk_law.specs.Below.server_model.Events.{Stepped, begin_work, wait_step}
+use Rattle.walk_law.specs.Below.heap_law.Names.{tot}
+use Rattle.walk_law.specs.Below.heap_law.Things.{Thing, things_at, partition_things, message_things, waiting_things, leaving_things, things_of}
+use Rattle.walk_law.specs.Below.heap_law.Weights.{lies_at}
+use Rattle.walk_law.proofs.Below.heap_law.Sums.{tot-append}
+use Rattle.borrow_law.specs.Below.word_law.Reworded.{HasPlaces}
+use Rattle.walk_law.proofs.Below.event_law.Bags.{all_standing, rest_things, server_same, tot-without}
+use Rattle.walk_law.proofs.Below.event_law.Events.{tot-server}
+use Rattle.walk_law.proofs.Below.still_law.Addresses.{InPlace, in_place}
+use Rattle.walk_law.proofs.Below.still_law.Leaving.{others, placed_here}
+use Rattle.walk_law.proofs.Below.still_law.Told.{tot_same}
+use Rattle.borrow_law.proofs.Below.local_law.Small.{Made}
 use Rattle.walk_law.proofs.Cells.{Seeing, cell_weight, thread_seen, rest_seen}
 use Rattle.way_law.proofs.Lies.{LiesHere, lies_on}
 use Rattle.way_law.proofs.Own.{Own, parts}

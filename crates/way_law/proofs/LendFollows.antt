@@ -2,49 +2,49 @@
 use Rattle.std.proofs.Common.{◌≡◌, ℕ, zero, suc, ◌+◌, ◌-◌, ◌<◌, ◌≤◌, ◌==◌, ◌&&◌, Bool, true, false, List, [], ◌∷◌, ◌++◌, Option, Some, None, refl, sym, ap, subst, ◌∙◌, arith}
 use Rattle.std.specs.Prelude.{slice_get}
 use Rattle.std.proofs.lemmas.Bool.Decides.{nat_tests}
-use Rattle.fr_base.specs.declared.name.ObjNo.{ObjNo}
-use Rattle.fr_base.specs.declared.place.Lval.{Lval}
-use Rattle.fr_base.specs.declared.instruction.Instr.{Instr}
-use Rattle.fr_base.specs.declared.instruction.Instr.TheVariants as instr
-use Rattle.global_addr.specs.Words.{server_of, address_of}
-use Rattle.heap_partition.specs.declared.value.BoxPtr.{BoxPtr}
-use Rattle.heap_partition.specs.declared.value.Cell.{Cell}
-use Rattle.heap_partition.specs.declared.value.Owned.{Owned}
-use Rattle.heap_partition.specs.declared.value.Owned.TheVariants as owned
-use Rattle.journal.specs.View.{EntryView}
-use Rattle.thread_state.specs.View.{ThreadState}
-use Rattle.thread_state.specs.declared.phase.Phase.{Phase}
-use Rattle.thread_state.specs.declared.phase.Phase.TheVariants as phase
-use Rattle.thread_state.specs.declared.value.Value.{Value}
-use Rattle.thread_state.specs.declared.value.Value.TheVariants as value
-use Rattle.server_model.specs.Servers.{Server, Cluster}
-use Rattle.server_model.specs.Work.{Hand}
-use Rattle.server_model.specs.Places.{Spot, in_slot, value_at, load_at, pointer_of}
-use Rattle.server_model.specs.Prepare.{ready, requested, access_of, prepare, read_stars, lend_value, lend_pointer}
-use Rattle.server_model.specs.Events.{Stepped, begin_work, wait_step}
-use Rattle.heap_law.specs.Names.{tot, if_so, Among}
-use Rattle.heap_law.specs.Things.{Location, in_cell, lies, things_of}
-use Rattle.heap_law.specs.Follow.{Standing, Ground, cell_of, value_of, value_in, leads, locate, hop_at, hops}
-use Rattle.heap_law.specs.Paths.{Path, lends, Awaited, to_read, to_write, borrow_to, awaited, followed}
-use Rattle.heap_law.specs.Sight.{sight}
-use Rattle.heap_law.specs.Weights.{states}
-use Rattle.heap_law.specs.Walking.{path, words_kept, loose_hop, is_pull, has_followed, waits_for_lent, lost_place}
-use Rattle.heap_law.proofs.Passing.{paths_law, one_more}
-use Rattle.path_law.specs.HeapStore.{GoesOn, HasPaths}
-use Rattle.path_law.specs.Pointing.{lends as lends_it}
-use Rattle.path_law.proofs.Alike.{coherent_has_paths}
-use Rattle.path_law.proofs.FreshPaths.{HasTaken}
-use Rattle.path_law.proofs.InState.{only_one}
-use Rattle.path_law.proofs.MayWrites.{may_write_there}
-use Rattle.path_law.proofs.Sole.{some_is}
-use Rattle.event_law.proofs.Cells.{self_state}
-use Rattle.read_law.specs.Reading as reading
-use Rattle.read_law.specs.Reading.{Reads, LiesUnder}
-use Rattle.read_law.proofs.Homes.{read_lie_there, pointer_leads}
-use Rattle.read_law.proofs.Lookups.{one_state}
-use Rattle.result_law.proofs.Known.{Steps, standing, paths, goes}
-use Rattle.result_law.proofs.Mutables.{apart}
-use Rattle.write_law.proofs.StepRoutes.{awake}
+use Rattle.walk_law.specs.Below.fr_base.declared.name.ObjNo.{ObjNo}
+use Rattle.walk_law.specs.Below.fr_base.declared.place.Lval.{Lval}
+use Rattle.walk_law.specs.Below.fr_base.declared.instruction.Instr.{Instr}
+use Rattle.walk_law.specs.Below.fr_base.declared.instruction.Instr.TheVariants as instr
+use Rattle.walk_law.specs.Below.global_addr.Words.{server_of, address_of}
+use Rattle.walk_law.specs.Below.heap_partition.declared.value.BoxPtr.{BoxPtr}
+use Rattle.walk_law.specs.Below.heap_partition.declared.value.Cell.{Cell}
+use Rattle.walk_law.specs.Below.heap_partition.declared.value.Owned.{Owned}
+use Rattle.walk_law.specs.Below.heap_partition.declared.value.Owned.TheVariants as owned
+use Rattle.walk_law.specs.Below.journal.View.{EntryView}
+use Rattle.walk_law.specs.Below.thread_state.View.{ThreadState}
+use Rattle.walk_law.specs.Below.thread_state.declared.phase.Phase.{Phase}
+use Rattle.walk_law.specs.Below.thread_state.declared.phase.Phase.TheVariants as phase
+use Rattle.walk_law.specs.Below.thread_state.declared.value.Value.{Value}
+use Rattle.walk_law.specs.Below.thread_state.declared.value.Value.TheVariants as value
+use Rattle.walk_law.specs.Below.server_model.Servers.{Server, Cluster}
+use Rattle.walk_law.specs.Below.server_model.Work.{Hand}
+use Rattle.walk_law.specs.Below.server_model.Places.{Spot, in_slot, value_at, load_at, pointer_of}
+use Rattle.walk_law.specs.Below.server_model.Prepare.{ready, requested, access_of, prepare, read_stars, lend_value, lend_pointer}
+use Rattle.walk_law.specs.Below.server_model.Events.{Stepped, begin_work, wait_step}
+use Rattle.walk_law.specs.Below.heap_law.Names.{tot, if_so, Among}
+use Rattle.walk_law.specs.Below.heap_law.Things.{Location, in_cell, lies, things_of}
+use Rattle.walk_law.specs.Below.heap_law.Follow.{Standing, Ground, cell_of, value_of, value_in, leads, locate, hop_at, hops}
+use Rattle.walk_law.specs.Below.heap_law.Paths.{Path, lends, Awaited, to_read, to_write, borrow_to, awaited, followed}
+use Rattle.walk_law.specs.Below.heap_law.Sight.{sight}
+use Rattle.walk_law.specs.Below.heap_law.Weights.{states}
+use Rattle.walk_law.specs.Below.heap_law.Walking.{path, words_kept, loose_hop, is_pull, has_followed, waits_for_lent, lost_place}
+use Rattle.walk_law.proofs.Below.heap_law.Passing.{paths_law, one_more}
+use Rattle.walk_law.specs.Below.path_law.HeapStore.{GoesOn, HasPaths}
+use Rattle.walk_law.specs.Below.path_law.Pointing.{lends as lends_it}
+use Rattle.walk_law.proofs.Below.path_law.Alike.{coherent_has_paths}
+use Rattle.walk_law.proofs.Below.path_law.FreshPaths.{HasTaken}
+use Rattle.walk_law.proofs.Below.path_law.InState.{only_one}
+use Rattle.walk_law.proofs.Below.path_law.MayWrites.{may_write_there}
+use Rattle.walk_law.proofs.Below.path_law.Sole.{some_is}
+use Rattle.walk_law.proofs.Below.event_law.Cells.{self_state}
+use Rattle.borrow_law.specs.Below.read_law.Reading as reading
+use Rattle.borrow_law.specs.Below.read_law.Reading.{Reads, LiesUnder}
+use Rattle.borrow_law.proofs.Below.read_law.Homes.{read_lie_there, pointer_leads}
+use Rattle.borrow_law.proofs.Below.read_law.Lookups.{one_state}
+use Rattle.walk_law.proofs.Below.result_law.Known.{Steps, standing, paths, goes}
+use Rattle.walk_law.proofs.Below.result_law.Mutables.{apart}
+use Rattle.walk_law.proofs.Below.write_law.StepRoutes.{awake}
 use Rattle.borrow_law.proofs.Lasts.{under_last}
 use Rattle.way_law.proofs.Own.{Own, me}
 use Rattle.way_law.proofs.ReadStars.{Grows}
@@ -170,8 +170,8 @@ module _ (k c : Cluster) (v : EntryView) (t : ℕ) (f : Facts k c v t) (h : Hand
     untaken u e =
         let zz = z in
         let has : has_followed (sight k) x y.phase ≡ true = ap (has_followed (sight k) x) e in
-        let on_path : path (sight k) x ≡ lends w = ap (λ q. Rattle.heap_law.specs.Paths.path_of q y) (zz.code ∙ ap (λ q. Some q) borrows) in
-        let place_is : Rattle.heap_law.specs.Passing.followed_place (path (sight k) x) ≡ Some (record { slot = w.slot; depth = w.depth - 1 }) = ap Rattle.heap_law.specs.Passing.followed_place on_path in
+        let on_path : path (sight k) x ≡ lends w = ap (λ q. Rattle.walk_law.specs.Below.heap_law.Paths.path_of q y) (zz.code ∙ ap (λ q. Some q) borrows) in
+        let place_is : Rattle.walk_law.specs.Below.heap_law.Passing.followed_place (path (sight k) x) ≡ Some (record { slot = w.slot; depth = w.depth - 1 }) = ap Rattle.walk_law.specs.Below.heap_law.Passing.followed_place on_path in
         never_asked k n t s y i z w d reads
         (λ j l b less located stands. zz.coherent.sound.walks.have_followed x (record { slot = w.slot; depth = w.depth - 1 }) j l b on.among has place_is (omega (arith, less, deep)) (record { path = paths_law.located G tn w.slot j l located; stands = stands })) h stopped
 
@@ -224,7 +224,7 @@ module _ (k c : Cluster) (v : EntryView) (t : ℕ) (f : Facts k c v t) (h : Hand
         apart k p x on w.slot w.depth wr.base wr.boxes wr.type wr.resolves (suc j) (suc d) (omega (arith, less)) (omega (arith, deep)) (in_cell b.object) to_first (to_second ∙ ap (λ e. Some (in_cell e)) (sym objects))
       where
         led_on : (m : ℕ) (l : Location) (u : Value) (b : BoxPtr) → locate G tn w.slot m ≡ Some l → value_in G l ≡ Some u → pointer_of u ≡ Some b → locate G tn w.slot (suc m) ≡ Some (in_cell b.object)
-        led_on m l u b e g q = ap (λ r. leads tn (Rattle.heap_law.specs.Follow.value_behind G r)) e ∙ ap (leads tn) g ∙ pointer_leads tn u b q
+        led_on m l u b e g q = ap (λ r. leads tn (Rattle.walk_law.specs.Below.heap_law.Follow.value_behind G r)) e ∙ ap (leads tn) g ∙ pointer_leads tn u b q
 
     -- what the last pointer is afterwards
     last_then : (q : ObjNo) → locate G tn w.slot d ≡ Some (in_cell q) → (u : Value) → value_in G (in_cell q) ≡ Some u → hop_at G2 o.result.hand.thread.number w d ≡ Some u

@@ -2,35 +2,35 @@
 use Rattle.std.proofs.Common.{◌≡◌, ℕ, ◌≤◌, ◌==◌, ◌&&◌, is_some, Bool, true, false, nat_lt, if◌then◌else◌, List, [], ◌∷◌, ◌++◌, ◌+◌, length, Option, Some, None, refl, sym, ap, subst, ◌∙◌, arith}
 use Rattle.std.specs.Prelude.{slice_get}
 use Rattle.std.specs.Bool.{⊤}
-use Rattle.fr_base.specs.declared.name.ObjNo.{ObjNo}
-use Rattle.global_addr.specs.Words.{colour_of, server_of, address_of}
-use Rattle.heap_partition.specs.declared.value.BoxPtr.{BoxPtr}
-use Rattle.heap_partition.specs.declared.value.Cell.{Cell}
-use Rattle.heap_partition.specs.declared.value.Owned.{Owned}
-use Rattle.owner_box.specs.View.{PartitionState}
-use Rattle.owner_box.specs.Partition.{cell_of, stored, freed, made_again, renewed}
-use Rattle.thread_state.specs.View.{ThreadState}
-use Rattle.thread_state.specs.declared.value.Value.{Value}
-use Rattle.thread_state.specs.declared.value.Value.TheVariants as value
-use Rattle.server_msgs.specs.declared.message.Message.{Message}
-use Rattle.server_msgs.specs.declared.message.Message.TheVariants as message
-use Rattle.server_model.specs.Servers.{Rest}
-use Rattle.server_model.specs.Work.{Hand, sent_from, leads_here, look, with_partition, working}
-use Rattle.server_model.specs.NewWords.{can_grow, is_last}
-use Rattle.server_model.specs.Places.{Spot, in_slot, on_top, in_cell, in_copy, nowhere, note_write, put_cell, put_at}
-use Rattle.server_model.specs.Prepare.{Access, Prepared, prepare}
-use Rattle.heap_law.specs.Names.{tot, one}
-use Rattle.heap_law.specs.Things.{Thing, vacant, retired, partition_things}
-use Rattle.heap_law.specs.Weights.{states, lies_at}
-use Rattle.heap_law.proofs.Names.{and_left, and_right}
-use Rattle.event_law.specs.Laws.{Gives}
-use Rattle.event_law.proofs.Results.{test_gives}
-use Rattle.event_law.proofs.Bags.{sent_number}
-use Rattle.event_law.proofs.Cells.{left_by, looked, frees}
-use Rattle.event_law.proofs.Objects.{length_set, taken_place, makes}
-use Rattle.event_law.proofs.Values.{stores}
-use Rattle.still_law.proofs.Addresses.{InPlace, lies_alone, next_empty, stored_places, renews}
-use Rattle.local_law.proofs.Small.{Of, Small, Made, prepare_makes}
+use Rattle.walk_law.specs.Below.fr_base.declared.name.ObjNo.{ObjNo}
+use Rattle.walk_law.specs.Below.global_addr.Words.{colour_of, server_of, address_of}
+use Rattle.walk_law.specs.Below.heap_partition.declared.value.BoxPtr.{BoxPtr}
+use Rattle.walk_law.specs.Below.heap_partition.declared.value.Cell.{Cell}
+use Rattle.walk_law.specs.Below.heap_partition.declared.value.Owned.{Owned}
+use Rattle.walk_law.specs.Below.owner_box.View.{PartitionState}
+use Rattle.walk_law.specs.Below.owner_box.Partition.{cell_of, stored, freed, made_again, renewed}
+use Rattle.walk_law.specs.Below.thread_state.View.{ThreadState}
+use Rattle.walk_law.specs.Below.thread_state.declared.value.Value.{Value}
+use Rattle.walk_law.specs.Below.thread_state.declared.value.Value.TheVariants as value
+use Rattle.walk_law.specs.Below.server_msgs.declared.message.Message.{Message}
+use Rattle.walk_law.specs.Below.server_msgs.declared.message.Message.TheVariants as message
+use Rattle.walk_law.specs.Below.server_model.Servers.{Rest}
+use Rattle.walk_law.specs.Below.server_model.Work.{Hand, sent_from, leads_here, look, with_partition, working}
+use Rattle.walk_law.specs.Below.server_model.NewWords.{can_grow, is_last}
+use Rattle.walk_law.specs.Below.server_model.Places.{Spot, in_slot, on_top, in_cell, in_copy, nowhere, note_write, put_cell, put_at}
+use Rattle.walk_law.specs.Below.server_model.Prepare.{Access, Prepared, prepare}
+use Rattle.walk_law.specs.Below.heap_law.Names.{tot, one}
+use Rattle.walk_law.specs.Below.heap_law.Things.{Thing, vacant, retired, partition_things}
+use Rattle.walk_law.specs.Below.heap_law.Weights.{states, lies_at}
+use Rattle.walk_law.proofs.Below.heap_law.Names.{and_left, and_right}
+use Rattle.walk_law.specs.Below.event_law.Laws.{Gives}
+use Rattle.walk_law.proofs.Below.event_law.Results.{test_gives}
+use Rattle.walk_law.proofs.Below.event_law.Bags.{sent_number}
+use Rattle.walk_law.proofs.Below.event_law.Cells.{left_by, looked, frees}
+use Rattle.walk_law.proofs.Below.event_law.Objects.{length_set, taken_place, makes}
+use Rattle.walk_law.proofs.Below.event_law.Values.{stores}
+use Rattle.walk_law.proofs.Below.still_law.Addresses.{InPlace, lies_alone, next_empty, stored_places, renews}
+use Rattle.borrow_law.proofs.Below.local_law.Small.{Of, Small, Made, prepare_makes}
 
 -- the cell that a word leads to which leads here
 led_here : (p : PartitionState) (w : ℕ) → leads_here p w ≡ true → is_some (cell_of p w) ≡ true
@@ -39,7 +39,7 @@ led_here p w on = and_right (server_of w == p.server) (is_some (cell_of p w)) (a
 pub same_partition : (r : Rest) (target : ℕ) (m : Message) → (sent_from r target m).partition ≡ r.partition
 same_partition r target m = by (target == r.number)
   where
-    by : (b : Bool) → (if b then Rattle.server_model.specs.Work.add_waiting m r else record r { outbox = r.outbox ++ record { target = target; message = m } ∷ [] }).partition ≡ r.partition
+    by : (b : Bool) → (if b then Rattle.walk_law.specs.Below.server_model.Work.add_waiting m r else record r { outbox = r.outbox ++ record { target = target; message = m } ∷ [] }).partition ≡ r.partition
     by true = refl
     by false = refl
 
@@ -147,8 +147,8 @@ module _ (n : ℕ) (o : ObjNo) where
     pinned = λ r a. tt;
     pins = λ w h e g. g;
     uses = λ w h e g. g;
-    asks_copy = λ p h a e g. sends h.work.rest h.thread (Rattle.server_model.specs.Prepare.ask_copy p h).thread (server_of p.word) (message.Fetch p.word p.object h.work.rest.number h.thread.number) g;
-    asks_object = λ p h a e g. sends h.work.rest h.thread (Rattle.server_model.specs.Prepare.ask_object p h).thread (server_of p.word) (message.Move p.word p.object h.work.rest.number h.thread.number) g;
+    asks_copy = λ p h a e g. sends h.work.rest h.thread (Rattle.walk_law.specs.Below.server_model.Prepare.ask_copy p h).thread (server_of p.word) (message.Fetch p.word p.object h.work.rest.number h.thread.number) g;
+    asks_object = λ p h a e g. sends h.work.rest h.thread (Rattle.walk_law.specs.Below.server_model.Prepare.ask_object p h).thread (server_of p.word) (message.Move p.word p.object h.work.rest.number h.thread.number) g;
   }
 
   -- wherever the access leads

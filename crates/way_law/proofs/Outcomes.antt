@@ -2,25 +2,25 @@
 use Rattle.std.proofs.Common.{◌≡◌, ℕ, true, false, List, [], Option, Some, None, refl, sym, subst}
 use Rattle.std.specs.Prelude.{option_map}
 use Rattle.std.specs.Bool.{⊤}
-use Rattle.fr_base.specs.declared.name.MutexNo.{MutexNo}
-use Rattle.fr_base.specs.declared.place.Lval.{Lval}
-use Rattle.fr_base.specs.declared.step.Fresh.{Fresh}
-use Rattle.fr_base.specs.declared.step.Fresh.TheVariants as fresh
-use Rattle.fr_base.specs.declared.instruction.Instr.{Instr}
-use Rattle.fr_base.specs.declared.instruction.Instr.TheVariants as instr
-use Rattle.fr_base.specs.declared.instruction.Operand.{Operand}
-use Rattle.heap_partition.specs.declared.value.Owned.{Owned}
-use Rattle.migration.specs.Packing.{unpin_all}
-use Rattle.read_cache.specs.Cache.{Copy}
-use Rattle.thread_state.specs.declared.phase.Phase.{Phase}
-use Rattle.thread_state.specs.declared.phase.Phase.TheVariants as phase
-use Rattle.thread_state.specs.declared.value.Value.{Value}
-use Rattle.server_model.specs.Work.{Hand, then_some, with_phase, pop, pop_owned, task_of, with_cache}
-use Rattle.server_model.specs.Start.{next_thread, capture}
-use Rattle.server_model.specs.Places.{Spot}
-use Rattle.server_model.specs.Prepare.{Prepared, ready, requested, nothing, access_of, prepare}
-use Rattle.server_model.specs.Commit.{Committed, done, waits, refused, done_where, go_on, waiting, ask_join, join, pair_begun, par_with, mutex_at, ask_dup, dup, ask_lock, lock, commit}
-use Rattle.server_model.specs.Events.{Stepped, done_step, wait_step, committed, prepared, step}
+use Rattle.walk_law.specs.Below.fr_base.declared.name.MutexNo.{MutexNo}
+use Rattle.walk_law.specs.Below.fr_base.declared.place.Lval.{Lval}
+use Rattle.walk_law.specs.Below.fr_base.declared.step.Fresh.{Fresh}
+use Rattle.walk_law.specs.Below.fr_base.declared.step.Fresh.TheVariants as fresh
+use Rattle.walk_law.specs.Below.fr_base.declared.instruction.Instr.{Instr}
+use Rattle.walk_law.specs.Below.fr_base.declared.instruction.Instr.TheVariants as instr
+use Rattle.walk_law.specs.Below.fr_base.declared.instruction.Operand.{Operand}
+use Rattle.walk_law.specs.Below.heap_partition.declared.value.Owned.{Owned}
+use Rattle.walk_law.specs.Below.migration.Packing.{unpin_all}
+use Rattle.walk_law.specs.Below.read_cache.Cache.{Copy}
+use Rattle.walk_law.specs.Below.thread_state.declared.phase.Phase.{Phase}
+use Rattle.walk_law.specs.Below.thread_state.declared.phase.Phase.TheVariants as phase
+use Rattle.walk_law.specs.Below.thread_state.declared.value.Value.{Value}
+use Rattle.walk_law.specs.Below.server_model.Work.{Hand, then_some, with_phase, pop, pop_owned, task_of, with_cache}
+use Rattle.walk_law.specs.Below.server_model.Start.{next_thread, capture}
+use Rattle.walk_law.specs.Below.server_model.Places.{Spot}
+use Rattle.walk_law.specs.Below.server_model.Prepare.{Prepared, ready, requested, nothing, access_of, prepare}
+use Rattle.walk_law.specs.Below.server_model.Commit.{Committed, done, waits, refused, done_where, go_on, waiting, ask_join, join, pair_begun, par_with, mutex_at, ask_dup, dup, ask_lock, lock, commit}
+use Rattle.walk_law.specs.Below.server_model.Events.{Stepped, done_step, wait_step, committed, prepared, step}
 
 -- ready at its next instruction, over, or waiting for a pair
 abbrev pub IsCalm : Phase → Type 0
@@ -54,7 +54,7 @@ pairs_calm i h names servers pc other a b first None = tt
 pairs_calm i h names servers pc other a b first (Some second) = by (pair_begun h a b)
   where
     by : (o : Option Hand)
-        → Comes i h (done_where names (option_map (λ h2. with_phase (phase.WaitPar a b) (go_on (Rattle.server_model.specs.Work.working (λ w. Rattle.server_model.specs.Start.start_thread servers other second.0 (Rattle.server_model.specs.Start.start_thread servers pc first.0 w)) (Rattle.server_model.specs.Work.with_slots second.1 h2)))) o))
+        → Comes i h (done_where names (option_map (λ h2. with_phase (phase.WaitPar a b) (go_on (Rattle.walk_law.specs.Below.server_model.Work.working (λ w. Rattle.walk_law.specs.Below.server_model.Start.start_thread servers other second.0 (Rattle.walk_law.specs.Below.server_model.Start.start_thread servers pc first.0 w)) (Rattle.walk_law.specs.Below.server_model.Work.with_slots second.1 h2)))) o))
     by None = tt
     by (Some h2) = tt
 

@@ -1,46 +1,46 @@
 -- What the step of a thread leaves, told by its result: the sums of the cluster with the messages handed over, and so its own thread, cells and messages.
 use Rattle.std.proofs.Common.{◌≡◌, ℕ, ◌+◌, ◌-◌, ◌≤◌, ◌==◌, ◌&&◌, Bool, true, false, ◌++◌, Option, Some, None, refl, ap, subst, ◌∙◌, arith}
 use Rattle.std.specs.Prelude.{slice_get, option_map, length, take, drop}
-use Rattle.fr_typing.proofs.PlaceLemmas.{eq_cases}
-use Rattle.fr_base.specs.Names.{same_object}
-use Rattle.fr_base.specs.declared.name.ObjNo.{ObjNo}
-use Rattle.fr_base.specs.declared.instruction.Instr.{Instr}
-use Rattle.heap_partition.specs.Same.{same_owned}
-use Rattle.heap_partition.specs.declared.value.Cell.{Cell}
-use Rattle.heap_partition.specs.declared.value.Owned.{Owned}
-use Rattle.thread_state.specs.View.{ThreadState}
-use Rattle.thread_state.specs.declared.value.Value.TheVariants as value
-use Rattle.journal.specs.View.{EntryView}
-use Rattle.server_model.specs.declared.event.Event.{Event}
-use Rattle.server_model.specs.declared.event.What.{What}
-use Rattle.server_model.specs.declared.event.What.TheVariants.{Step, Deliver, Evict, Migrate}
-use Rattle.server_model.specs.Servers.{Server, Cluster, server_at}
-use Rattle.server_model.specs.Work.{Hand, thread_in, without_thread, then_some}
-use Rattle.server_model.specs.Clusters.{with_server, hand_over_newer, done_at, apply}
-use Rattle.server_model.specs.Events.{Stepped, enabled, begin_work, step, step_in, stepped, does}
-use Rattle.heap_law.specs.Names.{tot, one, if_so, Among}
-use Rattle.heap_law.specs.Things.{Thing, lies, flies, thread_things, server_things, servers_things, things_of}
-use Rattle.heap_law.specs.Follow.{Standing, Ground, thread_at, cell_of, slot_of, value_of}
-use Rattle.heap_law.specs.Sight.{sight}
-use Rattle.heap_law.proofs.Names.{and_left, and_right}
-use Rattle.heap_law.proofs.Sums.{tot-append}
-use Rattle.type_law.specs.ClusterTypes.{IsCoherent}
-use Rattle.word_law.specs.Reworded.{HasPlaces}
-use Rattle.word_law.proofs.Standing.{CellOf, lying, flying, cell_found}
-use Rattle.event_law.specs.Laws.{Gives, GoTo, FewEvents}
-use Rattle.event_law.proofs.Results.{then_gives, map_gives, over_gives, both_give, test_gives, given_by}
-use Rattle.event_law.proofs.Bags.{all_standing, rest_things, server_same, thread_number, tot-set}
-use Rattle.event_law.proofs.Events.{others_of, tot-server}
-use Rattle.event_law.proofs.Applied.{go_with}
-use Rattle.event_law.proofs.Handing.{hand_over_newer_law}
-use Rattle.event_law.proofs.Sending.{each_event_sends}
-use Rattle.still_law.proofs.Addresses.{in_place}
-use Rattle.still_law.proofs.Leaving.{others, placed_here}
-use Rattle.still_law.proofs.Tests.{objects}
-use Rattle.still_law.proofs.Told.{told, same_told, at_thread, thread_told, found}
-use Rattle.local_law.proofs.Goes.{Goes, thread_goes}
-use Rattle.result_law.proofs.Known.{Steps}
-use Rattle.wait_law.proofs.Found.{weighing}
+use Rattle.walk_law.proofs.Below.fr_typing.PlaceLemmas.{eq_cases}
+use Rattle.walk_law.specs.Below.fr_base.Names.{same_object}
+use Rattle.walk_law.specs.Below.fr_base.declared.name.ObjNo.{ObjNo}
+use Rattle.walk_law.specs.Below.fr_base.declared.instruction.Instr.{Instr}
+use Rattle.walk_law.specs.Below.heap_partition.Same.{same_owned}
+use Rattle.walk_law.specs.Below.heap_partition.declared.value.Cell.{Cell}
+use Rattle.walk_law.specs.Below.heap_partition.declared.value.Owned.{Owned}
+use Rattle.walk_law.specs.Below.thread_state.View.{ThreadState}
+use Rattle.walk_law.specs.Below.thread_state.declared.value.Value.TheVariants as value
+use Rattle.walk_law.specs.Below.journal.View.{EntryView}
+use Rattle.walk_law.specs.Below.server_model.declared.event.Event.{Event}
+use Rattle.walk_law.specs.Below.server_model.declared.event.What.{What}
+use Rattle.walk_law.specs.Below.server_model.declared.event.What.TheVariants.{Step, Deliver, Evict, Migrate}
+use Rattle.walk_law.specs.Below.server_model.Servers.{Server, Cluster, server_at}
+use Rattle.walk_law.specs.Below.server_model.Work.{Hand, thread_in, without_thread, then_some}
+use Rattle.walk_law.specs.Below.server_model.Clusters.{with_server, hand_over_newer, done_at, apply}
+use Rattle.walk_law.specs.Below.server_model.Events.{Stepped, enabled, begin_work, step, step_in, stepped, does}
+use Rattle.walk_law.specs.Below.heap_law.Names.{tot, one, if_so, Among}
+use Rattle.walk_law.specs.Below.heap_law.Things.{Thing, lies, flies, thread_things, server_things, servers_things, things_of}
+use Rattle.walk_law.specs.Below.heap_law.Follow.{Standing, Ground, thread_at, cell_of, slot_of, value_of}
+use Rattle.walk_law.specs.Below.heap_law.Sight.{sight}
+use Rattle.walk_law.proofs.Below.heap_law.Names.{and_left, and_right}
+use Rattle.walk_law.proofs.Below.heap_law.Sums.{tot-append}
+use Rattle.walk_law.specs.Below.type_law.ClusterTypes.{IsCoherent}
+use Rattle.borrow_law.specs.Below.word_law.Reworded.{HasPlaces}
+use Rattle.borrow_law.proofs.Below.word_law.Standing.{CellOf, lying, flying, cell_found}
+use Rattle.walk_law.specs.Below.event_law.Laws.{Gives, GoTo, FewEvents}
+use Rattle.walk_law.proofs.Below.event_law.Results.{then_gives, map_gives, over_gives, both_give, test_gives, given_by}
+use Rattle.walk_law.proofs.Below.event_law.Bags.{all_standing, rest_things, server_same, thread_number, tot-set}
+use Rattle.walk_law.proofs.Below.event_law.Events.{others_of, tot-server}
+use Rattle.walk_law.proofs.Below.event_law.Applied.{go_with}
+use Rattle.walk_law.proofs.Below.event_law.Handing.{hand_over_newer_law}
+use Rattle.walk_law.proofs.Below.event_law.Sending.{each_event_sends}
+use Rattle.walk_law.proofs.Below.still_law.Addresses.{in_place}
+use Rattle.walk_law.proofs.Below.still_law.Leaving.{others, placed_here}
+use Rattle.walk_law.proofs.Below.still_law.Tests.{objects}
+use Rattle.walk_law.proofs.Below.still_law.Told.{told, same_told, at_thread, thread_told, found}
+use Rattle.borrow_law.proofs.Below.local_law.Goes.{Goes, thread_goes}
+use Rattle.walk_law.proofs.Below.result_law.Known.{Steps}
+use Rattle.walk_law.proofs.Below.wait_law.Found.{weighing}
 use Rattle.walk_law.proofs.Cells.{Seeing}
 use Rattle.walk_law.proofs.Clusters.{goes_number}
 use Rattle.walk_law.proofs.Commits.{EndsStep}

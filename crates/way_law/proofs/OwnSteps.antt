@@ -3,40 +3,40 @@ use Rattle.std.proofs.Common.{◌≡◌, ℕ, zero, suc, ◌-◌, ◌<◌, ◌==
 use Rattle.std.specs.Prelude.{slice_get, length}
 use Rattle.std.specs.Bool.{⊤}
 use Rattle.std.proofs.lemmas.Bool.Decides.{nat_tests}
-use Rattle.fr_base.specs.Lists.{last_of}
-use Rattle.fr_base.specs.declared.place.Lval.{Lval}
-use Rattle.fr_base.specs.declared.instruction.Instr.{Instr}
-use Rattle.fr_base.specs.declared.instruction.Instr.TheVariants as instr
-use Rattle.heap_partition.specs.declared.value.Owned.{Owned}
-use Rattle.journal.specs.View.{EntryView}
-use Rattle.thread_state.specs.View.{ThreadState}
-use Rattle.thread_state.specs.declared.phase.Phase.{Phase}
-use Rattle.thread_state.specs.declared.phase.Phase.TheVariants as phase
-use Rattle.thread_state.specs.declared.value.Value.{Value}
-use Rattle.server_model.specs.Servers.{Server, Cluster}
-use Rattle.server_model.specs.Work.{Hand}
-use Rattle.server_model.specs.Places.{Spot, in_slot, on_top}
-use Rattle.server_model.specs.Prepare.{Access, ReadTo, EndRef, Prepared, ready, requested, ending, assigned, read_or_taken, access_of, prepare, read_stars}
-use Rattle.server_model.specs.Events.{Stepped, begin_work, wait_step}
-use Rattle.heap_law.specs.Names.{tot, one, if_so}
-use Rattle.heap_law.specs.Follow.{Standing, hops}
-use Rattle.heap_law.specs.Paths.{Path, no_path, reads, shares, lends, writes, ends, path_of, assigning, taking, written_place, to_read, followed}
-use Rattle.heap_law.specs.Paths as paths_of
-use Rattle.heap_law.specs.Sight.{Sight, sight}
-use Rattle.heap_law.specs.Coherent.{Holds, passed_in_a_walk, gifts_got}
-use Rattle.heap_law.specs.Requests.{is_got, early_gift}
-use Rattle.heap_law.specs.Turn.{InTurn, by_read, FirstUnread, AwaitsAt, read_at}
-use Rattle.heap_law.specs.Walking.{instr_of, path, words_kept, loose_hop, in_walk, early, over_place, over_passed, away, has_gift_there, has_followed, waits_for_lent, lost_place, out_of_turn}
-use Rattle.heap_law.proofs.Turn.{turn_law}
-use Rattle.path_law.specs.HeapStore.{GoesOn}
-use Rattle.word_law.specs.Reworded.{HasPlaces}
-use Rattle.still_law.proofs.Addresses.{in_place}
-use Rattle.still_law.proofs.Leaving.{others, placed_here}
-use Rattle.still_law.proofs.Prepares.{prepare_shows, Fine as Shows}
-use Rattle.read_law.specs.Reading.{Reads, copies, dups, locks}
-use Rattle.result_law.proofs.Known.{Steps, standing, goes}
-use Rattle.wait_law.specs.Places.{LeadsAsItDid}
-use Rattle.rewrite_law.specs.Writing.{WritesThrough, assigns, moves}
+use Rattle.walk_law.specs.Below.fr_base.Lists.{last_of}
+use Rattle.walk_law.specs.Below.fr_base.declared.place.Lval.{Lval}
+use Rattle.walk_law.specs.Below.fr_base.declared.instruction.Instr.{Instr}
+use Rattle.walk_law.specs.Below.fr_base.declared.instruction.Instr.TheVariants as instr
+use Rattle.walk_law.specs.Below.heap_partition.declared.value.Owned.{Owned}
+use Rattle.walk_law.specs.Below.journal.View.{EntryView}
+use Rattle.walk_law.specs.Below.thread_state.View.{ThreadState}
+use Rattle.walk_law.specs.Below.thread_state.declared.phase.Phase.{Phase}
+use Rattle.walk_law.specs.Below.thread_state.declared.phase.Phase.TheVariants as phase
+use Rattle.walk_law.specs.Below.thread_state.declared.value.Value.{Value}
+use Rattle.walk_law.specs.Below.server_model.Servers.{Server, Cluster}
+use Rattle.walk_law.specs.Below.server_model.Work.{Hand}
+use Rattle.walk_law.specs.Below.server_model.Places.{Spot, in_slot, on_top}
+use Rattle.walk_law.specs.Below.server_model.Prepare.{Access, ReadTo, EndRef, Prepared, ready, requested, ending, assigned, read_or_taken, access_of, prepare, read_stars}
+use Rattle.walk_law.specs.Below.server_model.Events.{Stepped, begin_work, wait_step}
+use Rattle.walk_law.specs.Below.heap_law.Names.{tot, one, if_so}
+use Rattle.walk_law.specs.Below.heap_law.Follow.{Standing, hops}
+use Rattle.walk_law.specs.Below.heap_law.Paths.{Path, no_path, reads, shares, lends, writes, ends, path_of, assigning, taking, written_place, to_read, followed}
+use Rattle.walk_law.specs.Below.heap_law.Paths as paths_of
+use Rattle.walk_law.specs.Below.heap_law.Sight.{Sight, sight}
+use Rattle.walk_law.specs.Below.heap_law.Coherent.{Holds, passed_in_a_walk, gifts_got}
+use Rattle.walk_law.specs.Below.heap_law.Requests.{is_got, early_gift}
+use Rattle.walk_law.specs.Below.heap_law.Turn.{InTurn, by_read, FirstUnread, AwaitsAt, read_at}
+use Rattle.walk_law.specs.Below.heap_law.Walking.{instr_of, path, words_kept, loose_hop, in_walk, early, over_place, over_passed, away, has_gift_there, has_followed, waits_for_lent, lost_place, out_of_turn}
+use Rattle.walk_law.proofs.Below.heap_law.Turn.{turn_law}
+use Rattle.walk_law.specs.Below.path_law.HeapStore.{GoesOn}
+use Rattle.borrow_law.specs.Below.word_law.Reworded.{HasPlaces}
+use Rattle.walk_law.proofs.Below.still_law.Addresses.{in_place}
+use Rattle.walk_law.proofs.Below.still_law.Leaving.{others, placed_here}
+use Rattle.walk_law.proofs.Below.still_law.Prepares.{prepare_shows, Fine as Shows}
+use Rattle.borrow_law.specs.Below.read_law.Reading.{Reads, copies, dups, locks}
+use Rattle.walk_law.proofs.Below.result_law.Known.{Steps, standing, goes}
+use Rattle.walk_law.specs.Below.wait_law.Places.{LeadsAsItDid}
+use Rattle.walk_law.specs.Below.rewrite_law.Writing.{WritesThrough, assigns, moves}
 use Rattle.way_law.proofs.Outcomes.{IsCalm, AsksHome, a_lock, a_dup, a_join}
 use Rattle.way_law.proofs.EndKinds.{MayEnd, an_assignment, a_discard, a_drop}
 use Rattle.way_law.proofs.Own.{Own, me}
@@ -189,12 +189,12 @@ asking y (instr.Read w true) h0 h is e = by w.depth refl
 asking y (instr.Borrow w) h0 h is e = by w.depth refl
   where
     by : (d : ℕ) → w.depth ≡ d → Asking y (instr.Borrow w) h0 h
-    by zero f = absurd (no_request (sym (ap (λ d. Rattle.server_model.specs.Prepare.read_pointer w d h0) f) ∙ e))
+    by zero f = absurd (no_request (sym (ap (λ d. Rattle.walk_law.specs.Below.server_model.Prepare.read_pointer w d h0) f) ∙ e))
     by (suc d) f = by_share w d f refl
 asking y (instr.BorrowMut w) h0 h is e = by w.depth refl
   where
     by : (d : ℕ) → w.depth ≡ d → Asking y (instr.BorrowMut w) h0 h
-    by zero f = absurd (no_request (sym (ap (λ d. Rattle.server_model.specs.Prepare.lend_pointer w d h0) f) ∙ e))
+    by zero f = absurd (no_request (sym (ap (λ d. Rattle.walk_law.specs.Below.server_model.Prepare.lend_pointer w d h0) f) ∙ e))
     by (suc d) f = by_lend w d f refl
 asking y (instr.Assign w p) h0 h is e = by w.depth refl
   where
@@ -266,7 +266,7 @@ module _ (k c : Cluster) (v : EntryView) (t : ℕ) (f : Facts k c v t) where
             ∙ ap (λ u. if_so (waits_for_lent (sight c) it_now u wa.awaited.word) (tot (loose_hop s.rest.number (words_kept o.result.hand.thread)) (followed (sight c).ground o.result.hand.thread.number (path (sight c) it_now)))) path_now,
       )
     where
-      asked_there : (w : Lval) (i2 : ℕ) (b : Rattle.heap_law.specs.Paths.Awaited) → AwaitsAt (sight c) it_now (reads w) i2 b → Rattle.heap_law.specs.Turn.IsAsked (sight c) it_now w i2 (to_read (sight c).options.colours) b
+      asked_there : (w : Lval) (i2 : ℕ) (b : Rattle.walk_law.specs.Below.heap_law.Paths.Awaited) → AwaitsAt (sight c) it_now (reads w) i2 b → Rattle.walk_law.specs.Below.heap_law.Turn.IsAsked (sight c) it_now w i2 (to_read (sight c).options.colours) b
       asked_there _ _ _ (read_at w i2 b lt q) = q
 
   -- a place that is ready for a lock or a dup

@@ -1,40 +1,40 @@
 -- The sentences one by one, each for the instructions for which it is shown; and of all threads.
 use Rattle.std.proofs.Common.{◌≡◌, ℕ, false, Option, Some, None, refl, sym, ap, ◌∙◌}
 use Rattle.std.specs.Prelude.{slice_get}
-use Rattle.fr_base.specs.declared.place.Lval.{Lval}
-use Rattle.fr_base.specs.declared.instruction.Instr.{Instr}
-use Rattle.journal.specs.View.{EntryView}
-use Rattle.thread_state.specs.View.{ThreadState}
-use Rattle.thread_state.specs.declared.phase.Phase.TheVariants as phase
-use Rattle.thread_state.specs.declared.value.Value.{Value}
-use Rattle.thread_state.specs.declared.value.Value.TheVariants as value
-use Rattle.server_model.specs.declared.event.Event.{Event}
-use Rattle.server_model.specs.declared.event.What.TheVariants.{Step}
-use Rattle.server_model.specs.Servers.{Server, Cluster}
-use Rattle.server_model.specs.Clusters.{apply}
-use Rattle.server_model.specs.Work.{Hand}
-use Rattle.server_model.specs.Prepare.{requested, access_of, prepare}
-use Rattle.server_model.specs.Events.{Stepped, begin_work, wait_step}
-use Rattle.heap_law.specs.Names.{tot, if_so, Among}
-use Rattle.heap_law.specs.Follow.{Standing}
-use Rattle.heap_law.specs.Paths.{Path, no_path, reads, shares, lends, writes, ends, path_of, written_place, followed}
-use Rattle.heap_law.specs.Paths as paths_of
-use Rattle.heap_law.specs.Sight.{Sight, sight}
-use Rattle.heap_law.specs.Coherent.{Sentence, Holds, passed_in_a_walk, gifts_got, passed_lie_here, place_followed, waits_in_turn}
-use Rattle.heap_law.specs.Requests.{early_gift}
-use Rattle.heap_law.specs.Walking.{path, words_kept, loose_hop, early, over_place, over_passed, away, has_followed, waits_for_lent, lost_place, out_of_turn}
-use Rattle.heap_law.proofs.Words.{none_at, none_all}
-use Rattle.type_law.specs.ClusterTypes.{IsCoherent}
-use Rattle.path_law.specs.HeapStore.{GoesOn}
-use Rattle.word_law.specs.Reworded.{HasPlaces}
-use Rattle.event_law.specs.Laws.{Gives, FewEvents}
-use Rattle.event_law.proofs.Results.{both_give, weaker}
-use Rattle.event_law.proofs.Sending.{applied_part}
-use Rattle.local_law.proofs.Sentences.{passed_kept}
-use Rattle.result_law.proofs.Known.{Steps, standing}
-use Rattle.ask_law.proofs.GiftsGot.{gifts_got_kept}
-use Rattle.wait_law.specs.Places.{LeadsAsItDid}
-use Rattle.wait_law.proofs.Stay.{undone_leave}
+use Rattle.walk_law.specs.Below.fr_base.declared.place.Lval.{Lval}
+use Rattle.walk_law.specs.Below.fr_base.declared.instruction.Instr.{Instr}
+use Rattle.walk_law.specs.Below.journal.View.{EntryView}
+use Rattle.walk_law.specs.Below.thread_state.View.{ThreadState}
+use Rattle.walk_law.specs.Below.thread_state.declared.phase.Phase.TheVariants as phase
+use Rattle.walk_law.specs.Below.thread_state.declared.value.Value.{Value}
+use Rattle.walk_law.specs.Below.thread_state.declared.value.Value.TheVariants as value
+use Rattle.walk_law.specs.Below.server_model.declared.event.Event.{Event}
+use Rattle.walk_law.specs.Below.server_model.declared.event.What.TheVariants.{Step}
+use Rattle.walk_law.specs.Below.server_model.Servers.{Server, Cluster}
+use Rattle.walk_law.specs.Below.server_model.Clusters.{apply}
+use Rattle.walk_law.specs.Below.server_model.Work.{Hand}
+use Rattle.walk_law.specs.Below.server_model.Prepare.{requested, access_of, prepare}
+use Rattle.walk_law.specs.Below.server_model.Events.{Stepped, begin_work, wait_step}
+use Rattle.walk_law.specs.Below.heap_law.Names.{tot, if_so, Among}
+use Rattle.walk_law.specs.Below.heap_law.Follow.{Standing}
+use Rattle.walk_law.specs.Below.heap_law.Paths.{Path, no_path, reads, shares, lends, writes, ends, path_of, written_place, followed}
+use Rattle.walk_law.specs.Below.heap_law.Paths as paths_of
+use Rattle.walk_law.specs.Below.heap_law.Sight.{Sight, sight}
+use Rattle.walk_law.specs.Below.heap_law.Coherent.{Sentence, Holds, passed_in_a_walk, gifts_got, passed_lie_here, place_followed, waits_in_turn}
+use Rattle.walk_law.specs.Below.heap_law.Requests.{early_gift}
+use Rattle.walk_law.specs.Below.heap_law.Walking.{path, words_kept, loose_hop, early, over_place, over_passed, away, has_followed, waits_for_lent, lost_place, out_of_turn}
+use Rattle.walk_law.proofs.Below.heap_law.Words.{none_at, none_all}
+use Rattle.walk_law.specs.Below.type_law.ClusterTypes.{IsCoherent}
+use Rattle.walk_law.specs.Below.path_law.HeapStore.{GoesOn}
+use Rattle.borrow_law.specs.Below.word_law.Reworded.{HasPlaces}
+use Rattle.walk_law.specs.Below.event_law.Laws.{Gives, FewEvents}
+use Rattle.walk_law.proofs.Below.event_law.Results.{both_give, weaker}
+use Rattle.walk_law.proofs.Below.event_law.Sending.{applied_part}
+use Rattle.borrow_law.proofs.Below.local_law.Sentences.{passed_kept}
+use Rattle.walk_law.proofs.Below.result_law.Known.{Steps, standing}
+use Rattle.borrow_law.proofs.Below.ask_law.GiftsGot.{gifts_got_kept}
+use Rattle.walk_law.specs.Below.wait_law.Places.{LeadsAsItDid}
+use Rattle.walk_law.proofs.Below.wait_law.Stay.{undone_leave}
 use Rattle.walk_law.specs.Pointers.{OthersStepsKeep}
 use Rattle.walk_law.proofs.Followed.{same_settings, others_followed, others_wait, others_passed}
 use Rattle.way_law.specs.Steps.{OwnStepsKeep, StepsKeep}
@@ -204,14 +204,14 @@ own_turn k e t is coherent few = own_kept k e t is coherent few (λ s x. out_of_
 -- OF ALL THREADS
 
 either : (P : ℕ → Type 0) (n t : ℕ) → (n ≡ t → P n) → ((n ≡ t → ⊥) → P n) → P n
-either P n t f g = Rattle.fr_typing.proofs.PlaceLemmas.eq_cases (λ b. P n) n t f g
+either P n t f g = Rattle.walk_law.proofs.Below.fr_typing.PlaceLemmas.eq_cases (λ b. P n) n t f g
 
 together : (wrong : Sight → Standing → ℕ) → OwnStepsKeep wrong → OthersStepsKeep wrong → (k : Cluster) (e : Event) (t : ℕ) → e.what ≡ Step t → IsCoherent k → FewEvents k
     → Gives (λ (d : Cluster × EntryView). tot (wrong (sight d.0)) (sight d.0).ground.threads ≡ 0) (apply k e)
 together wrong own others k e t is coherent few =
     both_give (λ (d : Cluster × EntryView). (x : Standing) → Among x (sight d.0).ground.threads → x.thread.number ≡ t → wrong (sight d.0) x ≡ 0) (λ (d : Cluster × EntryView). (x : Standing) → Among x (sight d.0).ground.threads → (x.thread.number ≡ t → ⊥) → wrong (sight d.0) x ≡ 0)
     (λ (d : Cluster × EntryView). tot (wrong (sight d.0)) (sight d.0).ground.threads ≡ 0) (apply k e) (own k e t is coherent few) (others k e t is coherent few)
-    (λ d a b. none_all (wrong (sight d.0)) (sight d.0).ground.threads (λ x among. Rattle.fr_typing.proofs.PlaceLemmas.eq_cases (λ q. wrong (sight d.0) x ≡ 0) x.thread.number t (a x among) (b x among)))
+    (λ d a b. none_all (wrong (sight d.0)) (sight d.0).ground.threads (λ x among. Rattle.walk_law.proofs.Below.fr_typing.PlaceLemmas.eq_cases (λ q. wrong (sight d.0) x ≡ 0) x.thread.number t (a x among) (b x among)))
 
 pub steps_passed : StepsKeep passed_lie_here
 steps_passed k e t is coherent few = together (λ s x. over_passed s (away s) x) own_passed others_passed k e t is coherent few

@@ -3,46 +3,46 @@ use Rattle.std.proofs.Common.{◌≡◌, ℕ, zero, suc, ◌<◌, ◌≤◌, ◌
 use Rattle.std.specs.Prelude.{slice_get}
 use Rattle.std.specs.Bool.{⊤}
 use Rattle.std.proofs.lemmas.Bool.Decides.{nat_tests}
-use Rattle.fr_base.specs.declared.name.ObjNo.{ObjNo}
-use Rattle.fr_base.specs.declared.place.Lval.{Lval}
-use Rattle.global_addr.specs.Words.{server_of}
-use Rattle.heap_partition.specs.declared.value.BoxPtr.{BoxPtr}
-use Rattle.heap_partition.specs.declared.value.Cell.{Cell}
-use Rattle.heap_partition.specs.declared.value.Owned.{Owned}
-use Rattle.heap_partition.specs.declared.value.Owned.TheVariants as owned
-use Rattle.thread_state.specs.View.{ThreadState}
-use Rattle.thread_state.specs.declared.value.Value.{Value}
-use Rattle.thread_state.specs.declared.value.Value.TheVariants as value
-use Rattle.journal.specs.View.{EntryView}
-use Rattle.server_model.specs.Servers.{Server, Cluster}
-use Rattle.server_model.specs.Work.{Hand}
-use Rattle.server_model.specs.Prepare.{requested, access_of, prepare}
-use Rattle.server_model.specs.Events.{Stepped, begin_work, wait_step}
-use Rattle.fr_base.specs.Names.{same_object}
-use Rattle.heap_law.specs.Names.{tot, one, other, some, Among}
-use Rattle.heap_law.specs.Things.{Location, at_slot, in_cell, lies, things_of}
-use Rattle.heap_law.specs.Follow.{Standing, Ground, thread_at, cell_of, value_of, value_in, value_behind, slot_of, leads, locate}
-use Rattle.heap_law.specs.Paths.{written_place}
-use Rattle.heap_law.specs.Passing.{MayPass, over_box, over_reference, to_slot, to_lent_slot, IsPassed}
-use Rattle.heap_law.specs.Sight.{sight}
-use Rattle.heap_law.specs.Weights.{lies_at}
-use Rattle.heap_law.specs.Walking.{path, over_hops, away}
-use Rattle.heap_law.proofs.Passing.{paths_law}
-use Rattle.heap_law.proofs.Words.{itself}
-use Rattle.path_law.specs.HeapStore.{GoesOn, HasPaths}
-use Rattle.path_law.proofs.Alike.{IsShown, a_slot, an_object, leads_in_heap}
-use Rattle.path_law.proofs.Shown.{stands_there}
-use Rattle.path_law.proofs.Sole.{some_is}
-use Rattle.word_law.specs.Reworded.{HasPlaces}
-use Rattle.event_law.proofs.Bags.{thread_number}
-use Rattle.still_law.specs.Shows.{frame_of}
-use Rattle.end_law.proofs.Lying.{written_lie_there}
-use Rattle.read_law.specs.Reading.{LiesUnder}
-use Rattle.result_law.proofs.Known.{Steps, standing, paths, goes}
-use Rattle.result_law.proofs.Followed.{hop_from}
-use Rattle.wait_law.proofs.Found.{among_weighs}
-use Rattle.wait_law.specs.Places.{LeadsAsItDid}
-use Rattle.write_law.proofs.StepRoutes.{awake}
+use Rattle.walk_law.specs.Below.fr_base.declared.name.ObjNo.{ObjNo}
+use Rattle.walk_law.specs.Below.fr_base.declared.place.Lval.{Lval}
+use Rattle.walk_law.specs.Below.global_addr.Words.{server_of}
+use Rattle.walk_law.specs.Below.heap_partition.declared.value.BoxPtr.{BoxPtr}
+use Rattle.walk_law.specs.Below.heap_partition.declared.value.Cell.{Cell}
+use Rattle.walk_law.specs.Below.heap_partition.declared.value.Owned.{Owned}
+use Rattle.walk_law.specs.Below.heap_partition.declared.value.Owned.TheVariants as owned
+use Rattle.walk_law.specs.Below.thread_state.View.{ThreadState}
+use Rattle.walk_law.specs.Below.thread_state.declared.value.Value.{Value}
+use Rattle.walk_law.specs.Below.thread_state.declared.value.Value.TheVariants as value
+use Rattle.walk_law.specs.Below.journal.View.{EntryView}
+use Rattle.walk_law.specs.Below.server_model.Servers.{Server, Cluster}
+use Rattle.walk_law.specs.Below.server_model.Work.{Hand}
+use Rattle.walk_law.specs.Below.server_model.Prepare.{requested, access_of, prepare}
+use Rattle.walk_law.specs.Below.server_model.Events.{Stepped, begin_work, wait_step}
+use Rattle.walk_law.specs.Below.fr_base.Names.{same_object}
+use Rattle.walk_law.specs.Below.heap_law.Names.{tot, one, other, some, Among}
+use Rattle.walk_law.specs.Below.heap_law.Things.{Location, at_slot, in_cell, lies, things_of}
+use Rattle.walk_law.specs.Below.heap_law.Follow.{Standing, Ground, thread_at, cell_of, value_of, value_in, value_behind, slot_of, leads, locate}
+use Rattle.walk_law.specs.Below.heap_law.Paths.{written_place}
+use Rattle.walk_law.specs.Below.heap_law.Passing.{MayPass, over_box, over_reference, to_slot, to_lent_slot, IsPassed}
+use Rattle.walk_law.specs.Below.heap_law.Sight.{sight}
+use Rattle.walk_law.specs.Below.heap_law.Weights.{lies_at}
+use Rattle.walk_law.specs.Below.heap_law.Walking.{path, over_hops, away}
+use Rattle.walk_law.proofs.Below.heap_law.Passing.{paths_law}
+use Rattle.walk_law.proofs.Below.heap_law.Words.{itself}
+use Rattle.walk_law.specs.Below.path_law.HeapStore.{GoesOn, HasPaths}
+use Rattle.walk_law.proofs.Below.path_law.Alike.{IsShown, a_slot, an_object, leads_in_heap}
+use Rattle.walk_law.proofs.Below.path_law.Shown.{stands_there}
+use Rattle.walk_law.proofs.Below.path_law.Sole.{some_is}
+use Rattle.borrow_law.specs.Below.word_law.Reworded.{HasPlaces}
+use Rattle.walk_law.proofs.Below.event_law.Bags.{thread_number}
+use Rattle.walk_law.specs.Below.still_law.Shows.{frame_of}
+use Rattle.borrow_law.proofs.Below.end_law.Lying.{written_lie_there}
+use Rattle.borrow_law.specs.Below.read_law.Reading.{LiesUnder}
+use Rattle.walk_law.proofs.Below.result_law.Known.{Steps, standing, paths, goes}
+use Rattle.walk_law.proofs.Below.result_law.Followed.{hop_from}
+use Rattle.walk_law.proofs.Below.wait_law.Found.{among_weighs}
+use Rattle.walk_law.specs.Below.wait_law.Places.{LeadsAsItDid}
+use Rattle.walk_law.proofs.Below.write_law.StepRoutes.{awake}
 use Rattle.way_law.proofs.Own.{Own, slot_is}
 use Rattle.way_law.proofs.Kept.{still_lies}
 use Rattle.way_law.proofs.WriteStars.{AtHome}

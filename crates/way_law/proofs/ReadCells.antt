@@ -1,37 +1,37 @@
 -- A step that reads its place and asks for something leaves each cell, words included.
 use Rattle.std.proofs.Common.{◌≡◌, ℕ, zero, suc, ◌+◌, ◌≤◌, ◌&&◌, Bool, true, false, Some, refl, sym, ap, subst, arith}
-use Rattle.fr_base.specs.Names.{same_object}
-use Rattle.fr_base.specs.declared.name.ObjNo.{ObjNo}
-use Rattle.fr_base.specs.declared.place.Lval.{Lval}
-use Rattle.fr_base.specs.declared.instruction.Instr.{Instr}
-use Rattle.heap_partition.specs.Same.{same_owned}
-use Rattle.heap_partition.specs.declared.value.Cell.{Cell}
-use Rattle.heap_partition.specs.declared.value.Owned.{Owned}
-use Rattle.journal.specs.View.{EntryView}
-use Rattle.server_msgs.specs.declared.message.Message.TheVariants as message
-use Rattle.thread_state.specs.View.{ThreadState}
-use Rattle.thread_state.specs.declared.value.Value.TheVariants as value
-use Rattle.server_model.specs.Servers.{Server, Cluster}
-use Rattle.server_model.specs.Drop.{home_of}
-use Rattle.server_model.specs.Work.{Hand}
-use Rattle.server_model.specs.Places.{Spot}
-use Rattle.server_model.specs.Prepare.{ReadTo, ready, requested, read_or_taken, access_of, prepare}
-use Rattle.server_model.specs.Events.{Stepped, begin_work, wait_step}
-use Rattle.heap_law.specs.Names.{tot, one}
-use Rattle.heap_law.specs.Things.{Thing, things_of}
-use Rattle.heap_law.specs.Follow.{cell_of, value_of}
-use Rattle.heap_law.specs.Sight.{sight}
-use Rattle.heap_law.proofs.Sums.{tot-append}
-use Rattle.word_law.specs.Reworded.{HasPlaces}
-use Rattle.word_law.proofs.Standing.{CellOf, lying, flying, cell_among}
-use Rattle.event_law.proofs.Bags.{all_standing, rest_things, server_same, tot-without}
-use Rattle.event_law.proofs.Events.{tot-server}
-use Rattle.read_law.specs.Reading.{Reads, copies, shares, lends, dups, locks}
-use Rattle.still_law.proofs.Addresses.{InPlace, in_place}
-use Rattle.still_law.proofs.Leaving.{others, placed_here}
-use Rattle.still_law.proofs.Tests.{objects}
-use Rattle.still_law.proofs.Told.{tot_same}
-use Rattle.wait_law.proofs.Found.{among_weighs}
+use Rattle.walk_law.specs.Below.fr_base.Names.{same_object}
+use Rattle.walk_law.specs.Below.fr_base.declared.name.ObjNo.{ObjNo}
+use Rattle.walk_law.specs.Below.fr_base.declared.place.Lval.{Lval}
+use Rattle.walk_law.specs.Below.fr_base.declared.instruction.Instr.{Instr}
+use Rattle.walk_law.specs.Below.heap_partition.Same.{same_owned}
+use Rattle.walk_law.specs.Below.heap_partition.declared.value.Cell.{Cell}
+use Rattle.walk_law.specs.Below.heap_partition.declared.value.Owned.{Owned}
+use Rattle.walk_law.specs.Below.journal.View.{EntryView}
+use Rattle.walk_law.specs.Below.server_msgs.declared.message.Message.TheVariants as message
+use Rattle.walk_law.specs.Below.thread_state.View.{ThreadState}
+use Rattle.walk_law.specs.Below.thread_state.declared.value.Value.TheVariants as value
+use Rattle.walk_law.specs.Below.server_model.Servers.{Server, Cluster}
+use Rattle.walk_law.specs.Below.server_model.Drop.{home_of}
+use Rattle.walk_law.specs.Below.server_model.Work.{Hand}
+use Rattle.walk_law.specs.Below.server_model.Places.{Spot}
+use Rattle.walk_law.specs.Below.server_model.Prepare.{ReadTo, ready, requested, read_or_taken, access_of, prepare}
+use Rattle.walk_law.specs.Below.server_model.Events.{Stepped, begin_work, wait_step}
+use Rattle.walk_law.specs.Below.heap_law.Names.{tot, one}
+use Rattle.walk_law.specs.Below.heap_law.Things.{Thing, things_of}
+use Rattle.walk_law.specs.Below.heap_law.Follow.{cell_of, value_of}
+use Rattle.walk_law.specs.Below.heap_law.Sight.{sight}
+use Rattle.walk_law.proofs.Below.heap_law.Sums.{tot-append}
+use Rattle.borrow_law.specs.Below.word_law.Reworded.{HasPlaces}
+use Rattle.borrow_law.proofs.Below.word_law.Standing.{CellOf, lying, flying, cell_among}
+use Rattle.walk_law.proofs.Below.event_law.Bags.{all_standing, rest_things, server_same, tot-without}
+use Rattle.walk_law.proofs.Below.event_law.Events.{tot-server}
+use Rattle.borrow_law.specs.Below.read_law.Reading.{Reads, copies, shares, lends, dups, locks}
+use Rattle.walk_law.proofs.Below.still_law.Addresses.{InPlace, in_place}
+use Rattle.walk_law.proofs.Below.still_law.Leaving.{others, placed_here}
+use Rattle.walk_law.proofs.Below.still_law.Tests.{objects}
+use Rattle.walk_law.proofs.Below.still_law.Told.{tot_same}
+use Rattle.walk_law.proofs.Below.wait_law.Found.{among_weighs}
 use Rattle.walk_law.proofs.Cells.{Seeing, cell_weight, amount, thread_seen, rest_seen}
 use Rattle.walk_law.proofs.Ready as made
 use Rattle.walk_law.proofs.Ready.{prepares}

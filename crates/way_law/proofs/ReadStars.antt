@@ -4,34 +4,34 @@ use Rattle.std.specs.Prelude.{slice_get, slice_set}
 use Rattle.std.specs.Bool.{⊤}
 use Rattle.std.proofs.lemmas.Option.{slice_get_within}
 use Rattle.std.proofs.lemmas.Bool.Decides.{nat_tests}
-use Rattle.fr_base.specs.Lists.{is_in}
-use Rattle.fr_typing.proofs.PlaceLemmas.{eq_cases}
-use Rattle.global_addr.specs.Words.{colour_of, server_of, next_word}
-use Rattle.heap_partition.specs.declared.value.BoxPtr.{BoxPtr}
-use Rattle.heap_partition.specs.declared.value.Owned.{Owned}
-use Rattle.heap_partition.specs.declared.value.Owned.TheVariants as owned
-use Rattle.journal.specs.declared.act.Act.TheVariants as act
-use Rattle.migration.specs.Packing.{pinned_word, pinned_words, used_words}
-use Rattle.mut_borrow.specs.Refs.{cleaned_answer}
-use Rattle.mut_borrow.specs.declared.mutable.Cleaned.TheVariants as cleaned
-use Rattle.mut_borrow.specs.declared.mutable.MutRef.{MutRef}
-use Rattle.mut_borrow.specs.declared.shared.SharedRef.{SharedRef}
-use Rattle.place_walk.specs.declared.hop.Hop.{Hop}
-use Rattle.place_walk.specs.declared.hop.Hop.TheVariants as jump
-use Rattle.place_walk.specs.Hops.{by_copy, clean_hop, dirty_hop, read_hop}
-use Rattle.read_cache.specs.Cache.{Copy, is_cached, can_pin, pin}
-use Rattle.thread_state.specs.View.{ThreadState}
-use Rattle.thread_state.specs.declared.value.Value.{Value}
-use Rattle.thread_state.specs.declared.value.Value.TheVariants as value
-use Rattle.server_model.specs.Work.{Hand, note, with_cache, with_slots, working, then_some, used_once, use_word}
-use Rattle.server_model.specs.NewWords.{issue_tint}
-use Rattle.server_model.specs.Places.{Spot, in_slot, on_top, in_cell, in_copy, nowhere, value_at, load_at, pointer_of, with_word, took, put_at, put_word}
-use Rattle.server_model.specs.Prepare.{Prepared, ready, requested, nothing, and_then, ready_at, ask_copy, ask_object, request_by, box_of, cleaned_by, clean_value, pinned_once, use_copy, hopped, local, hit_by, read_by, read_value, read_clean, tinted_first, read_star}
-use Rattle.heap_law.specs.Names.{one, other}
-use Rattle.heap_law.specs.Paths.{is_at_hand}
-use Rattle.heap_law.specs.Walking.{loose_hop}
-use Rattle.result_law.proofs.Usable.{times, times_append}
-use Rattle.result_law.proofs.Reading.{parts, pinned_set}
+use Rattle.walk_law.specs.Below.fr_base.Lists.{is_in}
+use Rattle.walk_law.proofs.Below.fr_typing.PlaceLemmas.{eq_cases}
+use Rattle.walk_law.specs.Below.global_addr.Words.{colour_of, server_of, next_word}
+use Rattle.walk_law.specs.Below.heap_partition.declared.value.BoxPtr.{BoxPtr}
+use Rattle.walk_law.specs.Below.heap_partition.declared.value.Owned.{Owned}
+use Rattle.walk_law.specs.Below.heap_partition.declared.value.Owned.TheVariants as owned
+use Rattle.walk_law.specs.Below.journal.declared.act.Act.TheVariants as act
+use Rattle.walk_law.specs.Below.migration.Packing.{pinned_word, pinned_words, used_words}
+use Rattle.walk_law.specs.Below.mut_borrow.Refs.{cleaned_answer}
+use Rattle.walk_law.specs.Below.mut_borrow.declared.mutable.Cleaned.TheVariants as cleaned
+use Rattle.walk_law.specs.Below.mut_borrow.declared.mutable.MutRef.{MutRef}
+use Rattle.walk_law.specs.Below.mut_borrow.declared.shared.SharedRef.{SharedRef}
+use Rattle.walk_law.specs.Below.place_walk.declared.hop.Hop.{Hop}
+use Rattle.walk_law.specs.Below.place_walk.declared.hop.Hop.TheVariants as jump
+use Rattle.walk_law.specs.Below.place_walk.Hops.{by_copy, clean_hop, dirty_hop, read_hop}
+use Rattle.walk_law.specs.Below.read_cache.Cache.{Copy, is_cached, can_pin, pin}
+use Rattle.walk_law.specs.Below.thread_state.View.{ThreadState}
+use Rattle.walk_law.specs.Below.thread_state.declared.value.Value.{Value}
+use Rattle.walk_law.specs.Below.thread_state.declared.value.Value.TheVariants as value
+use Rattle.walk_law.specs.Below.server_model.Work.{Hand, note, with_cache, with_slots, working, then_some, used_once, use_word}
+use Rattle.walk_law.specs.Below.server_model.NewWords.{issue_tint}
+use Rattle.walk_law.specs.Below.server_model.Places.{Spot, in_slot, on_top, in_cell, in_copy, nowhere, value_at, load_at, pointer_of, with_word, took, put_at, put_word}
+use Rattle.walk_law.specs.Below.server_model.Prepare.{Prepared, ready, requested, nothing, and_then, ready_at, ask_copy, ask_object, request_by, box_of, cleaned_by, clean_value, pinned_once, use_copy, hopped, local, hit_by, read_by, read_value, read_clean, tinted_first, read_star}
+use Rattle.walk_law.specs.Below.heap_law.Names.{one, other}
+use Rattle.walk_law.specs.Below.heap_law.Paths.{is_at_hand}
+use Rattle.walk_law.specs.Below.heap_law.Walking.{loose_hop}
+use Rattle.walk_law.proofs.Below.result_law.Usable.{times, times_append}
+use Rattle.walk_law.proofs.Below.result_law.Reading.{parts, pinned_set}
 
 -- noting a load changes no value
 loaded : (h : Hand) (s : Spot) → value_at (load_at s h) s ≡ value_at h s
@@ -165,7 +165,7 @@ cleans j r h there dirty away = by_limit (nat_lt (colour_of r.word) h.work.rest.
     by_colour : nat_lt (colour_of r.word) limit ≡ true → (b : Bool) → nat_lt (colour_of r.word + 1) limit ≡ b → Cleans j r h (and_then go_on (cleaned_by (if b then cleaned.Tinted (next_word r.word) else cleaned.MustRenew) (in_slot j) r h))
     by_colour l true e = subst (λ o. Cleans j r h (and_then go_on (ready_at (in_slot j) o))) (sym (puts_tint j r h there)) (a_tint e)
     by_colour l false e =
-        subst (λ b. Cleans j r h (and_then go_on (if b then ready_at (in_slot j) (then_some (Rattle.server_model.specs.NewWords.issue_renewal (box_of r) h.work) (λ n. put_word (in_slot j) n h)) else requested (ask_object (box_of r) h)))) (sym away) (a_pull l e)
+        subst (λ b. Cleans j r h (and_then go_on (if b then ready_at (in_slot j) (then_some (Rattle.walk_law.specs.Below.server_model.NewWords.issue_renewal (box_of r) h.work) (λ n. put_word (in_slot j) n h)) else requested (ask_object (box_of r) h)))) (sym away) (a_pull l e)
 
     by_limit : (b : Bool) → nat_lt (colour_of r.word) limit ≡ b → Cleans j r h (and_then go_on (if b then cleaned_by (cleaned_answer limit r) (in_slot j) r h else nothing))
     by_limit true l =

@@ -3,52 +3,52 @@ use Rattle.std.proofs.Common.{◌≡◌, inl, ℕ, zero, suc, ◌+◌, ◌<◌, 
 use Rattle.std.specs.Prelude.{slice_get, slice_set}
 use Rattle.std.proofs.lemmas.Option.{slice_get_within}
 use Rattle.std.proofs.lemmas.Bool.Decides.{nat_tests}
-use Rattle.fr_base.specs.Lists.{is_in}
-use Rattle.fr_base.specs.declared.name.ObjNo.{ObjNo}
-use Rattle.fr_base.specs.declared.place.Lval.{Lval}
-use Rattle.fr_base.specs.declared.instruction.Instr.{Instr}
-use Rattle.global_addr.specs.Words.{colour_of, server_of, address_of, next_word}
-use Rattle.heap_partition.specs.declared.value.BoxPtr.{BoxPtr}
-use Rattle.heap_partition.specs.declared.value.Cell.{Cell}
-use Rattle.journal.specs.View.{EntryView}
-use Rattle.migration.specs.Packing.{used_words}
-use Rattle.mut_borrow.specs.declared.mutable.MutRef.{MutRef}
-use Rattle.read_cache.specs.Cache.{is_cached}
-use Rattle.server_msgs.specs.declared.message.Message.TheVariants as message
-use Rattle.thread_state.specs.View.{ThreadState}
-use Rattle.thread_state.specs.declared.phase.Phase.TheVariants as phase
-use Rattle.thread_state.specs.declared.value.Value.{Value}
-use Rattle.thread_state.specs.declared.value.Value.TheVariants as value
-use Rattle.server_model.specs.Servers.{Server, Cluster, Rest}
-use Rattle.server_model.specs.Work.{Hand}
-use Rattle.server_model.specs.Places.{Spot, in_slot, value_at, value_in as cell_value, load_at, pointer_of, took}
-use Rattle.server_model.specs.Prepare.{ReadTo, ready, requested, access_of, prepare, ask_copy, ask_object, box_of, read_stars}
-use Rattle.server_model.specs.Events.{Stepped, begin_work, wait_step}
-use Rattle.heap_law.specs.Names.{tot, one, other, Among}
-use Rattle.heap_law.specs.Things.{Location, at_slot, things_of}
-use Rattle.heap_law.specs.Follow.{Standing, Ground, cell_of, value_of, value_in, locate}
-use Rattle.heap_law.specs.Paths.{Awaited, to_read, is_at_hand, is_readable}
-use Rattle.heap_law.specs.Sight.{sight}
-use Rattle.heap_law.specs.Walking.{words_kept, loose_hop, asked_for, asks_for}
-use Rattle.heap_law.specs.Turn.{IsAsked}
-use Rattle.heap_law.proofs.Passing.{paths_law}
-use Rattle.path_law.proofs.Sole.{some_is}
-use Rattle.word_law.specs.Reworded.{HasPlaces}
-use Rattle.read_law.specs.Reading.{Reads}
-use Rattle.result_law.proofs.Known.{Steps}
-use Rattle.result_law.proofs.Pointing.{its_partition}
-use Rattle.result_law.proofs.Reading.{Alike, equal, both_shared, Reading, parts, pinned_set}
-use Rattle.result_law.proofs.Starred.{bound, At, a_slot, a_cell, a_copy, seen}
-use Rattle.result_law.proofs.Usable.{times}
-use Rattle.wait_law.specs.Places.{LeadsAsItDid}
-use Rattle.write_law.proofs.Route.{set_other}
+use Rattle.walk_law.specs.Below.fr_base.Lists.{is_in}
+use Rattle.walk_law.specs.Below.fr_base.declared.name.ObjNo.{ObjNo}
+use Rattle.walk_law.specs.Below.fr_base.declared.place.Lval.{Lval}
+use Rattle.walk_law.specs.Below.fr_base.declared.instruction.Instr.{Instr}
+use Rattle.walk_law.specs.Below.global_addr.Words.{colour_of, server_of, address_of, next_word}
+use Rattle.walk_law.specs.Below.heap_partition.declared.value.BoxPtr.{BoxPtr}
+use Rattle.walk_law.specs.Below.heap_partition.declared.value.Cell.{Cell}
+use Rattle.walk_law.specs.Below.journal.View.{EntryView}
+use Rattle.walk_law.specs.Below.migration.Packing.{used_words}
+use Rattle.walk_law.specs.Below.mut_borrow.declared.mutable.MutRef.{MutRef}
+use Rattle.walk_law.specs.Below.read_cache.Cache.{is_cached}
+use Rattle.walk_law.specs.Below.server_msgs.declared.message.Message.TheVariants as message
+use Rattle.walk_law.specs.Below.thread_state.View.{ThreadState}
+use Rattle.walk_law.specs.Below.thread_state.declared.phase.Phase.TheVariants as phase
+use Rattle.walk_law.specs.Below.thread_state.declared.value.Value.{Value}
+use Rattle.walk_law.specs.Below.thread_state.declared.value.Value.TheVariants as value
+use Rattle.walk_law.specs.Below.server_model.Servers.{Server, Cluster, Rest}
+use Rattle.walk_law.specs.Below.server_model.Work.{Hand}
+use Rattle.walk_law.specs.Below.server_model.Places.{Spot, in_slot, value_at, value_in as cell_value, load_at, pointer_of, took}
+use Rattle.walk_law.specs.Below.server_model.Prepare.{ReadTo, ready, requested, access_of, prepare, ask_copy, ask_object, box_of, read_stars}
+use Rattle.walk_law.specs.Below.server_model.Events.{Stepped, begin_work, wait_step}
+use Rattle.walk_law.specs.Below.heap_law.Names.{tot, one, other, Among}
+use Rattle.walk_law.specs.Below.heap_law.Things.{Location, at_slot, things_of}
+use Rattle.walk_law.specs.Below.heap_law.Follow.{Standing, Ground, cell_of, value_of, value_in, locate}
+use Rattle.walk_law.specs.Below.heap_law.Paths.{Awaited, to_read, is_at_hand, is_readable}
+use Rattle.walk_law.specs.Below.heap_law.Sight.{sight}
+use Rattle.walk_law.specs.Below.heap_law.Walking.{words_kept, loose_hop, asked_for, asks_for}
+use Rattle.walk_law.specs.Below.heap_law.Turn.{IsAsked}
+use Rattle.walk_law.proofs.Below.heap_law.Passing.{paths_law}
+use Rattle.walk_law.proofs.Below.path_law.Sole.{some_is}
+use Rattle.borrow_law.specs.Below.word_law.Reworded.{HasPlaces}
+use Rattle.borrow_law.specs.Below.read_law.Reading.{Reads}
+use Rattle.walk_law.proofs.Below.result_law.Known.{Steps}
+use Rattle.walk_law.proofs.Below.result_law.Pointing.{its_partition}
+use Rattle.walk_law.proofs.Below.result_law.Reading.{Alike, equal, both_shared, Reading, parts, pinned_set}
+use Rattle.walk_law.proofs.Below.result_law.Starred.{bound, At, a_slot, a_cell, a_copy, seen}
+use Rattle.walk_law.proofs.Below.result_law.Usable.{times}
+use Rattle.walk_law.specs.Below.wait_law.Places.{LeadsAsItDid}
+use Rattle.walk_law.proofs.Below.write_law.Route.{set_other}
 use Rattle.way_law.proofs.Own.{Own, me}
 use Rattle.way_law.proofs.There.{sent_is}
 use Rattle.way_law.proofs.Stops.{read_stops}
 use Rattle.way_law.proofs.ReadStars.{Clean, by_box, by_shared, by_reference, Grows, tinted_hand, ReadAsks, for_copy, for_tint, for_object, read_asks}
-use Rattle.still_law.proofs.Addresses.{in_place}
-use Rattle.still_law.proofs.Leaving.{others, placed_here}
-use Rattle.still_law.proofs.Prepares.{prepare_shows, Fine as Shows}
+use Rattle.walk_law.proofs.Below.still_law.Addresses.{in_place}
+use Rattle.walk_law.proofs.Below.still_law.Leaving.{others, placed_here}
+use Rattle.walk_law.proofs.Below.still_law.Prepares.{prepare_shows, Fine as Shows}
 use Rattle.way_law.proofs.ReadWalk.{alike_reference, under, reaches, hop_deep, hop_there, placed_so, untinted_so, near}
 use Rattle.way_law.proofs.ReadCells.{on_way, cell_stays}
 use Rattle.way_law.proofs.Behind.{not_kept, number_then, slot_then, can_read}
@@ -133,7 +133,7 @@ module _ (k c : Cluster) (v : EntryView) (t : ℕ) (options : c.options ≡ k.op
   colours = (sight c).options.colours
 
   limit_is : s.rest.partition.limit ≡ colours
-  limit_is = let zz = z in (its_partition k zz.coherent.sound n s zz.here).1 ∙ sym (ap (λ (q : Rattle.fr_base.specs.declared.settings.Options.Options). q.colours) options)
+  limit_is = let zz = z in (its_partition k zz.coherent.sound n s zz.here).1 ∙ sym (ap (λ (q : Rattle.walk_law.specs.Below.fr_base.declared.settings.Options.Options). q.colours) options)
 
   -- a pointer stood there, and the word leads to the same address
   pub record Source (place : Location) (word : ℕ) : Type 0 where
@@ -168,7 +168,7 @@ module _ (k c : Cluster) (v : EntryView) (t : ℕ) (options : c.options ≡ k.op
       where
         by : (sp : Spot) (l : Location) → At k n t s y i z sp l → value_at a sp ≡ Some u → value_in G2 l ≡ Some u
         by _ _ (a_slot b) e = slot_then k c v t o after h is b ∙ ap (λ vs. slice_get vs b) slots ∙ e
-        by _ _ (a_cell u2 q ob d f has) e = cells ob d has ∙ sym (ap cell_value (ap (λ q. Rattle.server_model.specs.Work.look q u2) reading.partition ∙ f)) ∙ e
+        by _ _ (a_cell u2 q ob d f has) e = cells ob d has ∙ sym (ap cell_value (ap (λ q. Rattle.walk_law.specs.Below.server_model.Work.look q u2) reading.partition ∙ f)) ∙ e
         by _ _ (a_copy u2 ob d f has) e = cells ob d has ∙ sym (ap cell_value (reading.hits u2 ∙ f)) ∙ e
 
     -- a slot that is followed
@@ -213,7 +213,7 @@ module _ (k c : Cluster) (v : EntryView) (t : ℕ) (options : c.options ≡ k.op
         record { pointed = e.0; pointer = b.0; stood = e.1; points = b.1; same_server = server ∙ ap server_of b.2; same_address = address ∙ ap address_of b.2 }
 
     -- the message
-    rest_is : (target : ℕ) (x : Rattle.server_msgs.specs.declared.message.Message.Message) (e : Rest) → h.work.rest ≡ Rattle.server_model.specs.Work.sent_from e target x → e.number ≡ r → (aw : Awaited) → one (asks_for o.result.hand.thread.number aw x) ≡ 1 → 1 ≤ tot (asked_for o.result.hand.thread.number aw) (things_of c)
+    rest_is : (target : ℕ) (x : Rattle.walk_law.specs.Below.server_msgs.declared.message.Message.Message) (e : Rest) → h.work.rest ≡ Rattle.walk_law.specs.Below.server_model.Work.sent_from e target x → e.number ≡ r → (aw : Awaited) → one (asks_for o.result.hand.thread.number aw x) ≡ 1 → 1 ≤ tot (asked_for o.result.hand.thread.number aw) (things_of c)
     rest_is target x e f g aw one_is = let there = sent_is k c v t o after e target x (ap (λ (q : Stepped). q.hand.work.rest) is ∙ f) g (asked_for o.result.hand.thread.number aw) in omega (arith, there, one_is)
 
     same_id : h.thread.number ≡ o.result.hand.thread.number
@@ -265,7 +265,7 @@ module _ (k c : Cluster) (v : EntryView) (t : ℕ) (options : c.options ≡ k.op
     -- the last colour
     pub spent_here : (q : MutRef) → nat_lt (colour_of q.word) a.work.rest.partition.limit ≡ true → nat_lt (colour_of q.word + 1) a.work.rest.partition.limit ≡ false → (colour_of q.word + 1 == (sight c).options.colours) ≡ true
     spent_here q below last =
-        let limit : a.work.rest.partition.limit ≡ colours = ap (λ (u : Rattle.owner_box.specs.View.PartitionState). u.limit) reading.partition ∙ limit_is in
+        let limit : a.work.rest.partition.limit ≡ colours = ap (λ (u : Rattle.walk_law.specs.Below.owner_box.View.PartitionState). u.limit) reading.partition ∙ limit_is in
         let one_way : colour_of q.word < a.work.rest.partition.limit = grind (arith, nat_tests, below) in
         let other_way : a.work.rest.partition.limit ≤ colour_of q.word + 1 = grind (arith, nat_tests, last) in
         let whole : colour_of q.word + 1 ≡ colours = omega (arith, one_way, other_way, limit) in

@@ -1,40 +1,40 @@
 -- A place that is followed for reading: what the thread keeps when it stops, or comes to its end, has at hand each pointer that is behind.
 use Rattle.std.proofs.Common.{◌≡◌, ℕ, zero, suc, ◌<◌, ◌≤◌, nat_lt, is_some, Bool, true, false, List, Some, refl, sym, ap, subst, ◌∙◌, arith}
 use Rattle.std.proofs.lemmas.Bool.Decides.{nat_tests}
-use Rattle.fr_base.specs.declared.place.Lval.{Lval}
-use Rattle.fr_base.specs.declared.instruction.Instr.{Instr}
-use Rattle.fr_base.specs.declared.instruction.Instr.TheVariants as instr
-use Rattle.fr_base.specs.declared.instruction.Operand.{Operand}
-use Rattle.fr_code.specs.CodeTypes.{Entry, Table, InstrTypes, i_copy, i_borrow, i_borrow_mut, i_dup, i_lock}
-use Rattle.global_addr.specs.Words.{next_word}
-use Rattle.migration.specs.Packing.{used_words}
-use Rattle.mut_borrow.specs.declared.mutable.MutRef.{MutRef}
-use Rattle.thread_state.specs.View.{ThreadState}
-use Rattle.thread_state.specs.declared.value.Value.{Value}
-use Rattle.thread_state.specs.declared.value.Value.TheVariants as value
-use Rattle.server_model.specs.Servers.{Server, Cluster}
-use Rattle.server_model.specs.Work.{Hand}
-use Rattle.server_model.specs.Places.{Spot, in_slot, value_in as cell_value}
-use Rattle.server_model.specs.Prepare.{ready, requested, read_stars}
-use Rattle.server_model.specs.Events.{begin_work}
-use Rattle.heap_law.specs.Things.{Location, at_slot, in_cell as in_object}
-use Rattle.heap_law.specs.Follow.{Standing, Ground, value_in, leads, locate}
-use Rattle.heap_law.specs.Sight.{sight}
-use Rattle.heap_law.specs.Walking.{loose_hop}
-use Rattle.path_law.specs.HeapStore.{GoesOn, HasPaths}
-use Rattle.path_law.specs.Pointing.{WritesTo, lends as lends_it}
-use Rattle.path_law.proofs.MayWrites.{may_write_there}
-use Rattle.path_law.proofs.Sole.{some_is}
-use Rattle.read_law.specs.Reading.{Reads, copies, shares, lends, dups, locks, MayRead}
-use Rattle.read_law.proofs.ReadPlaces.{may_read_there}
-use Rattle.result_law.proofs.Followed.{Place, at, hop_from, told}
-use Rattle.result_law.proofs.Known.{Steps, able, goes, hand, paths, standing, types, entry, typed}
-use Rattle.result_law.proofs.Mutables.{apart}
-use Rattle.result_law.proofs.Pointing.{pointer_at}
-use Rattle.result_law.proofs.Readers.{IsFree, stars_fine, to_entry, begins}
-use Rattle.ask_law.proofs.Unasked.{Unasked, stars_near}
-use Rattle.result_law.proofs.Reading.{Alike, equal, both_shared, Reading, cached_hit}
-use Rattle.result_law.proofs.Starred.{bound, At, a_slot, a_cell, a_copy, seen, Fine}
+use Rattle.walk_law.specs.Below.fr_base.declared.place.Lval.{Lval}
+use Rattle.walk_law.specs.Below.fr_base.declared.instruction.Instr.{Instr}
+use Rattle.walk_law.specs.Below.fr_base.declared.instruction.Instr.TheVariants as instr
+use Rattle.walk_law.specs.Below.fr_base.declared.instruction.Operand.{Operand}
+use Rattle.walk_law.specs.Below.fr_code.CodeTypes.{Entry, Table, InstrTypes, i_copy, i_borrow, i_borrow_mut, i_dup, i_lock}
+use Rattle.walk_law.specs.Below.global_addr.Words.{next_word}
+use Rattle.walk_law.specs.Below.migration.Packing.{used_words}
+use Rattle.walk_law.specs.Below.mut_borrow.declared.mutable.MutRef.{MutRef}
+use Rattle.walk_law.specs.Below.thread_state.View.{ThreadState}
+use Rattle.walk_law.specs.Below.thread_state.declared.value.Value.{Value}
+use Rattle.walk_law.specs.Below.thread_state.declared.value.Value.TheVariants as value
+use Rattle.walk_law.specs.Below.server_model.Servers.{Server, Cluster}
+use Rattle.walk_law.specs.Below.server_model.Work.{Hand}
+use Rattle.walk_law.specs.Below.server_model.Places.{Spot, in_slot, value_in as cell_value}
+use Rattle.walk_law.specs.Below.server_model.Prepare.{ready, requested, read_stars}
+use Rattle.walk_law.specs.Below.server_model.Events.{begin_work}
+use Rattle.walk_law.specs.Below.heap_law.Things.{Location, at_slot, in_cell as in_object}
+use Rattle.walk_law.specs.Below.heap_law.Follow.{Standing, Ground, value_in, leads, locate}
+use Rattle.walk_law.specs.Below.heap_law.Sight.{sight}
+use Rattle.walk_law.specs.Below.heap_law.Walking.{loose_hop}
+use Rattle.walk_law.specs.Below.path_law.HeapStore.{GoesOn, HasPaths}
+use Rattle.walk_law.specs.Below.path_law.Pointing.{WritesTo, lends as lends_it}
+use Rattle.walk_law.proofs.Below.path_law.MayWrites.{may_write_there}
+use Rattle.walk_law.proofs.Below.path_law.Sole.{some_is}
+use Rattle.borrow_law.specs.Below.read_law.Reading.{Reads, copies, shares, lends, dups, locks, MayRead}
+use Rattle.borrow_law.proofs.Below.read_law.ReadPlaces.{may_read_there}
+use Rattle.walk_law.proofs.Below.result_law.Followed.{Place, at, hop_from, told}
+use Rattle.walk_law.proofs.Below.result_law.Known.{Steps, able, goes, hand, paths, standing, types, entry, typed}
+use Rattle.walk_law.proofs.Below.result_law.Mutables.{apart}
+use Rattle.walk_law.proofs.Below.result_law.Pointing.{pointer_at}
+use Rattle.walk_law.proofs.Below.result_law.Readers.{IsFree, stars_fine, to_entry, begins}
+use Rattle.borrow_law.proofs.Below.ask_law.Unasked.{Unasked, stars_near}
+use Rattle.walk_law.proofs.Below.result_law.Reading.{Alike, equal, both_shared, Reading, cached_hit}
+use Rattle.walk_law.proofs.Below.result_law.Starred.{bound, At, a_slot, a_cell, a_copy, seen, Fine}
 use Rattle.way_law.proofs.Stops.{Read, all_read}
 use Rattle.way_law.proofs.ReadStars.{Placed, in_its_slot, in_memory, Untinted, Grows, loose_grows, ReadGoes, read_goes}
 
@@ -75,7 +75,7 @@ borrows _ w m (locks e) q f = absurd (cc f)
 -- what is alike is at hand alike
 pub alike_loose : (r : ℕ) (kept : List ℕ) (u v : Value) → Alike u v → loose_hop r kept (Some u) ≡ loose_hop r kept (Some v)
 alike_loose r kept u _ equal = refl
-alike_loose r kept _ _ (both_shared a b words objects) = ap (λ w. Rattle.heap_law.specs.Names.other (Rattle.heap_law.specs.Paths.is_at_hand kept r true w)) words
+alike_loose r kept _ _ (both_shared a b words objects) = ap (λ w. Rattle.walk_law.specs.Below.heap_law.Names.other (Rattle.walk_law.specs.Below.heap_law.Paths.is_at_hand kept r true w)) words
 
 pub alike_reference : (q : MutRef) (v : Value) → Alike (value.Mut q) v → v ≡ value.Mut q
 alike_reference q _ equal = refl
@@ -152,7 +152,7 @@ module _ (k : Cluster) (n t : ℕ) (s : Server) (y : ThreadState) (i : Instr) (z
 
   pub placed_so : (j : ℕ) (h : Hand) (sp : Spot) (l : Location) → At k n t s y i z sp l → Reading y s.rest (bound k n t s y i z) j h → Placed h sp
   placed_so j h _ _ (a_slot b) a = in_its_slot b refl
-  placed_so j h _ _ (a_cell u q o d f there) a = in_memory d.value (ap cell_value (ap (λ r. Rattle.server_model.specs.Work.look r u) a.partition ∙ f))
+  placed_so j h _ _ (a_cell u q o d f there) a = in_memory d.value (ap cell_value (ap (λ r. Rattle.walk_law.specs.Below.server_model.Work.look r u) a.partition ∙ f))
   placed_so j h _ _ (a_copy u o d f there) a = in_memory d.value (ap cell_value (a.hits u ∙ f))
 
   -- no copy is here under the next colour of a dirty reference

@@ -1,8 +1,8 @@
 -- Where a walk over stars stops: the stars before it are ready, one by one, and there something is asked for.
 use Rattle.std.proofs.Common.{◌≡◌, ℕ, zero, suc, ◌+◌, ◌<◌, refl, ap, subst, ◌∙◌, arith}
-use Rattle.server_model.specs.Work.{Hand}
-use Rattle.server_model.specs.Places.{Spot}
-use Rattle.server_model.specs.Prepare.{Prepared, ready, requested, nothing, and_then, read_star, read_stars, write_star, write_stars}
+use Rattle.walk_law.specs.Below.server_model.Work.{Hand}
+use Rattle.walk_law.specs.Below.server_model.Places.{Spot}
+use Rattle.walk_law.specs.Below.server_model.Prepare.{Prepared, ready, requested, nothing, and_then, read_star, read_stars, write_star, write_stars}
 
 first_number : (m : ℕ) → m ≡ m + 0
 first_number m = omega arith

@@ -1,26 +1,26 @@
 -- What stands in the cluster after a step, of what the hand of the step has: cells, objects that lie there, and the message that it sent.
 use Rattle.std.proofs.Common.{◌≡◌, ℕ, ◌+◌, ◌≤◌, ◌==◌, ◌&&◌, Bool, true, false, Option, Some, None, refl, ap, arith}
-use Rattle.fr_base.specs.Names.{same_object}
-use Rattle.fr_base.specs.declared.name.ObjNo.{ObjNo}
-use Rattle.heap_partition.specs.Same.{same_owned}
-use Rattle.heap_partition.specs.declared.value.Cell.{Cell}
-use Rattle.heap_partition.specs.declared.value.Owned.{Owned}
-use Rattle.thread_state.specs.declared.value.Value.TheVariants as value
-use Rattle.journal.specs.View.{EntryView}
-use Rattle.server_msgs.specs.declared.message.Message.{Message}
-use Rattle.server_model.specs.Servers.{Cluster, Rest}
-use Rattle.server_model.specs.Work.{sent_from}
-use Rattle.heap_law.specs.Names.{tot, one}
-use Rattle.heap_law.specs.Things.{Thing, lies, flies, stands, sent, partition_things, things_of}
-use Rattle.heap_law.specs.Follow.{cell_of, value_of}
-use Rattle.heap_law.specs.Sight.{sight}
-use Rattle.heap_law.specs.Weights.{lies_at}
-use Rattle.word_law.specs.Reworded.{HasPlaces}
-use Rattle.event_law.proofs.Bags.{rest_things, of_sending}
-use Rattle.event_law.proofs.Values.{stores}
-use Rattle.still_law.proofs.Tests.{objects}
-use Rattle.still_law.proofs.Told.{tot_same}
-use Rattle.write_law.proofs.Memory.{Leads, looks}
+use Rattle.walk_law.specs.Below.fr_base.Names.{same_object}
+use Rattle.walk_law.specs.Below.fr_base.declared.name.ObjNo.{ObjNo}
+use Rattle.walk_law.specs.Below.heap_partition.Same.{same_owned}
+use Rattle.walk_law.specs.Below.heap_partition.declared.value.Cell.{Cell}
+use Rattle.walk_law.specs.Below.heap_partition.declared.value.Owned.{Owned}
+use Rattle.walk_law.specs.Below.thread_state.declared.value.Value.TheVariants as value
+use Rattle.walk_law.specs.Below.journal.View.{EntryView}
+use Rattle.walk_law.specs.Below.server_msgs.declared.message.Message.{Message}
+use Rattle.walk_law.specs.Below.server_model.Servers.{Cluster, Rest}
+use Rattle.walk_law.specs.Below.server_model.Work.{sent_from}
+use Rattle.walk_law.specs.Below.heap_law.Names.{tot, one}
+use Rattle.walk_law.specs.Below.heap_law.Things.{Thing, lies, flies, stands, sent, partition_things, things_of}
+use Rattle.walk_law.specs.Below.heap_law.Follow.{cell_of, value_of}
+use Rattle.walk_law.specs.Below.heap_law.Sight.{sight}
+use Rattle.walk_law.specs.Below.heap_law.Weights.{lies_at}
+use Rattle.borrow_law.specs.Below.word_law.Reworded.{HasPlaces}
+use Rattle.walk_law.proofs.Below.event_law.Bags.{rest_things, of_sending}
+use Rattle.walk_law.proofs.Below.event_law.Values.{stores}
+use Rattle.walk_law.proofs.Below.still_law.Tests.{objects}
+use Rattle.walk_law.proofs.Below.still_law.Told.{tot_same}
+use Rattle.walk_law.proofs.Below.write_law.Memory.{Leads, looks}
 use Rattle.walk_law.proofs.Cells.{Seeing, cell_weight, rest_seen}
 use Rattle.walk_law.proofs.Still.{shows}
 use Rattle.walk_law.proofs.Tests.{owneds}

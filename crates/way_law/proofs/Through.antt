@@ -3,21 +3,21 @@ use Rattle.std.proofs.Common.{◌≡◌, ℕ, zero, suc, ◌+◌, ◌<◌, ◌�
 use Rattle.std.specs.Prelude.{slice_get}
 use Rattle.std.specs.Bool.{⊤}
 use Rattle.std.proofs.lemmas.Bool.Decides.{nat_tests}
-use Rattle.fr_base.specs.declared.name.ObjNo.{ObjNo}
-use Rattle.global_addr.specs.Words.{server_of}
-use Rattle.heap_partition.specs.declared.value.BoxPtr.{BoxPtr}
-use Rattle.heap_partition.specs.declared.value.Cell.{Cell}
-use Rattle.thread_state.specs.View.{ThreadState}
-use Rattle.thread_state.specs.declared.value.Value.{Value}
-use Rattle.server_model.specs.Servers.{Rest}
-use Rattle.server_model.specs.Work.{Hand}
-use Rattle.server_model.specs.Places.{Spot, in_slot, value_in, value_at, load_at, pointer_of}
-use Rattle.server_model.specs.Prepare.{ready, requested, ask_object, write_star, write_stars}
-use Rattle.heap_law.specs.Things.{Location, at_slot, at_temp, in_cell as in_object}
-use Rattle.heap_law.specs.Follow.{value_of}
-use Rattle.heap_law.specs.Paths.{to_write}
-use Rattle.write_law.proofs.Memory.{looks}
-use Rattle.write_law.proofs.Route.{Route, Writing, At, a_slot, a_cell, Fine, begins, all_hops}
+use Rattle.walk_law.specs.Below.fr_base.declared.name.ObjNo.{ObjNo}
+use Rattle.walk_law.specs.Below.global_addr.Words.{server_of}
+use Rattle.walk_law.specs.Below.heap_partition.declared.value.BoxPtr.{BoxPtr}
+use Rattle.walk_law.specs.Below.heap_partition.declared.value.Cell.{Cell}
+use Rattle.walk_law.specs.Below.thread_state.View.{ThreadState}
+use Rattle.walk_law.specs.Below.thread_state.declared.value.Value.{Value}
+use Rattle.walk_law.specs.Below.server_model.Servers.{Rest}
+use Rattle.walk_law.specs.Below.server_model.Work.{Hand}
+use Rattle.walk_law.specs.Below.server_model.Places.{Spot, in_slot, value_in, value_at, load_at, pointer_of}
+use Rattle.walk_law.specs.Below.server_model.Prepare.{ready, requested, ask_object, write_star, write_stars}
+use Rattle.walk_law.specs.Below.heap_law.Things.{Location, at_slot, at_temp, in_cell as in_object}
+use Rattle.walk_law.specs.Below.heap_law.Follow.{value_of}
+use Rattle.walk_law.specs.Below.heap_law.Paths.{to_write}
+use Rattle.walk_law.proofs.Below.write_law.Memory.{looks}
+use Rattle.walk_law.proofs.Below.write_law.Route.{Route, Writing, At, a_slot, a_cell, Fine, begins, all_hops}
 use Rattle.walk_law.proofs.Steps.{less_far}
 use Rattle.way_law.proofs.Stops.{all_written, write_stops}
 use Rattle.way_law.proofs.WriteStars.{AsksAt, write_asks, AtHome, GoesAt, write_goes}

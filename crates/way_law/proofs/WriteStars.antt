@@ -3,23 +3,23 @@ use Rattle.std.proofs.Common.{◌≡◌, ℕ, ◌+◌, ◌<◌, ◌==◌, nat_lt
 use Rattle.std.specs.Prelude.{length}
 use Rattle.std.specs.Bool.{⊤}
 use Rattle.std.proofs.lemmas.Bool.Decides.{nat_tests}
-use Rattle.global_addr.specs.Words.{server_of}
-use Rattle.heap_partition.specs.declared.value.BoxPtr.{BoxPtr}
-use Rattle.heap_partition.specs.declared.value.Owned.TheVariants as owned
-use Rattle.mut_borrow.specs.declared.mutable.MutRef.{MutRef}
-use Rattle.thread_state.specs.declared.value.Value.{Value}
-use Rattle.thread_state.specs.declared.value.Value.TheVariants as value
-use Rattle.place_walk.specs.declared.hop.Hop.{Hop}
-use Rattle.place_walk.specs.declared.hop.Hop.TheVariants as jump
-use Rattle.place_walk.specs.Hops.{write_hop}
-use Rattle.server_model.specs.Work.{Hand, leads_here, then_some, with_partition, working}
-use Rattle.owner_box.specs.Partition.{stored}
-use Rattle.server_model.specs.NewWords.{NewWord, issue_colour}
-use Rattle.server_model.specs.Places.{Spot, in_slot, on_top, in_cell, in_copy, nowhere, value_at, load_at, note_write, put_at, pointer_of, with_word, put_word}
-use Rattle.server_model.specs.Prepare.{Prepared, ready, requested, nothing, ready_at, ask_object, request_by, box_ready, colour_box, write_by, pass_by, passing, write_value, write_star}
-use Rattle.heap_law.specs.Paths.{to_write}
-use Rattle.event_law.specs.Laws.{Gives}
-use Rattle.event_law.proofs.Results.{then_gives, test_gives}
+use Rattle.walk_law.specs.Below.global_addr.Words.{server_of}
+use Rattle.walk_law.specs.Below.heap_partition.declared.value.BoxPtr.{BoxPtr}
+use Rattle.walk_law.specs.Below.heap_partition.declared.value.Owned.TheVariants as owned
+use Rattle.walk_law.specs.Below.mut_borrow.declared.mutable.MutRef.{MutRef}
+use Rattle.walk_law.specs.Below.thread_state.declared.value.Value.{Value}
+use Rattle.walk_law.specs.Below.thread_state.declared.value.Value.TheVariants as value
+use Rattle.walk_law.specs.Below.place_walk.declared.hop.Hop.{Hop}
+use Rattle.walk_law.specs.Below.place_walk.declared.hop.Hop.TheVariants as jump
+use Rattle.walk_law.specs.Below.place_walk.Hops.{write_hop}
+use Rattle.walk_law.specs.Below.server_model.Work.{Hand, leads_here, then_some, with_partition, working}
+use Rattle.walk_law.specs.Below.owner_box.Partition.{stored}
+use Rattle.walk_law.specs.Below.server_model.NewWords.{NewWord, issue_colour}
+use Rattle.walk_law.specs.Below.server_model.Places.{Spot, in_slot, on_top, in_cell, in_copy, nowhere, value_at, load_at, note_write, put_at, pointer_of, with_word, put_word}
+use Rattle.walk_law.specs.Below.server_model.Prepare.{Prepared, ready, requested, nothing, ready_at, ask_object, request_by, box_ready, colour_box, write_by, pass_by, passing, write_value, write_star}
+use Rattle.walk_law.specs.Below.heap_law.Paths.{to_write}
+use Rattle.walk_law.specs.Below.event_law.Laws.{Gives}
+use Rattle.walk_law.proofs.Below.event_law.Results.{then_gives, test_gives}
 
 -- WHAT IT ASKS FOR
 
@@ -172,12 +172,12 @@ write_goes j h s h2 s2 e = by (value_at h s) refl e
     passes : (v : Value) → value_at h s ≡ Some v → nat_lt j h.thread.passed ≡ true → (o : Option Hop) → pass_by s v o h1 ≡ ready h2 s2 → GoesAt j h s h2
     passes v there q (Some (jump.Slot i)) f = both v there q (as_was h1 refl q (sym (ready_is f)))
     passes v there q (Some (jump.NeedTint w)) f = both v there q (as_was h1 refl q (sym (ready_is f)))
-    passes v there q (Some (jump.AtCell w)) f = both v there q (as_was (Rattle.server_model.specs.Prepare.local v h1) (local_passed v) q (sym (ready_is f)))
+    passes v there q (Some (jump.AtCell w)) f = both v there q (as_was (Rattle.walk_law.specs.Below.server_model.Prepare.local v h1) (local_passed v) q (sym (ready_is f)))
       where
-        local_passed : (v : Value) → (Rattle.server_model.specs.Prepare.local v h1).thread.passed ≡ h.thread.passed
+        local_passed : (v : Value) → (Rattle.walk_law.specs.Below.server_model.Prepare.local v h1).thread.passed ≡ h.thread.passed
         local_passed v = by_pointer (pointer_of v)
           where
-            by_pointer : (o : Option BoxPtr) → (Rattle.server_model.specs.Prepare.hopped (λ p. Rattle.server_model.specs.Work.note (Rattle.journal.specs.declared.act.Act.TheVariants.Local p.object p.word)) o h1).thread.passed ≡ h.thread.passed
+            by_pointer : (o : Option BoxPtr) → (Rattle.walk_law.specs.Below.server_model.Prepare.hopped (λ p. Rattle.walk_law.specs.Below.server_model.Work.note (Rattle.walk_law.specs.Below.journal.declared.act.Act.TheVariants.Local p.object p.word)) o h1).thread.passed ≡ h.thread.passed
             by_pointer None = refl
             by_pointer (Some p) = refl
     passes v there q (Some (jump.Direct w)) f = absurd (cc f)

@@ -3,40 +3,40 @@ use Rattle.std.proofs.Common.{◌≡◌, ℕ, ◌<◌, ◌≤◌, true, false, m
 use Rattle.std.specs.Prelude.{slice_get}
 use Rattle.std.proofs.lemmas.Option.{slice_get-map}
 use Rattle.std.proofs.lemmas.Bool.Decides.{nat_tests}
-use Rattle.fr_base.specs.declared.name.ObjNo.{ObjNo}
-use Rattle.fr_base.specs.declared.place.Lval.{Lval}
-use Rattle.fr_base.specs.declared.instruction.Instr.{Instr}
-use Rattle.global_addr.specs.Words.{server_of}
-use Rattle.heap_partition.specs.declared.value.Cell.{Cell}
-use Rattle.journal.specs.View.{EntryView}
-use Rattle.server_msgs.specs.declared.message.Message.TheVariants as message
-use Rattle.thread_state.specs.View.{ThreadState}
-use Rattle.thread_state.specs.declared.phase.Phase.TheVariants as phase
-use Rattle.thread_state.specs.declared.value.Value.{Value}
-use Rattle.server_model.specs.Servers.{Server, Cluster}
-use Rattle.server_model.specs.Work.{Hand}
-use Rattle.server_model.specs.Places.{Spot, value_at, value_in as cell_value}
-use Rattle.server_model.specs.Prepare.{WriteTo, requested, assigned, read_or_taken, access_of, prepare}
-use Rattle.server_model.specs.Events.{Stepped, begin_work, wait_step}
-use Rattle.heap_law.specs.Names.{tot, one}
-use Rattle.heap_law.specs.Things.{Location, things_of}
-use Rattle.heap_law.specs.Follow.{Standing, Ground, cell_of, value_of, value_in, value_behind, slot_of, locate, hop_at}
-use Rattle.heap_law.specs.Paths.{Path, writes, path_of, assigning, taking, written_place, Awaited}
-use Rattle.heap_law.specs.Sight.{sight}
-use Rattle.heap_law.specs.Walking.{path, over_passed, away, lost_place, out_of_turn, next_hop, asked_for}
-use Rattle.path_law.specs.HeapStore.{GoesOn, HasPaths}
-use Rattle.path_law.proofs.Alike.{IsShown, a_slot as shown_slot, an_object, leads_in_heap}
-use Rattle.path_law.proofs.Shown.{stands_there}
-use Rattle.word_law.specs.Reworded.{HasPlaces}
-use Rattle.still_law.specs.Shows.{frame_of}
-use Rattle.still_law.proofs.Prepares.{prepare_shows, Fine as Shows}
-use Rattle.still_law.proofs.Readied.{Readied}
-use Rattle.result_law.proofs.Known.{Steps, standing, paths, goes}
-use Rattle.wait_law.specs.Places.{LeadsAsItDid}
-use Rattle.write_law.proofs.Memory.{Leads, looks}
-use Rattle.write_law.proofs.Route.{Route, At, a_slot, a_cell}
-use Rattle.rewrite_law.specs.Writing.{WritesThrough, assigns, moves}
-use Rattle.rewrite_law.proofs.Ways as ways
+use Rattle.walk_law.specs.Below.fr_base.declared.name.ObjNo.{ObjNo}
+use Rattle.walk_law.specs.Below.fr_base.declared.place.Lval.{Lval}
+use Rattle.walk_law.specs.Below.fr_base.declared.instruction.Instr.{Instr}
+use Rattle.walk_law.specs.Below.global_addr.Words.{server_of}
+use Rattle.walk_law.specs.Below.heap_partition.declared.value.Cell.{Cell}
+use Rattle.walk_law.specs.Below.journal.View.{EntryView}
+use Rattle.walk_law.specs.Below.server_msgs.declared.message.Message.TheVariants as message
+use Rattle.walk_law.specs.Below.thread_state.View.{ThreadState}
+use Rattle.walk_law.specs.Below.thread_state.declared.phase.Phase.TheVariants as phase
+use Rattle.walk_law.specs.Below.thread_state.declared.value.Value.{Value}
+use Rattle.walk_law.specs.Below.server_model.Servers.{Server, Cluster}
+use Rattle.walk_law.specs.Below.server_model.Work.{Hand}
+use Rattle.walk_law.specs.Below.server_model.Places.{Spot, value_at, value_in as cell_value}
+use Rattle.walk_law.specs.Below.server_model.Prepare.{WriteTo, requested, assigned, read_or_taken, access_of, prepare}
+use Rattle.walk_law.specs.Below.server_model.Events.{Stepped, begin_work, wait_step}
+use Rattle.walk_law.specs.Below.heap_law.Names.{tot, one}
+use Rattle.walk_law.specs.Below.heap_law.Things.{Location, things_of}
+use Rattle.walk_law.specs.Below.heap_law.Follow.{Standing, Ground, cell_of, value_of, value_in, value_behind, slot_of, locate, hop_at}
+use Rattle.walk_law.specs.Below.heap_law.Paths.{Path, writes, path_of, assigning, taking, written_place, Awaited}
+use Rattle.walk_law.specs.Below.heap_law.Sight.{sight}
+use Rattle.walk_law.specs.Below.heap_law.Walking.{path, over_passed, away, lost_place, out_of_turn, next_hop, asked_for}
+use Rattle.walk_law.specs.Below.path_law.HeapStore.{GoesOn, HasPaths}
+use Rattle.walk_law.proofs.Below.path_law.Alike.{IsShown, a_slot as shown_slot, an_object, leads_in_heap}
+use Rattle.walk_law.proofs.Below.path_law.Shown.{stands_there}
+use Rattle.borrow_law.specs.Below.word_law.Reworded.{HasPlaces}
+use Rattle.walk_law.specs.Below.still_law.Shows.{frame_of}
+use Rattle.walk_law.proofs.Below.still_law.Prepares.{prepare_shows, Fine as Shows}
+use Rattle.walk_law.proofs.Below.still_law.Readied.{Readied}
+use Rattle.walk_law.proofs.Below.result_law.Known.{Steps, standing, paths, goes}
+use Rattle.walk_law.specs.Below.wait_law.Places.{LeadsAsItDid}
+use Rattle.walk_law.proofs.Below.write_law.Memory.{Leads, looks}
+use Rattle.walk_law.proofs.Below.write_law.Route.{Route, At, a_slot, a_cell}
+use Rattle.walk_law.specs.Below.rewrite_law.Writing.{WritesThrough, assigns, moves}
+use Rattle.walk_law.proofs.Below.rewrite_law.Ways as ways
 use Rattle.way_law.proofs.Lies.{same_partition}
 use Rattle.way_law.proofs.Own.{Own, me}
 use Rattle.way_law.proofs.There.{cell_is, sent_is}
@@ -158,9 +158,9 @@ module _ (k c : Cluster) (v : EntryView) (t : ℕ) (code : c.code ≡ k.code) (o
 
   pub passed_so : over_passed (sight c) (away (sight c)) it_now ≡ 0
   passed_so =
-      ap (λ q. Rattle.heap_law.specs.Walking.over_place G2 o.result.hand.thread.number o.result.hand.thread.passed (away (sight c) s.rest.number) (written_place q)) path_now
-      ∙ ap (λ q. Rattle.heap_law.specs.Walking.over_hops G2 q w.slot (away (sight c) s.rest.number) o.result.hand.thread.passed) number_now
-      ∙ ap (λ (u : ThreadState). Rattle.heap_law.specs.Walking.over_hops G2 tn w.slot (away (sight c) s.rest.number) u.passed) thread_now ∙ has_passed k c v t o after h asked is w passes leads_so way walked
+      ap (λ q. Rattle.walk_law.specs.Below.heap_law.Walking.over_place G2 o.result.hand.thread.number o.result.hand.thread.passed (away (sight c) s.rest.number) (written_place q)) path_now
+      ∙ ap (λ q. Rattle.walk_law.specs.Below.heap_law.Walking.over_hops G2 q w.slot (away (sight c) s.rest.number) o.result.hand.thread.passed) number_now
+      ∙ ap (λ (u : ThreadState). Rattle.walk_law.specs.Below.heap_law.Walking.over_hops G2 tn w.slot (away (sight c) s.rest.number) u.passed) thread_now ∙ has_passed k c v t o after h asked is w passes leads_so way walked
 
   -- WHAT IT WAITS FOR
 
@@ -180,7 +180,7 @@ module _ (k c : Cluster) (v : EntryView) (t : ℕ) (code : c.code ≡ k.code) (o
       by _ _ (a_slot b) held = slot_then k c v t o after h asked is w passes leads_so way walked b ∙ ap (λ vs. slice_get vs b) slots_are ∙ held
       by _ _ (a_cell u q a e leads there object behind) held =
           let here : Leads o.result.hand.work.rest.partition u e = subst (λ r. Leads r u e) (sym partition_now) leads in
-          let found : value_of (cell_of G2.cells a) ≡ Some (Rattle.thread_state.specs.declared.value.Value.TheVariants.Own e.value) = subst (λ r. value_of (cell_of G2.cells r) ≡ Some (Rattle.thread_state.specs.declared.value.Value.TheVariants.Own e.value)) object (cell_is k c v t o after u e here) in
+          let found : value_of (cell_of G2.cells a) ≡ Some (Rattle.walk_law.specs.Below.thread_state.declared.value.Value.TheVariants.Own e.value) = subst (λ r. value_of (cell_of G2.cells r) ≡ Some (Rattle.walk_law.specs.Below.thread_state.declared.value.Value.TheVariants.Own e.value)) object (cell_is k c v t o after u e here) in
           found ∙ sym (ap cell_value (looks stop.hand.work.rest.partition u e leads)) ∙ held
 
   abbrev awaits : Awaited
@@ -203,18 +203,18 @@ module _ (k c : Cluster) (v : EntryView) (t : ℕ) (code : c.code ≡ k.code) (o
       let sender = it.hand.work.rest.number in
       let number : it.hand.thread.number ≡ o.result.hand.thread.number = sym (ap (λ (u : ThreadState). u.number) thread_now ∙ ap (λ (u : Hand). u.thread.number) it.asked) in
       let m = message.Move it.pointer.word it.pointer.object sender it.hand.thread.number in
-      let there = sent_is k c v t o after it.hand.work.rest target m (ap (λ (q : Stepped). q.hand.work.rest) is ∙ ap (λ (u : Hand). u.work.rest) it.asked) (ap (λ (r : Rattle.server_model.specs.Servers.Rest). r.number) (let g = it.writing in g.rest)) (asked_for o.result.hand.thread.number awaits) in
-      let asks : one (Rattle.heap_law.specs.Walking.asks_for o.result.hand.thread.number awaits m) ≡ 1 =
-      ap (λ q. one (Rattle.heap_law.specs.Walking.asks_for o.result.hand.thread.number awaits (message.Move it.pointer.word it.pointer.object sender q))) number ∙ pull_asks o.result.hand.thread.number awaits sender refl in
+      let there = sent_is k c v t o after it.hand.work.rest target m (ap (λ (q : Stepped). q.hand.work.rest) is ∙ ap (λ (u : Hand). u.work.rest) it.asked) (ap (λ (r : Rattle.walk_law.specs.Below.server_model.Servers.Rest). r.number) (let g = it.writing in g.rest)) (asked_for o.result.hand.thread.number awaits) in
+      let asks : one (Rattle.walk_law.specs.Below.heap_law.Walking.asks_for o.result.hand.thread.number awaits m) ≡ 1 =
+      ap (λ q. one (Rattle.walk_law.specs.Below.heap_law.Walking.asks_for o.result.hand.thread.number awaits (message.Move it.pointer.word it.pointer.object sender q))) number ∙ pull_asks o.result.hand.thread.number awaits sender refl in
       omega (arith, there, asks)
 
   pub turn_so : out_of_turn (sight c) it_now o.result.hand.thread.phase ≡ 0
   turn_so =
       subst (λ q. out_of_turn (sight c) it_now q ≡ 0) (sym phase_now)
-      (waits_right (sight c) it_now stop.pointer.word awaits (ap (Rattle.heap_law.specs.Walking.in_turn (sight c) it_now stop.pointer.word) path_now ∙ turn_now) refl asks_now)
+      (waits_right (sight c) it_now stop.pointer.word awaits (ap (Rattle.walk_law.specs.Below.heap_law.Walking.in_turn (sight c) it_now stop.pointer.word) path_now ∙ turn_now) refl asks_now)
 
   -- a write follows nothing before its step
   pub lost_so : lost_place (sight c) it_now ≡ 0
   lost_so =
-      ap (λ q. Rattle.heap_law.specs.Names.if_so (Rattle.heap_law.specs.Walking.has_followed (sight c) it_now q) (tot (Rattle.heap_law.specs.Walking.loose_hop s.rest.number (Rattle.heap_law.specs.Walking.words_kept o.result.hand.thread)) (Rattle.heap_law.specs.Paths.followed G2 o.result.hand.thread.number (path (sight c) it_now)))) phase_now
-      ∙ ap (λ q. Rattle.heap_law.specs.Names.if_so (Rattle.heap_law.specs.Walking.waits_for_lent (sight c) it_now q stop.pointer.word) (tot (Rattle.heap_law.specs.Walking.loose_hop s.rest.number (Rattle.heap_law.specs.Walking.words_kept o.result.hand.thread)) (Rattle.heap_law.specs.Paths.followed G2 o.result.hand.thread.number (path (sight c) it_now)))) path_now
+      ap (λ q. Rattle.walk_law.specs.Below.heap_law.Names.if_so (Rattle.walk_law.specs.Below.heap_law.Walking.has_followed (sight c) it_now q) (tot (Rattle.walk_law.specs.Below.heap_law.Walking.loose_hop s.rest.number (Rattle.walk_law.specs.Below.heap_law.Walking.words_kept o.result.hand.thread)) (Rattle.walk_law.specs.Below.heap_law.Paths.followed G2 o.result.hand.thread.number (path (sight c) it_now)))) phase_now
+      ∙ ap (λ q. Rattle.walk_law.specs.Below.heap_law.Names.if_so (Rattle.walk_law.specs.Below.heap_law.Walking.waits_for_lent (sight c) it_now q stop.pointer.word) (tot (Rattle.walk_law.specs.Below.heap_law.Walking.loose_hop s.rest.number (Rattle.walk_law.specs.Below.heap_law.Walking.words_kept o.result.hand.thread)) (Rattle.walk_law.specs.Below.heap_law.Paths.followed G2 o.result.hand.thread.number (path (sight c) it_now)))) path_now

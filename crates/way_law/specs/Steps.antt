@@ -1,16 +1,16 @@
 -- WALKS AFTER A STEP (this project's rule): what the thread that stepped has passed lies at its server, what it has followed is at hand, and it waits in turn.
 use Rattle.std.specs.Prelude.{◌≡◌, ℕ}
-use Rattle.journal.specs.View.{EntryView}
-use Rattle.server_model.specs.declared.event.Event.{Event}
-use Rattle.server_model.specs.declared.event.What.TheVariants.{Step}
-use Rattle.server_model.specs.Servers.{Cluster}
-use Rattle.server_model.specs.Clusters.{apply}
-use Rattle.heap_law.specs.Names.{Among}
-use Rattle.heap_law.specs.Follow.{Standing}
-use Rattle.heap_law.specs.Sight.{Sight, sight}
-use Rattle.heap_law.specs.Coherent.{Sentence, Holds}
-use Rattle.type_law.specs.ClusterTypes.{IsCoherent}
-use Rattle.event_law.specs.Laws.{Gives, FewEvents}
+use Rattle.walk_law.specs.Below.journal.View.{EntryView}
+use Rattle.walk_law.specs.Below.server_model.declared.event.Event.{Event}
+use Rattle.walk_law.specs.Below.server_model.declared.event.What.TheVariants.{Step}
+use Rattle.walk_law.specs.Below.server_model.Servers.{Cluster}
+use Rattle.walk_law.specs.Below.server_model.Clusters.{apply}
+use Rattle.walk_law.specs.Below.heap_law.Names.{Among}
+use Rattle.walk_law.specs.Below.heap_law.Follow.{Standing}
+use Rattle.walk_law.specs.Below.heap_law.Sight.{Sight, sight}
+use Rattle.walk_law.specs.Below.heap_law.Coherent.{Sentence, Holds}
+use Rattle.walk_law.specs.Below.type_law.ClusterTypes.{IsCoherent}
+use Rattle.walk_law.specs.Below.event_law.Laws.{Gives, FewEvents}
 
 -- from a coherent cluster in which few events were done, with the messages handed over: after the step of a thread, done or not, it has nothing wrong of that kind
 abbrev pub OwnStepsKeep : (Sight → Standing → ℕ) → Type 0

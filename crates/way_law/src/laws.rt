@@ -1,7 +1,7 @@
 //! What a step leaves of the walk of its own thread.
 
-ghost use Rattle.heap_law.specs.Coherent.{passed_lie_here, place_followed, waits_in_turn};
-ghost use Rattle.heap_law.specs.Walking.{away, lost_place, out_of_turn, over_passed};
+ghost use Rattle.walk_law.specs.Below.heap_law.Coherent.{passed_lie_here, place_followed, waits_in_turn};
+ghost use Rattle.walk_law.specs.Below.heap_law.Walking.{away, lost_place, out_of_turn, over_passed};
 ghost use Rattle.way_law.specs.Steps.{OwnStepsKeep, StepsKeep};
 
 /// After the step of a thread, done or not, from a coherent cluster with few events: what the thread has passed for its write lies at its server, what it has followed it has at

@@ -1,22 +1,22 @@
 -- Along a run the messages that wait and the deliveries are as many as acts send.
 use Rattle.std.proofs.Common.{◌≡◌, ℕ, ◌+◌, List, [], ◌∷◌, Option, Some, None, arith}
 use Rattle.std.specs.Prelude.{option_map}
-use Rattle.journal.specs.View.{EntryView}
-use Rattle.coloured_heap.specs.Figures.{deliveries}
-use Rattle.coloured_heap.specs.Sends.{all_messages}
-use Rattle.server_model.specs.declared.event.Event.{Event}
-use Rattle.server_model.specs.Servers.{Cluster}
-use Rattle.server_model.specs.Clusters.{apply}
-use Rattle.heap_law.specs.Sight.{sight}
-use Rattle.heap_law.specs.Naming.{events_of}
-use Rattle.heap_law.specs.LeftBy.{messages_of}
-use Rattle.type_law.specs.ClusterTypes.{IsCoherent}
-use Rattle.event_law.specs.Laws.{Gives, FewEvents}
-use Rattle.event_law.proofs.Results.{then_gives, over_gives, given_by}
+use Rattle.coherence_law.specs.Below.journal.View.{EntryView}
+use Rattle.coherence_law.specs.Below.coloured_heap.Figures.{deliveries}
+use Rattle.coherence_law.specs.Below.coloured_heap.Sends.{all_messages}
+use Rattle.coherence_law.specs.Below.server_model.declared.event.Event.{Event}
+use Rattle.coherence_law.specs.Below.server_model.Servers.{Cluster}
+use Rattle.coherence_law.specs.Below.server_model.Clusters.{apply}
+use Rattle.coherence_law.specs.Below.heap_law.Sight.{sight}
+use Rattle.coherence_law.specs.Below.heap_law.Naming.{events_of}
+use Rattle.coherence_law.specs.Below.heap_law.LeftBy.{messages_of}
+use Rattle.start_law.specs.Below.type_law.ClusterTypes.{IsCoherent}
+use Rattle.coherence_law.specs.Below.event_law.Laws.{Gives, FewEvents}
+use Rattle.coherence_law.proofs.Below.event_law.Results.{then_gives, over_gives, given_by}
 use Rattle.sending_law.specs.Counting.{EventsCountMessages}
-use Rattle.run_law.specs.Runs.{run_of, EachKeepsCoherence}
-use Rattle.run_law.proofs.Counting.{one_more}
-use Rattle.run_law.proofs.Following.{Few}
+use Rattle.going_law.specs.Below.run_law.Runs.{run_of, EachKeepsCoherence}
+use Rattle.going_law.proofs.Below.run_law.Counting.{one_more}
+use Rattle.going_law.proofs.Below.run_law.Following.{Few}
 
 abbrev pub Counted : Cluster → Cluster × List EntryView → Type 0
 Counted k d = messages_of (sight d.0) + deliveries d.1 ≡ messages_of (sight k) + all_messages d.1

@@ -1,31 +1,31 @@
 -- Whole runs of programs are right, as each event keeps coherence.
 use Rattle.std.proofs.Common.{◌≡◌, ℕ, ◌+◌, ◌<◌, ◌^◌, List, [], length, arith, subst, refl, sym, ◌∙◌, ◌∷◌}
 use Rattle.std.specs.Prelude.{take}
-use Rattle.fr_base.specs.declared.instruction.Instr.{Instr}
-use Rattle.fr_terms.specs.Terms.{block_t}
-use Rattle.fr_plain.specs.Resolve.{program}
-use Rattle.fr_code.specs.StandsFor.{IsCodeOf}
+use Rattle.table_law.specs.Below.fr_base.declared.instruction.Instr.{Instr}
+use Rattle.table_law.specs.Below.fr_terms.Terms.{block_t}
+use Rattle.table_law.specs.Below.fr_plain.Resolve.{program}
+use Rattle.table_law.specs.Below.fr_code.StandsFor.{IsCodeOf}
 use Rattle.table_law.specs.Tables.{HasTable, ProgramsHaveTables}
-use Rattle.journal.specs.View.{EntryView}
-use Rattle.journal.specs.Journals.{order, labels}
-use Rattle.server_model.specs.declared.event.Event.{Event}
-use Rattle.server_model.specs.Servers.{Cluster, start_of}
-use Rattle.server_model.specs.Clusters.{apply}
-use Rattle.heap_law.specs.Sight.{sight}
-use Rattle.heap_law.specs.Naming.{events_of}
-use Rattle.type_law.specs.ClusterTypes.{IsCoherent}
-use Rattle.event_law.specs.Laws.{Gives}
-use Rattle.event_law.proofs.Results.{then_gives, over_gives, given_by, weaker, both_give}
-use Rattle.event_law.proofs.KnownSound.{servers_between}
+use Rattle.coherence_law.specs.Below.journal.View.{EntryView}
+use Rattle.coherence_law.specs.Below.journal.Journals.{order, labels}
+use Rattle.coherence_law.specs.Below.server_model.declared.event.Event.{Event}
+use Rattle.coherence_law.specs.Below.server_model.Servers.{Cluster, start_of}
+use Rattle.coherence_law.specs.Below.server_model.Clusters.{apply}
+use Rattle.coherence_law.specs.Below.heap_law.Sight.{sight}
+use Rattle.coherence_law.specs.Below.heap_law.Naming.{events_of}
+use Rattle.start_law.specs.Below.type_law.ClusterTypes.{IsCoherent}
+use Rattle.coherence_law.specs.Below.event_law.Laws.{Gives}
+use Rattle.coherence_law.proofs.Below.event_law.Results.{then_gives, over_gives, given_by, weaker, both_give}
+use Rattle.coherence_law.proofs.Below.event_law.KnownSound.{servers_between}
 use Rattle.start_law.specs.Starts.{StartsAreCoherent}
-use Rattle.code_meaning.specs.Laws.{RunsAlike}
-use Rattle.code_meaning.specs.LeftByItsCode.{LeftByItsCode}
-use Rattle.code_meaning.proofs.StartLeft.{starts_left}
-use Rattle.code_meaning.proofs.AsProgram.{alike}
-use Rattle.run_law.specs.Runs.{run_of, IsLed, PlainlyLeft, EachKeepsCoherence}
-use Rattle.run_law.proofs.Counting.{same_code}
-use Rattle.run_law.proofs.Following.{runs_lead}
-use Rattle.run_law.proofs.Colouring.{runs_are_left}
+use Rattle.going_law.specs.Below.code_meaning.Laws.{RunsAlike}
+use Rattle.going_law.specs.Below.code_meaning.LeftByItsCode.{LeftByItsCode}
+use Rattle.going_law.proofs.Below.code_meaning.StartLeft.{starts_left}
+use Rattle.going_law.proofs.Below.code_meaning.AsProgram.{alike}
+use Rattle.going_law.specs.Below.run_law.Runs.{run_of, IsLed, PlainlyLeft, EachKeepsCoherence}
+use Rattle.going_law.proofs.Below.run_law.Counting.{same_code}
+use Rattle.going_law.proofs.Below.run_law.Following.{runs_lead}
+use Rattle.going_law.proofs.Below.run_law.Colouring.{runs_are_left}
 use Rattle.going_law.specs.Going.{IsOnItsWay}
 use Rattle.going_law.proofs.Going.{runs_go_on}
 use Rattle.sending_law.proofs.Events.{events_count_messages}

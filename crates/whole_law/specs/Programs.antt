@@ -1,31 +1,31 @@
 -- WHOLE RUNS OF PROGRAMS on servers (in the manner of DRust; what is said of them is this project's).
 use Rattle.std.specs.Prelude.{◌≡◌, ◌+◌, ◌<◌, ◌^◌, ℕ, List, [], length}
-use Rattle.fr_base.specs.declared.instruction.Instr.{Instr}
-use Rattle.fr_base.specs.declared.settings.Options.{Options}
-use Rattle.fr_terms.specs.Terms.{Term, block_t, Items}
-use Rattle.fr_terms.specs.Limits.{HasShortPlaces}
-use Rattle.fr_typing.specs.Kinds.{Kind}
-use Rattle.fr_typing.specs.Places.{Env}
-use Rattle.fr_typing.specs.Typing.{Types}
-use Rattle.fr_plain.specs.Resolve.{program}
-use Rattle.fr_code.specs.StandsFor.{IsCodeOf}
+use Rattle.table_law.specs.Below.fr_base.declared.instruction.Instr.{Instr}
+use Rattle.table_law.specs.Below.fr_base.declared.settings.Options.{Options}
+use Rattle.table_law.specs.Below.fr_terms.Terms.{Term, block_t, Items}
+use Rattle.table_law.specs.Below.fr_terms.Limits.{HasShortPlaces}
+use Rattle.table_law.specs.Below.fr_typing.Kinds.{Kind}
+use Rattle.table_law.specs.Below.fr_typing.Places.{Env}
+use Rattle.table_law.specs.Below.fr_typing.Typing.{Types}
+use Rattle.table_law.specs.Below.fr_plain.Resolve.{program}
+use Rattle.table_law.specs.Below.fr_code.StandsFor.{IsCodeOf}
 use Rattle.table_law.specs.Layout.{IsLaidOut}
-use Rattle.journal.specs.View.{EntryView}
-use Rattle.coloured_heap.specs.Heap.{Coloured}
-use Rattle.coloured_heap.specs.Figures.{deliveries}
-use Rattle.coloured_heap.specs.Sends.{all_messages}
-use Rattle.server_model.specs.declared.event.Event.{Event}
-use Rattle.server_model.specs.Servers.{Cluster, start_of}
-use Rattle.server_model.specs.Clusters.{apply}
-use Rattle.heap_law.specs.Sight.{sight}
-use Rattle.heap_law.specs.Naming.{options_out}
-use Rattle.heap_law.specs.Colours.{StandsColoured}
-use Rattle.heap_law.specs.LeftBy.{messages_of}
-use Rattle.type_law.specs.ClusterTypes.{IsCoherent}
-use Rattle.event_law.specs.Laws.{Gives, FewEvents}
-use Rattle.code_meaning.specs.Laws.{RunsAlike}
-use Rattle.code_meaning.specs.LeftByItsCode.{LeftByItsCode}
-use Rattle.run_law.specs.Runs.{run_of, PlainlyLeft, LeadsOn}
+use Rattle.coherence_law.specs.Below.journal.View.{EntryView}
+use Rattle.coherence_law.specs.Below.coloured_heap.Heap.{Coloured}
+use Rattle.coherence_law.specs.Below.coloured_heap.Figures.{deliveries}
+use Rattle.coherence_law.specs.Below.coloured_heap.Sends.{all_messages}
+use Rattle.coherence_law.specs.Below.server_model.declared.event.Event.{Event}
+use Rattle.coherence_law.specs.Below.server_model.Servers.{Cluster, start_of}
+use Rattle.coherence_law.specs.Below.server_model.Clusters.{apply}
+use Rattle.coherence_law.specs.Below.heap_law.Sight.{sight}
+use Rattle.coherence_law.specs.Below.heap_law.Naming.{options_out}
+use Rattle.coherence_law.specs.Below.heap_law.Colours.{StandsColoured}
+use Rattle.coherence_law.specs.Below.heap_law.LeftBy.{messages_of}
+use Rattle.start_law.specs.Below.type_law.ClusterTypes.{IsCoherent}
+use Rattle.coherence_law.specs.Below.event_law.Laws.{Gives, FewEvents}
+use Rattle.going_law.specs.Below.code_meaning.Laws.{RunsAlike}
+use Rattle.going_law.specs.Below.code_meaning.LeftByItsCode.{LeftByItsCode}
+use Rattle.going_law.specs.Below.run_law.Runs.{run_of, PlainlyLeft, LeadsOn}
 use Rattle.going_law.specs.Going.{IsOnItsWay}
 
 -- a typed program, its code, and options

@@ -1,43 +1,43 @@
 -- No pointer to what a thread may write stands outside of slots, temporary values and cells: its one owner stands on the way, and no thread has taken it.
 use Rattle.std.proofs.Common.{◌≡◌, ◌⊎◌, inl, inr, ⊎_elim, ℕ, zero, suc, ◌≤◌, Bool, true, false, List, [], ◌∷◌, Option, Some, None, refl, sym, ap, subst, ◌∙◌, arith}
 use Rattle.std.specs.Prelude.{slice_get, ◌||◌}
-use Rattle.fr_base.specs.declared.instruction.Instr.{Instr}
-use Rattle.fr_base.specs.declared.instruction.Instr.TheVariants as instr
-use Rattle.fr_base.specs.declared.label.Plain.{Plain}
-use Rattle.fr_base.specs.declared.name.MutexNo.{MutexNo}
-use Rattle.fr_base.specs.declared.name.ObjNo.{ObjNo}
-use Rattle.fr_base.specs.declared.place.Lval.{Lval}
-use Rattle.fr_store.specs.Keys.{Key, slot_k}
-use Rattle.fr_store.specs.Store.{Location as StoreLocation, at_key, at_object, gone_v, box_v, ref_v, Store, value_at, below_key}
-use Rattle.fr_store.specs.Typed.{Resolves}
-use Rattle.fr_store.proofs.Chains.{from_suc}
-use Rattle.fr_store.proofs.Sound.{sound}
+use Rattle.path_law.specs.Below.fr_base.declared.instruction.Instr.{Instr}
+use Rattle.path_law.specs.Below.fr_base.declared.instruction.Instr.TheVariants as instr
+use Rattle.path_law.specs.Below.fr_base.declared.label.Plain.{Plain}
+use Rattle.path_law.specs.Below.fr_base.declared.name.MutexNo.{MutexNo}
+use Rattle.path_law.specs.Below.fr_base.declared.name.ObjNo.{ObjNo}
+use Rattle.path_law.specs.Below.fr_base.declared.place.Lval.{Lval}
+use Rattle.path_law.specs.Below.fr_store.Keys.{Key, slot_k}
+use Rattle.path_law.specs.Below.fr_store.Store.{Location as StoreLocation, at_key, at_object, gone_v, box_v, ref_v, Store, value_at, below_key}
+use Rattle.path_law.specs.Below.fr_store.Typed.{Resolves}
+use Rattle.path_law.proofs.Below.fr_store.Chains.{from_suc}
+use Rattle.path_law.proofs.Below.fr_store.Sound.{sound}
 use Rattle.path_law.specs.Below.fr_sound.Seen.{Gives, owned_val, seen_cell}
-use Rattle.heap_partition.specs.Plain.{plain_of}
-use Rattle.heap_partition.specs.declared.value.BoxPtr.{BoxPtr}
-use Rattle.heap_partition.specs.declared.value.Cell.{Cell}
-use Rattle.heap_partition.specs.declared.value.Owned.{Owned}
-use Rattle.heap_partition.specs.declared.value.Owned.TheVariants as owned
-use Rattle.mut_borrow.specs.declared.shared.SharedRef.{SharedRef}
-use Rattle.server_msgs.specs.declared.message.Message.{Message}
-use Rattle.server_msgs.specs.declared.message.Message.TheVariants.{Drop}
-use Rattle.thread_state.specs.declared.phase.Phase.{Phase}
-use Rattle.thread_state.specs.declared.phase.Phase.TheVariants as phase
-use Rattle.thread_state.specs.declared.value.Value.{Value}
-use Rattle.thread_state.specs.declared.value.Value.TheVariants as value
-use Rattle.server_model.specs.Servers.{Cluster}
-use Rattle.heap_law.specs.Names.{Among, one, same_object, boxes}
-use Rattle.heap_law.specs.Things.{Location, at_slot, at_temp, in_cell, Spot, in_slot, in_temp, as_gift, as_content, as_result, in_hand, Thing, holds, shares, borrows, lies, flies, sent, things_of}
-use Rattle.heap_law.specs.Follow.{Standing, Ground, slot_of, value_in, value_of, value_behind, cell_of, leads, locate, place_at}
-use Rattle.heap_law.specs.Weights.{owners}
-use Rattle.heap_law.specs.Placing.{standing_of, standing_in, standing_pointers}
-use Rattle.thread_state.specs.View.{is_over}
-use Rattle.heap_law.specs.Stale.{Reference, references, holder_of, is_held_at, same_location, is_among, lent_place, with_place, lent_places, one_star_less, taken_above}
-use Rattle.heap_law.specs.OneHeap.{object_value}
-use Rattle.heap_law.specs.Sight.{Pointer, pointer_in, location_of, dropped_pointer, taken_object, taken_of, taken_pointers, sight}
-use Rattle.heap_law.specs.Words.{IsStale}
-use Rattle.heap_law.proofs.Bags.{among_split}
-use Rattle.heap_law.proofs.Words.{itself}
+use Rattle.path_law.specs.Below.heap_partition.Plain.{plain_of}
+use Rattle.path_law.specs.Below.heap_partition.declared.value.BoxPtr.{BoxPtr}
+use Rattle.path_law.specs.Below.heap_partition.declared.value.Cell.{Cell}
+use Rattle.path_law.specs.Below.heap_partition.declared.value.Owned.{Owned}
+use Rattle.path_law.specs.Below.heap_partition.declared.value.Owned.TheVariants as owned
+use Rattle.path_law.specs.Below.mut_borrow.declared.shared.SharedRef.{SharedRef}
+use Rattle.path_law.specs.Below.server_msgs.declared.message.Message.{Message}
+use Rattle.path_law.specs.Below.server_msgs.declared.message.Message.TheVariants.{Drop}
+use Rattle.path_law.specs.Below.thread_state.declared.phase.Phase.{Phase}
+use Rattle.path_law.specs.Below.thread_state.declared.phase.Phase.TheVariants as phase
+use Rattle.path_law.specs.Below.thread_state.declared.value.Value.{Value}
+use Rattle.path_law.specs.Below.thread_state.declared.value.Value.TheVariants as value
+use Rattle.path_law.specs.Below.server_model.Servers.{Cluster}
+use Rattle.path_law.specs.Below.heap_law.Names.{Among, one, same_object, boxes}
+use Rattle.path_law.specs.Below.heap_law.Things.{Location, at_slot, at_temp, in_cell, Spot, in_slot, in_temp, as_gift, as_content, as_result, in_hand, Thing, holds, shares, borrows, lies, flies, sent, things_of}
+use Rattle.path_law.specs.Below.heap_law.Follow.{Standing, Ground, slot_of, value_in, value_of, value_behind, cell_of, leads, locate, place_at}
+use Rattle.path_law.specs.Below.heap_law.Weights.{owners}
+use Rattle.path_law.specs.Below.heap_law.Placing.{standing_of, standing_in, standing_pointers}
+use Rattle.path_law.specs.Below.thread_state.View.{is_over}
+use Rattle.path_law.specs.Below.heap_law.Stale.{Reference, references, holder_of, is_held_at, same_location, is_among, lent_place, with_place, lent_places, one_star_less, taken_above}
+use Rattle.path_law.specs.Below.heap_law.OneHeap.{object_value}
+use Rattle.path_law.specs.Below.heap_law.Sight.{Pointer, pointer_in, location_of, dropped_pointer, taken_object, taken_of, taken_pointers, sight}
+use Rattle.path_law.specs.Below.heap_law.Words.{IsStale}
+use Rattle.path_law.proofs.Below.heap_law.Bags.{among_split}
+use Rattle.path_law.proofs.Below.heap_law.Words.{itself}
 use Rattle.path_law.specs.HeapStore.{heap_store, GoesOn, HasPaths}
 use Rattle.path_law.specs.Pointing.{Above, made_from, made_below, MayWrite, LastHop, lends}
 use Rattle.path_law.proofs.Sole.{some_is}

@@ -1,22 +1,22 @@
 -- Where one pointer gets another word, references know the words at their holders, and dirty references are alone.
 use Rattle.std.proofs.Common.{◌≡◌, ◌⊎◌, inl, inr, ⊎_elim, ℕ, ◌==◌, ◌&&◌, Bool, true, Option, Some, None, refl, sym, ap, subst, ◌∙◌}
-use Rattle.fr_base.specs.declared.name.ObjNo.{ObjNo}
-use Rattle.heap_partition.specs.declared.value.Owned.TheVariants as owned
-use Rattle.mut_borrow.specs.declared.mutable.MutRef.{MutRef}
-use Rattle.thread_state.specs.declared.value.Value.{Value}
-use Rattle.thread_state.specs.declared.value.Value.TheVariants as value
-use Rattle.server_model.specs.Servers.{Cluster}
-use Rattle.heap_law.specs.Names.{Among, other, same_object}
-use Rattle.heap_law.specs.Things.{Location, things_of}
-use Rattle.heap_law.specs.Follow.{Ground, value_in, value_behind}
-use Rattle.heap_law.specs.Stale.{Reference, references, holder_of, is_held_at}
-use Rattle.heap_law.specs.Sight.{Pointer, pointers_in, taken_pointers, sight}
-use Rattle.heap_law.specs.Placing.{is_first, other_first, standing_in, standing_pointers}
-use Rattle.heap_law.specs.Coherent.{Holds, first_at_holder}
-use Rattle.heap_law.specs.Words.{IsStale}
-use Rattle.heap_law.specs.Dirty.{IsAlone, DirtyAlone}
-use Rattle.heap_law.proofs.Bags.{among_split}
-use Rattle.heap_law.proofs.Words.{none_at, none_all}
+use Rattle.path_law.specs.Below.fr_base.declared.name.ObjNo.{ObjNo}
+use Rattle.path_law.specs.Below.heap_partition.declared.value.Owned.TheVariants as owned
+use Rattle.path_law.specs.Below.mut_borrow.declared.mutable.MutRef.{MutRef}
+use Rattle.path_law.specs.Below.thread_state.declared.value.Value.{Value}
+use Rattle.path_law.specs.Below.thread_state.declared.value.Value.TheVariants as value
+use Rattle.path_law.specs.Below.server_model.Servers.{Cluster}
+use Rattle.path_law.specs.Below.heap_law.Names.{Among, other, same_object}
+use Rattle.path_law.specs.Below.heap_law.Things.{Location, things_of}
+use Rattle.path_law.specs.Below.heap_law.Follow.{Ground, value_in, value_behind}
+use Rattle.path_law.specs.Below.heap_law.Stale.{Reference, references, holder_of, is_held_at}
+use Rattle.path_law.specs.Below.heap_law.Sight.{Pointer, pointers_in, taken_pointers, sight}
+use Rattle.path_law.specs.Below.heap_law.Placing.{is_first, other_first, standing_in, standing_pointers}
+use Rattle.path_law.specs.Below.heap_law.Coherent.{Holds, first_at_holder}
+use Rattle.path_law.specs.Below.heap_law.Words.{IsStale}
+use Rattle.path_law.specs.Below.heap_law.Dirty.{IsAlone, DirtyAlone}
+use Rattle.path_law.proofs.Below.heap_law.Bags.{among_split}
+use Rattle.path_law.proofs.Below.heap_law.Words.{none_at, none_all}
 use Rattle.path_law.specs.Pointing.{Above}
 use Rattle.path_law.proofs.Shown.{none_else}
 use Rattle.path_law.proofs.Origins.{among_first, among_second}

@@ -1,28 +1,28 @@
 -- The box in a cell gets another word: the clusters with the thread put back are the same but for it.
 use Rattle.std.proofs.Common.{◌≡◌, ◌⊎◌, inl, inr, ⊎_elim, ℕ, zero, suc, ◌+◌, Bool, true, false, if◌then◌else◌, List, [], ◌∷◌, ◌++◌, length, map, Option, Some, None, option_map, refl, sym, ap, subst, ◌∙◌, arith}
 use Rattle.std.specs.Prelude.{slice_index_or, slice_set}
-use Rattle.fr_base.specs.declared.name.ObjNo.{ObjNo}
-use Rattle.global_addr.specs.Words.{address_of, next_word}
-use Rattle.heap_partition.specs.declared.value.BoxPtr.{BoxPtr}
-use Rattle.heap_partition.specs.declared.value.Cell.{Cell}
-use Rattle.heap_partition.specs.declared.value.Owned.{Owned}
-use Rattle.heap_partition.specs.declared.value.Owned.TheVariants as owned
-use Rattle.mut_borrow.specs.declared.mutable.MutRef.{MutRef}
-use Rattle.owner_box.specs.View.{PartitionState}
-use Rattle.owner_box.specs.Partition.{cell_of as cell_under, with_value, stored}
-use Rattle.thread_state.specs.View.{ThreadState}
-use Rattle.thread_state.specs.declared.value.Value.TheVariants as value
-use Rattle.server_model.specs.Servers.{Rest, Server, Cluster}
-use Rattle.server_model.specs.Work.{Hand, look, leads_here, working, with_partition, set_thread, then_some}
-use Rattle.server_model.specs.Clusters.{with_server}
-use Rattle.server_model.specs.NewWords.{NewWord, issue_tint}
-use Rattle.server_model.specs.Places.{in_cell as cell_spot, note_write, value_in as value_of_cell, with_word, put_at, put_cell, set_pointer, put_word}
-use Rattle.heap_law.specs.Names.{Among, same_object}
-use Rattle.heap_law.specs.Things.{Location, at_slot, at_temp, in_cell, Thing, lies, counts, things_at, cell_things, free_things, partition_things, copy_things, mutex_things, task_things, standing_things, waiting_things, leaving_things, server_things, servers_things, things_of}
-use Rattle.heap_law.specs.Follow.{Standing, threads_in, cells_in, cell_of, slot_of, temp_of, value_of, value_in, thread_at}
-use Rattle.heap_law.specs.Sight.{sight}
-use Rattle.heap_law.proofs.Bags.{among_split}
-use Rattle.heap_law.proofs.Words.{named}
+use Rattle.path_law.specs.Below.fr_base.declared.name.ObjNo.{ObjNo}
+use Rattle.path_law.specs.Below.global_addr.Words.{address_of, next_word}
+use Rattle.path_law.specs.Below.heap_partition.declared.value.BoxPtr.{BoxPtr}
+use Rattle.path_law.specs.Below.heap_partition.declared.value.Cell.{Cell}
+use Rattle.path_law.specs.Below.heap_partition.declared.value.Owned.{Owned}
+use Rattle.path_law.specs.Below.heap_partition.declared.value.Owned.TheVariants as owned
+use Rattle.path_law.specs.Below.mut_borrow.declared.mutable.MutRef.{MutRef}
+use Rattle.path_law.specs.Below.owner_box.View.{PartitionState}
+use Rattle.path_law.specs.Below.owner_box.Partition.{cell_of as cell_under, with_value, stored}
+use Rattle.path_law.specs.Below.thread_state.View.{ThreadState}
+use Rattle.path_law.specs.Below.thread_state.declared.value.Value.TheVariants as value
+use Rattle.path_law.specs.Below.server_model.Servers.{Rest, Server, Cluster}
+use Rattle.path_law.specs.Below.server_model.Work.{Hand, look, leads_here, working, with_partition, set_thread, then_some}
+use Rattle.path_law.specs.Below.server_model.Clusters.{with_server}
+use Rattle.path_law.specs.Below.server_model.NewWords.{NewWord, issue_tint}
+use Rattle.path_law.specs.Below.server_model.Places.{in_cell as cell_spot, note_write, value_in as value_of_cell, with_word, put_at, put_cell, set_pointer, put_word}
+use Rattle.path_law.specs.Below.heap_law.Names.{Among, same_object}
+use Rattle.path_law.specs.Below.heap_law.Things.{Location, at_slot, at_temp, in_cell, Thing, lies, counts, things_at, cell_things, free_things, partition_things, copy_things, mutex_things, task_things, standing_things, waiting_things, leaving_things, server_things, servers_things, things_of}
+use Rattle.path_law.specs.Below.heap_law.Follow.{Standing, threads_in, cells_in, cell_of, slot_of, temp_of, value_of, value_in, thread_at}
+use Rattle.path_law.specs.Below.heap_law.Sight.{sight}
+use Rattle.path_law.proofs.Below.heap_law.Bags.{among_split}
+use Rattle.path_law.proofs.Below.heap_law.Words.{named}
 use Rattle.path_law.proofs.Sole.{some_is}
 use Rattle.path_law.proofs.Origins.{threads_joined, among_first, among_second}
 use Rattle.word_law.specs.Reworded.{is_loose, HasPlaces, LiesThere, a_box, Reworded, turn_of}

@@ -1,17 +1,17 @@
 -- The laws of words apply to main at its assignment.
 use Rattle.std.proofs.Common.{◌≡◌, inl, inr, ℕ, [], ◌∷◌, Some, refl, arith}
-use Rattle.fr_base.specs.declared.instruction.Operand.TheVariants as operand
-use Rattle.fr_base.specs.declared.instruction.Instr.TheVariants as instr
+use Rattle.path_law.specs.Below.fr_base.declared.instruction.Operand.TheVariants as operand
+use Rattle.path_law.specs.Below.fr_base.declared.instruction.Instr.TheVariants as instr
 use Rattle.std.specs.Prelude.{pos}
-use Rattle.global_addr.specs.Words.{word_of}
-use Rattle.heap_partition.specs.declared.value.Cell.{Cell}
-use Rattle.thread_state.specs.declared.value.Value.TheVariants as value
-use Rattle.heap_law.specs.Names.{Among}
-use Rattle.heap_law.specs.Clusters.{place, object, box, int}
-use Rattle.heap_law.specs.Things.{at_slot, lies, things_of}
-use Rattle.heap_law.specs.Coherent.{IsSound}
-use Rattle.heap_law.proofs.Unbroken.{sound_law}
-use Rattle.server_model.specs.Servers.{Cluster}
+use Rattle.path_law.specs.Below.global_addr.Words.{word_of}
+use Rattle.path_law.specs.Below.heap_partition.declared.value.Cell.{Cell}
+use Rattle.path_law.specs.Below.thread_state.declared.value.Value.TheVariants as value
+use Rattle.path_law.specs.Below.heap_law.Names.{Among}
+use Rattle.path_law.specs.Below.heap_law.Clusters.{place, object, box, int}
+use Rattle.path_law.specs.Below.heap_law.Things.{at_slot, lies, things_of}
+use Rattle.path_law.specs.Below.heap_law.Coherent.{IsSound}
+use Rattle.path_law.proofs.Below.heap_law.Unbroken.{sound_law}
+use Rattle.path_law.specs.Below.server_model.Servers.{Cluster}
 use Rattle.path_law.specs.Below.type_law.Typed.{boxed_main, boxed_cluster}
 use Rattle.path_law.proofs.Below.type_law.Whole.{coherent_compute}
 use Rattle.path_law.specs.HeapStore.{GoesOn, HasPaths}
@@ -21,8 +21,8 @@ use Rattle.path_law.proofs.Alike.{coherent_has_paths}
 use Rattle.path_law.proofs.FreshPaths.{written_are_fresh}
 use Rattle.path_law.proofs.MayWrites.{may_write_there}
 use Rattle.word_law.specs.Reworded.{HasPlaces, Reworded}
-use Rattle.heap_law.specs.Words.{IsStale}
-use Rattle.heap_law.specs.Sight.{sight}
+use Rattle.path_law.specs.Below.heap_law.Words.{IsStale}
+use Rattle.path_law.specs.Below.heap_law.Sight.{sight}
 use Rattle.word_law.proofs.Alone.{written_are_sole}
 use Rattle.word_law.specs.Example.{tinted_cluster, main_hand, tinted_hand, WordsApply}
 use Rattle.word_law.specs.PutBack.{StandsHere, LeadsHome}

@@ -1,18 +1,18 @@
 -- The delivery of a `fetch` changes nothing that words see: a message that carries nothing goes, and another one comes.
 use Rattle.std.proofs.Common.{◌≡◌, ℕ, zero, suc, ◌+◌, ◌==◌, Bool, true, false, if◌then◌else◌, List, [], ◌∷◌, ◌++◌, Option, Some, None, option_map, refl, sym, ap, subst, ◌∙◌}
 use Rattle.std.specs.Prelude.{slice_get, remove}
-use Rattle.fr_base.specs.declared.name.ObjNo.{ObjNo}
-use Rattle.heap_partition.specs.declared.value.Cell.{Cell}
-use Rattle.journal.specs.View.{EntryView}
-use Rattle.journal.specs.declared.act.Act.TheVariants as act
-use Rattle.thread_state.specs.View.{ThreadState}
-use Rattle.server_msgs.specs.declared.message.Message.{Message}
-use Rattle.server_msgs.specs.declared.message.Message.TheVariants.{Fetch, Fetched}
-use Rattle.server_model.specs.Servers.{Sent, Rest, Server}
-use Rattle.server_model.specs.Work.{Work, sent_from, send, receive, note, look_object, then_some}
-use Rattle.server_model.specs.Events.{does, begin_work, left_by, deliver_message, received}
-use Rattle.server_model.specs.Clusters.{with_server}
-use Rattle.heap_law.specs.Things.{Thing, things_at, copy_things, message_things, waiting_things, leaving_things, server_things}
+use Rattle.path_law.specs.Below.fr_base.declared.name.ObjNo.{ObjNo}
+use Rattle.path_law.specs.Below.heap_partition.declared.value.Cell.{Cell}
+use Rattle.path_law.specs.Below.journal.View.{EntryView}
+use Rattle.path_law.specs.Below.journal.declared.act.Act.TheVariants as act
+use Rattle.path_law.specs.Below.thread_state.View.{ThreadState}
+use Rattle.path_law.specs.Below.server_msgs.declared.message.Message.{Message}
+use Rattle.path_law.specs.Below.server_msgs.declared.message.Message.TheVariants.{Fetch, Fetched}
+use Rattle.path_law.specs.Below.server_model.Servers.{Sent, Rest, Server}
+use Rattle.path_law.specs.Below.server_model.Work.{Work, sent_from, send, receive, note, look_object, then_some}
+use Rattle.path_law.specs.Below.server_model.Events.{does, begin_work, left_by, deliver_message, received}
+use Rattle.path_law.specs.Below.server_model.Clusters.{with_server}
+use Rattle.path_law.specs.Below.heap_law.Things.{Thing, things_at, copy_things, message_things, waiting_things, leaving_things, server_things}
 use Rattle.path_law.proofs.Sole.{some_is}
 use Rattle.word_law.specs.Unmoved.{Unmoved, FetchesUnmoved}
 use Rattle.word_law.proofs.Unseen.{Unseen, Alike, alike_itself, alike_unseen, alike_join, unseen_one, unseen_join, unseen_none, server_alike, servers_alike, unmoved, Acted, acted}

@@ -1,19 +1,19 @@
 -- Where what stands at each location leads alike, places lead alike, and so threads have taken the same.
 use Rattle.std.proofs.Common.{◌≡◌, ℕ, zero, suc, List, [], ◌∷◌, ◌++◌, map, Option, Some, None, refl, sym, ap, subst, ◌∙◌}
 use Rattle.std.specs.Prelude.{⊤, slice_get}
-use Rattle.fr_base.specs.declared.name.ObjNo.{ObjNo}
-use Rattle.fr_base.specs.declared.instruction.Instr.{Instr}
-use Rattle.fr_base.specs.declared.instruction.Instr.TheVariants as instr
-use Rattle.fr_base.specs.declared.place.Lval.{Lval}
-use Rattle.thread_state.specs.declared.phase.Phase.{Phase}
-use Rattle.heap_partition.specs.declared.value.Owned.TheVariants as owned
-use Rattle.thread_state.specs.declared.phase.Phase.TheVariants as phase
-use Rattle.thread_state.specs.declared.value.Value.{Value}
-use Rattle.thread_state.specs.declared.value.Value.TheVariants as value
-use Rattle.heap_law.specs.Things.{Location, at_slot, at_temp, in_cell}
-use Rattle.heap_law.specs.Follow.{Standing, Ground, value_in, value_behind, leads, locate, place_at}
-use Rattle.heap_law.specs.Stale.{holder_of, one_star_less, lent_place, with_place, lent_places}
-use Rattle.heap_law.specs.Sight.{Pointer, taken_object, taken_of, taken_pointers}
+use Rattle.path_law.specs.Below.fr_base.declared.name.ObjNo.{ObjNo}
+use Rattle.path_law.specs.Below.fr_base.declared.instruction.Instr.{Instr}
+use Rattle.path_law.specs.Below.fr_base.declared.instruction.Instr.TheVariants as instr
+use Rattle.path_law.specs.Below.fr_base.declared.place.Lval.{Lval}
+use Rattle.path_law.specs.Below.thread_state.declared.phase.Phase.{Phase}
+use Rattle.path_law.specs.Below.heap_partition.declared.value.Owned.TheVariants as owned
+use Rattle.path_law.specs.Below.thread_state.declared.phase.Phase.TheVariants as phase
+use Rattle.path_law.specs.Below.thread_state.declared.value.Value.{Value}
+use Rattle.path_law.specs.Below.thread_state.declared.value.Value.TheVariants as value
+use Rattle.path_law.specs.Below.heap_law.Things.{Location, at_slot, at_temp, in_cell}
+use Rattle.path_law.specs.Below.heap_law.Follow.{Standing, Ground, value_in, value_behind, leads, locate, place_at}
+use Rattle.path_law.specs.Below.heap_law.Stale.{holder_of, one_star_less, lent_place, with_place, lent_places}
+use Rattle.path_law.specs.Below.heap_law.Sight.{Pointer, taken_object, taken_of, taken_pointers}
 use Rattle.path_law.proofs.Sole.{some_is}
 use Rattle.word_law.specs.Reworded.{taken_word, Turn, turn_of}
 

@@ -1,13 +1,13 @@
 -- The words of objects go on where one changes: over two states whose pointers, stale places and cells are the same but for that.
 use Rattle.std.proofs.Common.{◌≡◌, ◌⊎◌, inl, inr, ⊎_elim, ℕ, Bool, if◌then◌else◌, Option, Some, None, refl, sym, ap, subst, ◌∙◌}
-use Rattle.fr_base.specs.declared.name.ObjNo.{ObjNo}
-use Rattle.fr_store.proofs.Keys.{object_cases}
-use Rattle.heap_partition.specs.declared.value.Cell.{Cell}
-use Rattle.heap_law.specs.Names.{Among, same_object}
-use Rattle.heap_law.specs.Things.{Location, lies}
-use Rattle.heap_law.specs.Sight.{Sight, Pointer}
-use Rattle.heap_law.specs.Words.{all_pointers, IsStale, Fresh, LeadsTo, HasWords}
-use Rattle.heap_law.proofs.Words.{itself}
+use Rattle.path_law.specs.Below.fr_base.declared.name.ObjNo.{ObjNo}
+use Rattle.path_law.proofs.Below.fr_store.Keys.{object_cases}
+use Rattle.path_law.specs.Below.heap_partition.declared.value.Cell.{Cell}
+use Rattle.path_law.specs.Below.heap_law.Names.{Among, same_object}
+use Rattle.path_law.specs.Below.heap_law.Things.{Location, lies}
+use Rattle.path_law.specs.Below.heap_law.Sight.{Sight, Pointer}
+use Rattle.path_law.specs.Below.heap_law.Words.{all_pointers, IsStale, Fresh, LeadsTo, HasWords}
+use Rattle.path_law.proofs.Below.heap_law.Words.{itself}
 use Rattle.path_law.specs.Pointing.{Above}
 use Rattle.word_law.specs.WordsAfter.{WordsAfter}
 

@@ -1,21 +1,21 @@
 -- Where one pointer gets another word, places lead where they led, and what is stale was so or stands above that pointer.
 use Rattle.std.proofs.Common.{◌≡◌, ◌⊎◌, inl, inr, ⊎_elim, ℕ, Bool, true, false, List, [], ◌∷◌, Some, refl, sym, ap, subst, ◌∙◌}
-use Rattle.fr_base.specs.declared.name.ObjNo.{ObjNo}
-use Rattle.fr_base.specs.declared.place.Lval.{Lval}
-use Rattle.heap_partition.specs.declared.value.BoxPtr.{BoxPtr}
-use Rattle.heap_partition.specs.declared.value.Owned.TheVariants as owned
-use Rattle.mut_borrow.specs.declared.mutable.MutRef.{MutRef}
-use Rattle.mut_borrow.specs.Refs.{changed}
-use Rattle.thread_state.specs.declared.value.Value.{Value}
-use Rattle.thread_state.specs.declared.value.Value.TheVariants as value
-use Rattle.server_model.specs.Servers.{Cluster}
-use Rattle.server_model.specs.Places.{with_word, took}
-use Rattle.heap_law.specs.Names.{Among}
-use Rattle.heap_law.specs.Things.{Location, in_cell, Thing, borrows, things_of}
-use Rattle.heap_law.specs.Follow.{Ground, value_in, leads}
-use Rattle.heap_law.specs.Stale.{same_location, is_among, Reference, references, holder_of, is_held_at, lent_places, changed_above, stale_above, taken_above}
-use Rattle.heap_law.specs.Sight.{taken_pointers, sight}
-use Rattle.heap_law.specs.Words.{IsStale}
+use Rattle.path_law.specs.Below.fr_base.declared.name.ObjNo.{ObjNo}
+use Rattle.path_law.specs.Below.fr_base.declared.place.Lval.{Lval}
+use Rattle.path_law.specs.Below.heap_partition.declared.value.BoxPtr.{BoxPtr}
+use Rattle.path_law.specs.Below.heap_partition.declared.value.Owned.TheVariants as owned
+use Rattle.path_law.specs.Below.mut_borrow.declared.mutable.MutRef.{MutRef}
+use Rattle.path_law.specs.Below.mut_borrow.Refs.{changed}
+use Rattle.path_law.specs.Below.thread_state.declared.value.Value.{Value}
+use Rattle.path_law.specs.Below.thread_state.declared.value.Value.TheVariants as value
+use Rattle.path_law.specs.Below.server_model.Servers.{Cluster}
+use Rattle.path_law.specs.Below.server_model.Places.{with_word, took}
+use Rattle.path_law.specs.Below.heap_law.Names.{Among}
+use Rattle.path_law.specs.Below.heap_law.Things.{Location, in_cell, Thing, borrows, things_of}
+use Rattle.path_law.specs.Below.heap_law.Follow.{Ground, value_in, leads}
+use Rattle.path_law.specs.Below.heap_law.Stale.{same_location, is_among, Reference, references, holder_of, is_held_at, lent_places, changed_above, stale_above, taken_above}
+use Rattle.path_law.specs.Below.heap_law.Sight.{taken_pointers, sight}
+use Rattle.path_law.specs.Below.heap_law.Words.{IsStale}
 use Rattle.path_law.specs.Pointing.{Above, made_from, made_below}
 use Rattle.path_law.proofs.Sole.{some_is}
 use Rattle.path_law.proofs.Contained.{location_itself, reference_there}

@@ -1,19 +1,19 @@
 -- Pointers that stand at no location, by the things that have them.
 use Rattle.std.proofs.Common.{◌≡◌, inl, inr, ⊎_elim, ℕ, true, List, [], ◌∷◌, Some, None, refl, sym, ap, ◌∙◌}
-use Rattle.fr_base.specs.declared.name.ObjNo.{ObjNo}
-use Rattle.heap_partition.specs.declared.value.Owned.{Owned}
-use Rattle.heap_partition.specs.declared.value.Owned.TheVariants as owned
-use Rattle.server_msgs.specs.declared.message.Message.{Message}
-use Rattle.server_msgs.specs.declared.message.Message.TheVariants.{Drop}
-use Rattle.server_model.specs.Servers.{Cluster}
-use Rattle.heap_law.specs.Names.{Among, same_object}
-use Rattle.heap_law.specs.Things.{Location, at_slot, at_temp, in_cell, Spot, in_slot, in_temp, as_gift, as_content, as_result, in_hand, Thing, holds, shares, borrows, lies, flies, sent, things_of}
-use Rattle.heap_law.specs.Weights.{cells}
-use Rattle.heap_law.specs.Placing.{standing_of, standing_in}
-use Rattle.heap_law.specs.Sight.{Pointer, pointer_in, location_of, dropped_pointer, pointers_of, pointers_in}
-use Rattle.heap_law.proofs.Bags.{among_split}
-use Rattle.heap_law.proofs.Names.{one_not}
-use Rattle.heap_law.proofs.Words.{named}
+use Rattle.path_law.specs.Below.fr_base.declared.name.ObjNo.{ObjNo}
+use Rattle.path_law.specs.Below.heap_partition.declared.value.Owned.{Owned}
+use Rattle.path_law.specs.Below.heap_partition.declared.value.Owned.TheVariants as owned
+use Rattle.path_law.specs.Below.server_msgs.declared.message.Message.{Message}
+use Rattle.path_law.specs.Below.server_msgs.declared.message.Message.TheVariants.{Drop}
+use Rattle.path_law.specs.Below.server_model.Servers.{Cluster}
+use Rattle.path_law.specs.Below.heap_law.Names.{Among, same_object}
+use Rattle.path_law.specs.Below.heap_law.Things.{Location, at_slot, at_temp, in_cell, Spot, in_slot, in_temp, as_gift, as_content, as_result, in_hand, Thing, holds, shares, borrows, lies, flies, sent, things_of}
+use Rattle.path_law.specs.Below.heap_law.Weights.{cells}
+use Rattle.path_law.specs.Below.heap_law.Placing.{standing_of, standing_in}
+use Rattle.path_law.specs.Below.heap_law.Sight.{Pointer, pointer_in, location_of, dropped_pointer, pointers_of, pointers_in}
+use Rattle.path_law.proofs.Below.heap_law.Bags.{among_split}
+use Rattle.path_law.proofs.Below.heap_law.Names.{one_not}
+use Rattle.path_law.proofs.Below.heap_law.Words.{named}
 use Rattle.word_law.specs.Reworded.{is_loose}
 use Rattle.word_law.proofs.Standing.{of_thing, pointers_among, standing_among, stands_of}
 

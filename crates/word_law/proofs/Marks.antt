@@ -1,11 +1,11 @@
 -- The mark of a write on a mutable reference in a slot: the clusters with the thread put back are the same but for it.
 use Rattle.std.proofs.Common.{◌≡◌, true, false, Some, refl, ap, subst}
 use Rattle.std.specs.Prelude.{slice_set}
-use Rattle.mut_borrow.specs.declared.mutable.MutRef.{MutRef}
-use Rattle.mut_borrow.specs.Refs.{changed}
-use Rattle.thread_state.specs.declared.value.Value.TheVariants as value
-use Rattle.server_model.specs.Places.{note_slot, note_write}
-use Rattle.heap_law.specs.Things.{thread_things, things_of}
+use Rattle.path_law.specs.Below.mut_borrow.declared.mutable.MutRef.{MutRef}
+use Rattle.path_law.specs.Below.mut_borrow.Refs.{changed}
+use Rattle.path_law.specs.Below.thread_state.declared.value.Value.TheVariants as value
+use Rattle.path_law.specs.Below.server_model.Places.{note_slot, note_write}
+use Rattle.path_law.specs.Below.heap_law.Things.{thread_things, things_of}
 use Rattle.word_law.specs.Reworded.{a_reference}
 use Rattle.word_law.specs.PutBack.{put_in, MarkRewords}
 use Rattle.word_law.proofs.Put.{Split, put_split}

@@ -2,18 +2,18 @@
 use Rattle.std.proofs.Common.{◌≡◌, inl, inr, ℕ, ◌+◌, ◌≤◌, ◌==◌, ◌&&◌, ◌||◌, Bool, true, false, List, [], ◌∷◌, Some, refl, sym, ap, subst, ◌∙◌, arith}
 use Rattle.std.specs.Prelude.{nat_lt}
 use Rattle.std.proofs.lemmas.Bool.Decides.{nat_tests}
-use Rattle.fr_base.specs.declared.name.ObjNo.{ObjNo}
-use Rattle.global_addr.specs.Words.{colour_of, server_of, address_of, next_word}
-use Rattle.heap_partition.specs.declared.value.Cell.{Cell}
-use Rattle.server_model.specs.Servers.{Cluster}
-use Rattle.heap_law.specs.Names.{Among, one}
-use Rattle.heap_law.specs.Things.{Thing, lies, vacant, retired, things_of}
-use Rattle.heap_law.specs.Balances.{AtMostOne}
-use Rattle.heap_law.specs.Weights.{states}
-use Rattle.heap_law.specs.Sight.{Pointer, word_of_object, colour_up_to, is_spot, is_issued_at, is_issued, sight, issued}
-use Rattle.heap_law.specs.Words.{HasWords, LeadsTo, Fresh}
-use Rattle.heap_law.proofs.Names.{and_left, and_right, same_number}
-use Rattle.heap_law.proofs.Words.{words_law}
+use Rattle.path_law.specs.Below.fr_base.declared.name.ObjNo.{ObjNo}
+use Rattle.path_law.specs.Below.global_addr.Words.{colour_of, server_of, address_of, next_word}
+use Rattle.path_law.specs.Below.heap_partition.declared.value.Cell.{Cell}
+use Rattle.path_law.specs.Below.server_model.Servers.{Cluster}
+use Rattle.path_law.specs.Below.heap_law.Names.{Among, one}
+use Rattle.path_law.specs.Below.heap_law.Things.{Thing, lies, vacant, retired, things_of}
+use Rattle.path_law.specs.Below.heap_law.Balances.{AtMostOne}
+use Rattle.path_law.specs.Below.heap_law.Weights.{states}
+use Rattle.path_law.specs.Below.heap_law.Sight.{Pointer, word_of_object, colour_up_to, is_spot, is_issued_at, is_issued, sight, issued}
+use Rattle.path_law.specs.Below.heap_law.Words.{HasWords, LeadsTo, Fresh}
+use Rattle.path_law.proofs.Below.heap_law.Names.{and_left, and_right, same_number}
+use Rattle.path_law.proofs.Below.heap_law.Words.{words_law}
 use Rattle.path_law.proofs.InState.{only_one}
 use Rattle.word_law.specs.Reworded.{LiesThere}
 use Rattle.word_law.specs.WordsAfter.{NewWordsGoOn}

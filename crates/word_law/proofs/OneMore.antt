@@ -1,18 +1,18 @@
 -- A pointer more, with its object's word, leaves the words.
 use Rattle.std.proofs.Common.{◌≡◌, ◌≢◌, ◌⊎◌, inl, inr, ⊎_elim, ℕ, true, Option, Some, None, refl, sym, ap, subst, ◌∙◌}
-use Rattle.heap_partition.specs.declared.value.Cell.{Cell}
-use Rattle.mut_borrow.specs.declared.mutable.MutRef.{MutRef}
-use Rattle.server_model.specs.Servers.{Cluster}
-use Rattle.heap_law.specs.Names.{Among, other}
-use Rattle.heap_law.specs.Things.{Location, lies, things_of}
-use Rattle.heap_law.specs.Follow.{Ground, value_in, value_behind}
-use Rattle.heap_law.specs.Stale.{Reference, references, is_held_at}
-use Rattle.heap_law.specs.Sight.{Pointer, sight}
-use Rattle.heap_law.specs.Placing.{is_first, other_first, standing_pointers}
-use Rattle.heap_law.specs.Coherent.{Holds, first_at_holder}
-use Rattle.heap_law.specs.Words.{all_pointers, IsStale, Fresh, HasWords, LeadsTo}
-use Rattle.heap_law.specs.Dirty.{DirtyAlone, PastWords}
-use Rattle.heap_law.proofs.Words.{none_at, none_all}
+use Rattle.path_law.specs.Below.heap_partition.declared.value.Cell.{Cell}
+use Rattle.path_law.specs.Below.mut_borrow.declared.mutable.MutRef.{MutRef}
+use Rattle.path_law.specs.Below.server_model.Servers.{Cluster}
+use Rattle.path_law.specs.Below.heap_law.Names.{Among, other}
+use Rattle.path_law.specs.Below.heap_law.Things.{Location, lies, things_of}
+use Rattle.path_law.specs.Below.heap_law.Follow.{Ground, value_in, value_behind}
+use Rattle.path_law.specs.Below.heap_law.Stale.{Reference, references, is_held_at}
+use Rattle.path_law.specs.Below.heap_law.Sight.{Pointer, sight}
+use Rattle.path_law.specs.Below.heap_law.Placing.{is_first, other_first, standing_pointers}
+use Rattle.path_law.specs.Below.heap_law.Coherent.{Holds, first_at_holder}
+use Rattle.path_law.specs.Below.heap_law.Words.{all_pointers, IsStale, Fresh, HasWords, LeadsTo}
+use Rattle.path_law.specs.Below.heap_law.Dirty.{DirtyAlone, PastWords}
+use Rattle.path_law.proofs.Below.heap_law.Words.{none_at, none_all}
 use Rattle.word_law.specs.Reworded.{HasPlaces}
 use Rattle.word_law.specs.Unmoved.{WordsStay}
 use Rattle.word_law.specs.OneMore.{IsClean, OneMore, OneMoreStays}

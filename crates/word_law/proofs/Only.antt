@@ -1,15 +1,15 @@
 -- Which pointers are the only ones to their objects that stand, aren't stale and aren't above them.
 use Rattle.std.proofs.Common.{◌≡◌, ◌⊎◌, inl, inr, ⊎_elim, true, Some, None, sym, ap, subst, ◌∙◌}
-use Rattle.mut_borrow.specs.declared.mutable.MutRef.{MutRef}
-use Rattle.thread_state.specs.declared.value.Value.TheVariants as value
-use Rattle.server_model.specs.Servers.{Cluster}
-use Rattle.heap_law.specs.Things.{Location, things_of}
-use Rattle.heap_law.specs.Follow.{value_in, leads}
-use Rattle.heap_law.specs.Stale.{Reference, holder_of, is_held_at}
-use Rattle.heap_law.specs.Sight.{Pointer, taken_pointers, sight}
-use Rattle.heap_law.specs.Placing.{standing_in}
-use Rattle.heap_law.specs.Words.{IsStale}
-use Rattle.heap_law.specs.Dirty.{IsAlone, DirtyAlone}
+use Rattle.path_law.specs.Below.mut_borrow.declared.mutable.MutRef.{MutRef}
+use Rattle.path_law.specs.Below.thread_state.declared.value.Value.TheVariants as value
+use Rattle.path_law.specs.Below.server_model.Servers.{Cluster}
+use Rattle.path_law.specs.Below.heap_law.Things.{Location, things_of}
+use Rattle.path_law.specs.Below.heap_law.Follow.{value_in, leads}
+use Rattle.path_law.specs.Below.heap_law.Stale.{Reference, holder_of, is_held_at}
+use Rattle.path_law.specs.Below.heap_law.Sight.{Pointer, taken_pointers, sight}
+use Rattle.path_law.specs.Below.heap_law.Placing.{standing_in}
+use Rattle.path_law.specs.Below.heap_law.Words.{IsStale}
+use Rattle.path_law.specs.Below.heap_law.Dirty.{IsAlone, DirtyAlone}
 use Rattle.path_law.specs.Pointing.{Above}
 use Rattle.path_law.proofs.Sole.{some_is}
 use Rattle.path_law.proofs.Origins.{among_first}

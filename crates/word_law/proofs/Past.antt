@@ -1,21 +1,21 @@
 -- Where one pointer gets another word, first words that were left are no words of today.
 use Rattle.std.proofs.Common.{◌≡◌, ◌≢◌, ◌⊎◌, inl, inr, ⊎_elim, ℕ, true, false, Option, Some, None, refl, sym, ap, subst, ◌∙◌}
-use Rattle.fr_base.specs.declared.name.ObjNo.{ObjNo}
-use Rattle.mut_borrow.specs.declared.mutable.MutRef.{MutRef}
-use Rattle.thread_state.specs.declared.value.Value.TheVariants as value
-use Rattle.server_model.specs.Servers.{Cluster}
-use Rattle.heap_law.specs.Names.{Among, other}
-use Rattle.heap_law.specs.Things.{Location, borrows, things_of}
-use Rattle.heap_law.specs.Follow.{Ground, value_in}
-use Rattle.heap_law.specs.Stale.{Reference, references, holder_of}
-use Rattle.heap_law.specs.Sight.{Pointer, pointers_in, taken_pointers, sight, issued}
-use Rattle.heap_law.specs.Placing.{words}
-use Rattle.heap_law.specs.Coherent.{Holds, are_issued}
-use Rattle.heap_law.specs.Words.{all_pointers, IsStale}
-use Rattle.heap_law.specs.Dirty.{PastWords}
-use Rattle.heap_law.proofs.Bags.{among_split}
-use Rattle.heap_law.proofs.Names.{right_none}
-use Rattle.heap_law.proofs.Words.{none_at}
+use Rattle.path_law.specs.Below.fr_base.declared.name.ObjNo.{ObjNo}
+use Rattle.path_law.specs.Below.mut_borrow.declared.mutable.MutRef.{MutRef}
+use Rattle.path_law.specs.Below.thread_state.declared.value.Value.TheVariants as value
+use Rattle.path_law.specs.Below.server_model.Servers.{Cluster}
+use Rattle.path_law.specs.Below.heap_law.Names.{Among, other}
+use Rattle.path_law.specs.Below.heap_law.Things.{Location, borrows, things_of}
+use Rattle.path_law.specs.Below.heap_law.Follow.{Ground, value_in}
+use Rattle.path_law.specs.Below.heap_law.Stale.{Reference, references, holder_of}
+use Rattle.path_law.specs.Below.heap_law.Sight.{Pointer, pointers_in, taken_pointers, sight, issued}
+use Rattle.path_law.specs.Below.heap_law.Placing.{words}
+use Rattle.path_law.specs.Below.heap_law.Coherent.{Holds, are_issued}
+use Rattle.path_law.specs.Below.heap_law.Words.{all_pointers, IsStale}
+use Rattle.path_law.specs.Below.heap_law.Dirty.{PastWords}
+use Rattle.path_law.proofs.Below.heap_law.Bags.{among_split}
+use Rattle.path_law.proofs.Below.heap_law.Names.{right_none}
+use Rattle.path_law.proofs.Below.heap_law.Words.{none_at}
 use Rattle.path_law.proofs.Shown.{none_else}
 use Rattle.path_law.proofs.Contained.{reference_there}
 use Rattle.word_law.specs.WordsAfter.{Rewrites, IsNoFirst, AreNoFirsts, PastGoesOn}

@@ -2,11 +2,11 @@
 use Rattle.std.proofs.Common.{◌≡◌, ℕ, ◌+◌, ◌==◌, Bool, true, false, if◌then◌else◌, List, [], ◌∷◌, ◌++◌, Some, IsSome, refl, sym, ap, subst, ◌∙◌}
 use Rattle.std.specs.Prelude.{length}
 use Rattle.std.proofs.lemmas.List.{append_assoc}
-use Rattle.thread_state.specs.View.{ThreadState}
-use Rattle.server_model.specs.Servers.{Rest, Server, Cluster, server_at}
-use Rattle.server_model.specs.Work.{Hand, thread_in, set_thread}
-use Rattle.server_model.specs.Clusters.{with_server}
-use Rattle.heap_law.specs.Things.{Thing, counts, things_at, thread_things, standing_things, partition_things, copy_things, mutex_things, task_things, waiting_things, leaving_things, server_things, servers_things, things_of}
+use Rattle.path_law.specs.Below.thread_state.View.{ThreadState}
+use Rattle.path_law.specs.Below.server_model.Servers.{Rest, Server, Cluster, server_at}
+use Rattle.path_law.specs.Below.server_model.Work.{Hand, thread_in, set_thread}
+use Rattle.path_law.specs.Below.server_model.Clusters.{with_server}
+use Rattle.path_law.specs.Below.heap_law.Things.{Thing, counts, things_at, thread_things, standing_things, partition_things, copy_things, mutex_things, task_things, waiting_things, leaving_things, server_things, servers_things, things_of}
 use Rattle.word_law.specs.PutBack.{put_in, StandsHere}
 
 -- the same on both sides of what differs

@@ -1,25 +1,25 @@
 -- A pointer that stands at a location is told by what stands there, and the other way round.
 use Rattle.std.proofs.Common.{◌≡◌, inl, inr, ⊎_elim, ℕ, ◌+◌, ◌≤◌, Bool, true, false, if◌then◌else◌, List, [], ◌∷◌, ◌++◌, Option, Some, None, refl, sym, ap, subst, ◌∙◌, arith}
-use Rattle.fr_base.specs.declared.name.ObjNo.{ObjNo}
-use Rattle.heap_partition.specs.declared.value.Cell.{Cell}
-use Rattle.heap_partition.specs.declared.value.Owned.{Owned}
-use Rattle.heap_partition.specs.declared.value.Owned.TheVariants as owned
-use Rattle.mut_borrow.specs.declared.mutable.MutRef.{MutRef}
-use Rattle.thread_state.specs.declared.value.Value.{Value}
-use Rattle.thread_state.specs.declared.value.Value.TheVariants as value
-use Rattle.server_msgs.specs.declared.message.Message.{Message}
-use Rattle.server_msgs.specs.declared.message.Message.TheVariants.{Drop}
-use Rattle.server_model.specs.Servers.{Cluster}
-use Rattle.heap_law.specs.Names.{tot, one, Among, same_object}
-use Rattle.heap_law.specs.Things.{Location, at_slot, at_temp, in_cell, Spot, in_slot, in_temp, as_gift, as_content, as_result, in_hand, Thing, holds, shares, borrows, lies, flies, sent, stands, things_at, slot_things, temp_things, gift_things, walk_things, things_of}
-use Rattle.heap_law.specs.Follow.{Standing, thread_at, cells_in, cell_of, slot_of, temp_of, value_of, value_in}
-use Rattle.heap_law.specs.Weights.{cells}
-use Rattle.heap_law.specs.Placing.{standing_of, standing_in}
-use Rattle.heap_law.specs.Sight.{sight, Pointer, pointer_in, location_of, dropped_pointer, pointers_of, pointers_in}
-use Rattle.heap_law.proofs.Words.{itself, named}
-use Rattle.mut_borrow.specs.declared.shared.SharedRef.{SharedRef}
+use Rattle.path_law.specs.Below.fr_base.declared.name.ObjNo.{ObjNo}
+use Rattle.path_law.specs.Below.heap_partition.declared.value.Cell.{Cell}
+use Rattle.path_law.specs.Below.heap_partition.declared.value.Owned.{Owned}
+use Rattle.path_law.specs.Below.heap_partition.declared.value.Owned.TheVariants as owned
+use Rattle.path_law.specs.Below.mut_borrow.declared.mutable.MutRef.{MutRef}
+use Rattle.path_law.specs.Below.thread_state.declared.value.Value.{Value}
+use Rattle.path_law.specs.Below.thread_state.declared.value.Value.TheVariants as value
+use Rattle.path_law.specs.Below.server_msgs.declared.message.Message.{Message}
+use Rattle.path_law.specs.Below.server_msgs.declared.message.Message.TheVariants.{Drop}
+use Rattle.path_law.specs.Below.server_model.Servers.{Cluster}
+use Rattle.path_law.specs.Below.heap_law.Names.{tot, one, Among, same_object}
+use Rattle.path_law.specs.Below.heap_law.Things.{Location, at_slot, at_temp, in_cell, Spot, in_slot, in_temp, as_gift, as_content, as_result, in_hand, Thing, holds, shares, borrows, lies, flies, sent, stands, things_at, slot_things, temp_things, gift_things, walk_things, things_of}
+use Rattle.path_law.specs.Below.heap_law.Follow.{Standing, thread_at, cells_in, cell_of, slot_of, temp_of, value_of, value_in}
+use Rattle.path_law.specs.Below.heap_law.Weights.{cells}
+use Rattle.path_law.specs.Below.heap_law.Placing.{standing_of, standing_in}
+use Rattle.path_law.specs.Below.heap_law.Sight.{sight, Pointer, pointer_in, location_of, dropped_pointer, pointers_of, pointers_in}
+use Rattle.path_law.proofs.Below.heap_law.Words.{itself, named}
+use Rattle.path_law.specs.Below.mut_borrow.declared.shared.SharedRef.{SharedRef}
 use Rattle.path_law.proofs.Below.type_law.Branches.{found}
-use Rattle.heap_law.proofs.Bags.{among_split}
+use Rattle.path_law.proofs.Below.heap_law.Bags.{among_split}
 use Rattle.path_law.proofs.Sole.{some_is}
 use Rattle.path_law.proofs.Origins.{placed, Origin, of_thread, of_none, origin, Listed, in_slots, borrow_value, share_value, own_value, among_first, among_second}
 use Rattle.path_law.proofs.Contained.{among_thread, listed_in, servers_contain}

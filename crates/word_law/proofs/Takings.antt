@@ -1,23 +1,23 @@
 -- What words see of a value, and who has taken an object for a mutable borrow.
 use Rattle.std.proofs.Common.{◌≡◌, inl, inr, ⊎_elim, ℕ, Bool, true, false, ◌||◌, List, [], ◌∷◌, ◌++◌, Option, Some, None, refl, sym, ap, subst, ◌∙◌}
 use Rattle.std.specs.Prelude.{slice_get}
-use Rattle.fr_base.specs.declared.instruction.Instr.{Instr}
-use Rattle.fr_base.specs.declared.instruction.Instr.TheVariants as instr
-use Rattle.heap_partition.specs.declared.value.BoxPtr.{BoxPtr}
-use Rattle.heap_partition.specs.declared.value.Owned.TheVariants as owned
-use Rattle.mut_borrow.specs.declared.mutable.MutRef.{MutRef}
-use Rattle.thread_state.specs.View.{ThreadState}
-use Rattle.thread_state.specs.declared.phase.Phase.{Phase}
-use Rattle.thread_state.specs.declared.phase.Phase.TheVariants as phase
-use Rattle.thread_state.specs.declared.value.Value.{Value}
-use Rattle.thread_state.specs.declared.value.Value.TheVariants as value
-use Rattle.heap_law.specs.Names.{Among}
-use Rattle.heap_law.specs.Things.{Location, at_slot, at_temp, in_cell}
-use Rattle.heap_law.specs.Follow.{Ground, Standing, leads, place_at}
-use Rattle.heap_law.specs.Stale.{same_location, is_among, one_star_less, lent_place, lent_places, with_place}
-use Rattle.heap_law.specs.Sight.{Pointer, taken_object, taken_of, taken_pointers}
-use Rattle.heap_law.specs.Placing.{is_first}
-use Rattle.heap_law.proofs.Bags.{among_split}
+use Rattle.path_law.specs.Below.fr_base.declared.instruction.Instr.{Instr}
+use Rattle.path_law.specs.Below.fr_base.declared.instruction.Instr.TheVariants as instr
+use Rattle.path_law.specs.Below.heap_partition.declared.value.BoxPtr.{BoxPtr}
+use Rattle.path_law.specs.Below.heap_partition.declared.value.Owned.TheVariants as owned
+use Rattle.path_law.specs.Below.mut_borrow.declared.mutable.MutRef.{MutRef}
+use Rattle.path_law.specs.Below.thread_state.View.{ThreadState}
+use Rattle.path_law.specs.Below.thread_state.declared.phase.Phase.{Phase}
+use Rattle.path_law.specs.Below.thread_state.declared.phase.Phase.TheVariants as phase
+use Rattle.path_law.specs.Below.thread_state.declared.value.Value.{Value}
+use Rattle.path_law.specs.Below.thread_state.declared.value.Value.TheVariants as value
+use Rattle.path_law.specs.Below.heap_law.Names.{Among}
+use Rattle.path_law.specs.Below.heap_law.Things.{Location, at_slot, at_temp, in_cell}
+use Rattle.path_law.specs.Below.heap_law.Follow.{Ground, Standing, leads, place_at}
+use Rattle.path_law.specs.Below.heap_law.Stale.{same_location, is_among, one_star_less, lent_place, lent_places, with_place}
+use Rattle.path_law.specs.Below.heap_law.Sight.{Pointer, taken_object, taken_of, taken_pointers}
+use Rattle.path_law.specs.Below.heap_law.Placing.{is_first}
+use Rattle.path_law.proofs.Below.heap_law.Bags.{among_split}
 use Rattle.path_law.proofs.Origins.{among_first, among_second}
 use Rattle.word_law.specs.Unmoved.{pointing, owning, seen_at, Taking, taking_by, with_taking, taking_of, takings}
 use Rattle.word_law.proofs.Standing.{pointer_at}

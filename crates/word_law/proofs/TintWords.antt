@@ -1,18 +1,18 @@
 -- A tint of what stands in a slot leaves each object a word.
 use Rattle.std.proofs.Common.{◌≡◌, ◌≢◌, inl, ⊎_elim, ℕ, true, false, Some, refl, sym, ap, subst, ◌∙◌}
-use Rattle.global_addr.specs.Words.{next_word}
-use Rattle.heap_partition.specs.declared.value.BoxPtr.{BoxPtr}
-use Rattle.heap_partition.specs.declared.value.Owned.TheVariants as owned
-use Rattle.mut_borrow.specs.declared.mutable.MutRef.{MutRef}
-use Rattle.thread_state.specs.declared.value.Value.{Value}
-use Rattle.thread_state.specs.declared.value.Value.TheVariants as value
-use Rattle.server_model.specs.Servers.{Cluster}
-use Rattle.server_model.specs.Places.{pointer_of, with_word}
-use Rattle.heap_law.specs.Names.{Among}
-use Rattle.heap_law.specs.Things.{Location, at_slot, borrows, things_of}
-use Rattle.heap_law.specs.Follow.{value_in}
-use Rattle.heap_law.specs.Sight.{pointers_in, taken_pointers, sight, issued}
-use Rattle.heap_law.specs.Words.{all_pointers, IsStale, LeadsTo}
+use Rattle.path_law.specs.Below.global_addr.Words.{next_word}
+use Rattle.path_law.specs.Below.heap_partition.declared.value.BoxPtr.{BoxPtr}
+use Rattle.path_law.specs.Below.heap_partition.declared.value.Owned.TheVariants as owned
+use Rattle.path_law.specs.Below.mut_borrow.declared.mutable.MutRef.{MutRef}
+use Rattle.path_law.specs.Below.thread_state.declared.value.Value.{Value}
+use Rattle.path_law.specs.Below.thread_state.declared.value.Value.TheVariants as value
+use Rattle.path_law.specs.Below.server_model.Servers.{Cluster}
+use Rattle.path_law.specs.Below.server_model.Places.{pointer_of, with_word}
+use Rattle.path_law.specs.Below.heap_law.Names.{Among}
+use Rattle.path_law.specs.Below.heap_law.Things.{Location, at_slot, borrows, things_of}
+use Rattle.path_law.specs.Below.heap_law.Follow.{value_in}
+use Rattle.path_law.specs.Below.heap_law.Sight.{pointers_in, taken_pointers, sight, issued}
+use Rattle.path_law.specs.Below.heap_law.Words.{all_pointers, IsStale, LeadsTo}
 use Rattle.path_law.proofs.Sole.{some_is}
 use Rattle.path_law.proofs.Origins.{among_first}
 use Rattle.word_law.specs.WordsAfter.{Rewrites}

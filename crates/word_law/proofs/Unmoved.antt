@@ -1,22 +1,22 @@
 -- Where nothing changes that words see, the words stay.
 use Rattle.std.proofs.Common.{◌≡◌, ◌⊎◌, inl, inr, ⊎_elim, ℕ, zero, suc, true, [], Option, Some, None, refl, sym, ap, subst, ◌∙◌}
-use Rattle.fr_base.specs.declared.name.ObjNo.{ObjNo}
-use Rattle.fr_base.specs.declared.place.Lval.{Lval}
-use Rattle.heap_partition.specs.declared.value.Cell.{Cell}
-use Rattle.mut_borrow.specs.declared.mutable.MutRef.{MutRef}
-use Rattle.server_model.specs.Servers.{Cluster}
-use Rattle.thread_state.specs.declared.value.Value.TheVariants as value
-use Rattle.heap_law.specs.Names.{Among, other}
-use Rattle.heap_law.specs.Things.{Location, at_slot, in_cell, lies, things_of}
-use Rattle.heap_law.specs.Follow.{Ground, value_in, value_behind, leads}
-use Rattle.heap_law.specs.Stale.{is_among, Reference, references, holder_of, is_held_at, with_place, one_star_less, lent_places, changed_above, stale_above, taken_above}
-use Rattle.heap_law.specs.Sight.{Pointer, pointers_in, taken_object, taken_pointers, sight}
-use Rattle.heap_law.specs.Placing.{is_first, other_first, standing_in, standing_pointers}
-use Rattle.heap_law.specs.Coherent.{Holds, first_at_holder}
-use Rattle.heap_law.specs.Words.{all_pointers, IsStale, Fresh, HasWords, LeadsTo}
-use Rattle.heap_law.specs.Dirty.{DirtyAlone, PastWords}
-use Rattle.heap_law.proofs.Bags.{among_split}
-use Rattle.heap_law.proofs.Words.{none_at, none_all}
+use Rattle.path_law.specs.Below.fr_base.declared.name.ObjNo.{ObjNo}
+use Rattle.path_law.specs.Below.fr_base.declared.place.Lval.{Lval}
+use Rattle.path_law.specs.Below.heap_partition.declared.value.Cell.{Cell}
+use Rattle.path_law.specs.Below.mut_borrow.declared.mutable.MutRef.{MutRef}
+use Rattle.path_law.specs.Below.server_model.Servers.{Cluster}
+use Rattle.path_law.specs.Below.thread_state.declared.value.Value.TheVariants as value
+use Rattle.path_law.specs.Below.heap_law.Names.{Among, other}
+use Rattle.path_law.specs.Below.heap_law.Things.{Location, at_slot, in_cell, lies, things_of}
+use Rattle.path_law.specs.Below.heap_law.Follow.{Ground, value_in, value_behind, leads}
+use Rattle.path_law.specs.Below.heap_law.Stale.{is_among, Reference, references, holder_of, is_held_at, with_place, one_star_less, lent_places, changed_above, stale_above, taken_above}
+use Rattle.path_law.specs.Below.heap_law.Sight.{Pointer, pointers_in, taken_object, taken_pointers, sight}
+use Rattle.path_law.specs.Below.heap_law.Placing.{is_first, other_first, standing_in, standing_pointers}
+use Rattle.path_law.specs.Below.heap_law.Coherent.{Holds, first_at_holder}
+use Rattle.path_law.specs.Below.heap_law.Words.{all_pointers, IsStale, Fresh, HasWords, LeadsTo}
+use Rattle.path_law.specs.Below.heap_law.Dirty.{DirtyAlone, PastWords}
+use Rattle.path_law.proofs.Below.heap_law.Bags.{among_split}
+use Rattle.path_law.proofs.Below.heap_law.Words.{none_at, none_all}
 use Rattle.path_law.proofs.Origins.{among_first, among_second}
 use Rattle.path_law.proofs.Contained.{reference_there}
 use Rattle.word_law.specs.Reworded.{HasPlaces}

@@ -1,21 +1,21 @@
 -- Lists of things that are the same but for what words don't see: copies, uses, counts, notes and messages that carry nothing.
 use Rattle.std.proofs.Common.{◌≡◌, inl, inr, ⊎_elim, ℕ, ◌+◌, ◌==◌, Bool, true, false, if◌then◌else◌, List, [], ◌∷◌, ◌++◌, length, Option, Some, None, option_map, refl, sym, ap, subst, ◌∙◌}
-use Rattle.fr_base.specs.declared.name.ObjNo.{ObjNo}
-use Rattle.heap_partition.specs.declared.value.Cell.{Cell}
-use Rattle.read_cache.specs.Cache.{Copy, can_evict, evict}
-use Rattle.journal.specs.View.{EntryView}
-use Rattle.journal.specs.declared.act.Act.TheVariants as act
-use Rattle.server_model.specs.declared.event.Event.{Event}
-use Rattle.thread_state.specs.View.{ThreadState}
-use Rattle.server_msgs.specs.declared.message.Message.{Message}
-use Rattle.server_model.specs.Servers.{Sent, Rest, Server, Cluster, server_at}
-use Rattle.server_model.specs.Work.{Work, note, with_cache, then_some}
-use Rattle.server_model.specs.Events.{enabled, does, begin_at, left_by}
-use Rattle.server_model.specs.Clusters.{with_server, done_at, act_at}
-use Rattle.heap_law.specs.Names.{Among}
-use Rattle.heap_law.specs.Things.{Thing, lies, counts, things_at, partition_things, copy_things, mutex_things, task_things, standing_things, waiting_things, leaving_things, server_things, servers_things, things_of}
-use Rattle.heap_law.specs.Follow.{threads_in, cells_in, value_in}
-use Rattle.heap_law.proofs.Bags.{among_split}
+use Rattle.path_law.specs.Below.fr_base.declared.name.ObjNo.{ObjNo}
+use Rattle.path_law.specs.Below.heap_partition.declared.value.Cell.{Cell}
+use Rattle.path_law.specs.Below.read_cache.Cache.{Copy, can_evict, evict}
+use Rattle.path_law.specs.Below.journal.View.{EntryView}
+use Rattle.path_law.specs.Below.journal.declared.act.Act.TheVariants as act
+use Rattle.path_law.specs.Below.server_model.declared.event.Event.{Event}
+use Rattle.path_law.specs.Below.thread_state.View.{ThreadState}
+use Rattle.path_law.specs.Below.server_msgs.declared.message.Message.{Message}
+use Rattle.path_law.specs.Below.server_model.Servers.{Sent, Rest, Server, Cluster, server_at}
+use Rattle.path_law.specs.Below.server_model.Work.{Work, note, with_cache, then_some}
+use Rattle.path_law.specs.Below.server_model.Events.{enabled, does, begin_at, left_by}
+use Rattle.path_law.specs.Below.server_model.Clusters.{with_server, done_at, act_at}
+use Rattle.path_law.specs.Below.heap_law.Names.{Among}
+use Rattle.path_law.specs.Below.heap_law.Things.{Thing, lies, counts, things_at, partition_things, copy_things, mutex_things, task_things, standing_things, waiting_things, leaving_things, server_things, servers_things, things_of}
+use Rattle.path_law.specs.Below.heap_law.Follow.{threads_in, cells_in, value_in}
+use Rattle.path_law.proofs.Below.heap_law.Bags.{among_split}
 use Rattle.path_law.proofs.Sole.{some_is}
 use Rattle.path_law.proofs.Origins.{threads_joined, among_first, among_second}
 use Rattle.word_law.specs.Reworded.{is_loose}

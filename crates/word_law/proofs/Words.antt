@@ -1,27 +1,27 @@
 -- The pointer that a thread may write through gets another word: whoever else points to the object stands above it, so the words go on.
 use Rattle.std.proofs.Common.{◌≡◌, ◌⊎◌, inl, inr, ⊎_elim, ℕ, ◌==◌, true, List, [], ◌∷◌, Option, Some, None, refl, sym, ap, subst, ◌∙◌}
-use Rattle.fr_base.specs.declared.name.ObjNo.{ObjNo}
-use Rattle.fr_base.specs.declared.instruction.Instr.{Instr}
-use Rattle.fr_base.specs.declared.instruction.Instr.TheVariants as instr
-use Rattle.heap_partition.specs.declared.value.Owned.TheVariants as owned
-use Rattle.mut_borrow.specs.declared.mutable.MutRef.{MutRef}
-use Rattle.thread_state.specs.declared.phase.Phase.{Phase}
-use Rattle.thread_state.specs.declared.phase.Phase.TheVariants as phase
-use Rattle.thread_state.specs.declared.value.Value.{Value}
-use Rattle.thread_state.specs.declared.value.Value.TheVariants as value
-use Rattle.server_model.specs.Servers.{Cluster}
+use Rattle.path_law.specs.Below.fr_base.declared.name.ObjNo.{ObjNo}
+use Rattle.path_law.specs.Below.fr_base.declared.instruction.Instr.{Instr}
+use Rattle.path_law.specs.Below.fr_base.declared.instruction.Instr.TheVariants as instr
+use Rattle.path_law.specs.Below.heap_partition.declared.value.Owned.TheVariants as owned
+use Rattle.path_law.specs.Below.mut_borrow.declared.mutable.MutRef.{MutRef}
+use Rattle.path_law.specs.Below.thread_state.declared.phase.Phase.{Phase}
+use Rattle.path_law.specs.Below.thread_state.declared.phase.Phase.TheVariants as phase
+use Rattle.path_law.specs.Below.thread_state.declared.value.Value.{Value}
+use Rattle.path_law.specs.Below.thread_state.declared.value.Value.TheVariants as value
+use Rattle.path_law.specs.Below.server_model.Servers.{Cluster}
 use Rattle.std.specs.Prelude.{slice_get}
-use Rattle.heap_law.specs.Names.{Among, same_object}
-use Rattle.heap_law.specs.Things.{Location, in_cell, things_of}
-use Rattle.heap_law.specs.Follow.{Standing, Ground, value_in, value_behind, leads, locate}
-use Rattle.heap_law.specs.Stale.{references, holder_of, changed_above, stale_above}
-use Rattle.heap_law.specs.Sight.{Pointer, pointers_in, taken_object, taken_of, taken_pointers, sight}
-use Rattle.heap_law.specs.Placing.{is_first, other_first, standing_pointers}
-use Rattle.heap_law.specs.Coherent.{Holds, first_at_holder}
-use Rattle.heap_law.specs.Words.{all_pointers, IsStale}
-use Rattle.heap_law.proofs.Bags.{among_split}
-use Rattle.heap_law.proofs.Words.{none_at, named}
-use Rattle.heap_law.proofs.Names.{and_right}
+use Rattle.path_law.specs.Below.heap_law.Names.{Among, same_object}
+use Rattle.path_law.specs.Below.heap_law.Things.{Location, in_cell, things_of}
+use Rattle.path_law.specs.Below.heap_law.Follow.{Standing, Ground, value_in, value_behind, leads, locate}
+use Rattle.path_law.specs.Below.heap_law.Stale.{references, holder_of, changed_above, stale_above}
+use Rattle.path_law.specs.Below.heap_law.Sight.{Pointer, pointers_in, taken_object, taken_of, taken_pointers, sight}
+use Rattle.path_law.specs.Below.heap_law.Placing.{is_first, other_first, standing_pointers}
+use Rattle.path_law.specs.Below.heap_law.Coherent.{Holds, first_at_holder}
+use Rattle.path_law.specs.Below.heap_law.Words.{all_pointers, IsStale}
+use Rattle.path_law.proofs.Below.heap_law.Bags.{among_split}
+use Rattle.path_law.proofs.Below.heap_law.Words.{none_at, named}
+use Rattle.path_law.proofs.Below.heap_law.Names.{and_right}
 use Rattle.path_law.specs.Pointing.{Above, made_from, made_below}
 use Rattle.path_law.proofs.Sole.{some_is}
 use Rattle.path_law.proofs.Shown.{none_else}

@@ -1,3 +1,13 @@
 -- What this law stands on, passed on to the laws above it, which need not list that then.
+pub use Rattle.path_law.specs.Below.fr_base as fr_base
+pub use Rattle.path_law.specs.Below.fr_sound as fr_sound
+pub use Rattle.path_law.specs.Below.global_addr as global_addr
+pub use Rattle.path_law.specs.Below.heap_law as heap_law
+pub use Rattle.path_law.specs.Below.heap_partition as heap_partition
+pub use Rattle.path_law.specs.Below.journal as journal
+pub use Rattle.path_law.specs.Below.mut_borrow as mut_borrow
+pub use Rattle.path_law.specs.Below.owner_box as owner_box
 pub use Rattle.path_law.specs as path_law
+pub use Rattle.path_law.specs.Below.server_model as server_model
+pub use Rattle.path_law.specs.Below.thread_state as thread_state
 pub use Rattle.path_law.specs.Below.type_law as type_law

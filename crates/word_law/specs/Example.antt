@@ -1,20 +1,20 @@
 -- A cluster to which the laws of words apply: main stands at an assignment through its box, and the box gets the next colour.
 use Rattle.std.specs.Prelude.{◌≡◌, [], ◌∷◌, Some}
-use Rattle.journal.specs.declared.act.Act.TheVariants as act
-use Rattle.global_addr.specs.Words.{word_of}
-use Rattle.thread_state.specs.View.{ThreadState}
-use Rattle.thread_state.specs.declared.value.Value.TheVariants as value
-use Rattle.server_model.specs.Servers.{Server, Cluster}
-use Rattle.server_model.specs.Work.{Hand}
-use Rattle.server_model.specs.NewWords.{issue_tint}
-use Rattle.server_model.specs.Places.{in_slot, put_word}
-use Rattle.heap_law.specs.Clusters.{object, box}
-use Rattle.heap_law.specs.Things.{at_slot}
-use Rattle.heap_law.specs.Sight.{sight}
-use Rattle.heap_law.specs.Words.{HasWords}
+use Rattle.path_law.specs.Below.journal.declared.act.Act.TheVariants as act
+use Rattle.path_law.specs.Below.global_addr.Words.{word_of}
+use Rattle.path_law.specs.Below.thread_state.View.{ThreadState}
+use Rattle.path_law.specs.Below.thread_state.declared.value.Value.TheVariants as value
+use Rattle.path_law.specs.Below.server_model.Servers.{Server, Cluster}
+use Rattle.path_law.specs.Below.server_model.Work.{Hand}
+use Rattle.path_law.specs.Below.server_model.NewWords.{issue_tint}
+use Rattle.path_law.specs.Below.server_model.Places.{in_slot, put_word}
+use Rattle.path_law.specs.Below.heap_law.Clusters.{object, box}
+use Rattle.path_law.specs.Below.heap_law.Things.{at_slot}
+use Rattle.path_law.specs.Below.heap_law.Sight.{sight}
+use Rattle.path_law.specs.Below.heap_law.Words.{HasWords}
 use Rattle.path_law.specs.Below.type_law.Typed.{boxed_main, boxed_server, boxed_cluster}
 use Rattle.word_law.specs.WordsAfter.{Rewrites}
-use Rattle.heap_law.specs.Dirty.{DirtyAlone}
+use Rattle.path_law.specs.Below.heap_law.Dirty.{DirtyAlone}
 use Rattle.word_law.specs.PutBack.{put_in, StandsHere}
 
 abbrev pub tinted_main : ThreadState

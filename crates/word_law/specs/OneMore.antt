@@ -1,15 +1,15 @@
 -- ONE POINTER MORE, which stands at no location (this project's rule): the old word of an object that leaves, or a new shared reference.
 use Rattle.std.specs.Prelude.{◌≡◌, ◌⊎◌, ℕ, Some, None, true}
-use Rattle.fr_base.specs.declared.name.ObjNo.{ObjNo}
-use Rattle.heap_partition.specs.declared.value.Cell.{Cell}
-use Rattle.server_model.specs.Servers.{Cluster}
-use Rattle.heap_law.specs.Names.{Among}
-use Rattle.heap_law.specs.Things.{Location, lies, things_of}
-use Rattle.heap_law.specs.Follow.{value_in}
-use Rattle.heap_law.specs.Stale.{Reference, references}
-use Rattle.heap_law.specs.Sight.{Pointer, pointers_in, sight}
-use Rattle.heap_law.specs.Placing.{standing_in}
-use Rattle.heap_law.specs.Words.{all_pointers, IsStale}
+use Rattle.path_law.specs.Below.fr_base.declared.name.ObjNo.{ObjNo}
+use Rattle.path_law.specs.Below.heap_partition.declared.value.Cell.{Cell}
+use Rattle.path_law.specs.Below.server_model.Servers.{Cluster}
+use Rattle.path_law.specs.Below.heap_law.Names.{Among}
+use Rattle.path_law.specs.Below.heap_law.Things.{Location, lies, things_of}
+use Rattle.path_law.specs.Below.heap_law.Follow.{value_in}
+use Rattle.path_law.specs.Below.heap_law.Stale.{Reference, references}
+use Rattle.path_law.specs.Below.heap_law.Sight.{Pointer, pointers_in, sight}
+use Rattle.path_law.specs.Below.heap_law.Placing.{standing_in}
+use Rattle.path_law.specs.Below.heap_law.Words.{all_pointers, IsStale}
 use Rattle.word_law.specs.Reworded.{HasPlaces, LiesThere}
 use Rattle.word_law.specs.Unmoved.{seen_at, Taking, takings, LeavesWords}
 

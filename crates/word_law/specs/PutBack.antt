@@ -1,27 +1,27 @@
 -- A SMALL STEP OF AN EVENT gives a pointer another word: the cluster with the thread put back where it stood, before the step and after it (this project's
 -- rule).
 use Rattle.std.specs.Prelude.{◌≡◌, ◌≢◌, ℕ, List, Option, Some, None, IsSome, option_map, slice_get}
-use Rattle.global_addr.specs.Words.{next_word}
-use Rattle.heap_partition.specs.declared.value.BoxPtr.{BoxPtr}
-use Rattle.heap_partition.specs.declared.value.Cell.{Cell}
-use Rattle.heap_partition.specs.declared.value.Owned.TheVariants as owned
-use Rattle.mut_borrow.specs.declared.mutable.MutRef.{MutRef}
-use Rattle.thread_state.specs.View.{ThreadState}
-use Rattle.thread_state.specs.declared.value.Value.{Value}
-use Rattle.thread_state.specs.declared.value.Value.TheVariants as value
-use Rattle.server_model.specs.Servers.{Cluster, server_at}
-use Rattle.server_model.specs.Work.{Hand, look, thread_in, set_thread}
-use Rattle.server_model.specs.Clusters.{with_server}
-use Rattle.server_model.specs.NewWords.{NewWord, issue_tint}
-use Rattle.server_model.specs.Places.{in_slot, in_cell, note_write, pointer_of, set_pointer, put_word}
-use Rattle.server_model.specs.Prepare.{box_of}
-use Rattle.heap_law.specs.Names.{Among}
-use Rattle.heap_law.specs.Things.{at_slot, in_cell as heap_cell, lies, things_of}
-use Rattle.heap_law.specs.Words.{IsStale, HasWords, LeadsTo}
-use Rattle.heap_law.specs.Balances.{AtMostOne}
-use Rattle.heap_law.specs.Weights.{states}
-use Rattle.heap_law.specs.Sight.{sight}
-use Rattle.heap_law.specs.Coherent.{Holds, are_issued, first_at_holder}
+use Rattle.path_law.specs.Below.global_addr.Words.{next_word}
+use Rattle.path_law.specs.Below.heap_partition.declared.value.BoxPtr.{BoxPtr}
+use Rattle.path_law.specs.Below.heap_partition.declared.value.Cell.{Cell}
+use Rattle.path_law.specs.Below.heap_partition.declared.value.Owned.TheVariants as owned
+use Rattle.path_law.specs.Below.mut_borrow.declared.mutable.MutRef.{MutRef}
+use Rattle.path_law.specs.Below.thread_state.View.{ThreadState}
+use Rattle.path_law.specs.Below.thread_state.declared.value.Value.{Value}
+use Rattle.path_law.specs.Below.thread_state.declared.value.Value.TheVariants as value
+use Rattle.path_law.specs.Below.server_model.Servers.{Cluster, server_at}
+use Rattle.path_law.specs.Below.server_model.Work.{Hand, look, thread_in, set_thread}
+use Rattle.path_law.specs.Below.server_model.Clusters.{with_server}
+use Rattle.path_law.specs.Below.server_model.NewWords.{NewWord, issue_tint}
+use Rattle.path_law.specs.Below.server_model.Places.{in_slot, in_cell, note_write, pointer_of, set_pointer, put_word}
+use Rattle.path_law.specs.Below.server_model.Prepare.{box_of}
+use Rattle.path_law.specs.Below.heap_law.Names.{Among}
+use Rattle.path_law.specs.Below.heap_law.Things.{at_slot, in_cell as heap_cell, lies, things_of}
+use Rattle.path_law.specs.Below.heap_law.Words.{IsStale, HasWords, LeadsTo}
+use Rattle.path_law.specs.Below.heap_law.Balances.{AtMostOne}
+use Rattle.path_law.specs.Below.heap_law.Weights.{states}
+use Rattle.path_law.specs.Below.heap_law.Sight.{sight}
+use Rattle.path_law.specs.Below.heap_law.Coherent.{Holds, are_issued, first_at_holder}
 use Rattle.word_law.specs.Reworded.{HasPlaces, LiesThere, Reworded}
 use Rattle.word_law.specs.Soles.{IsOnly}
 use Rattle.word_law.specs.WordsAfter.{KeepsWords}

@@ -1,26 +1,26 @@
 -- ONE OBJECT GETS ANOTHER WORD (this project's rule): two clusters of which the second shows what the first does, but for the word of the pointer at one
 -- location, and for where the object of that pointer lies.
 use Rattle.std.specs.Prelude.{Bool, false, not, is_some, ◌≡◌, ℕ, true, map, Option, Some, None}
-use Rattle.fr_base.specs.declared.name.ObjNo.{ObjNo}
-use Rattle.heap_partition.specs.declared.value.Cell.{Cell}
-use Rattle.mut_borrow.specs.declared.mutable.MutRef.{MutRef}
-use Rattle.mut_borrow.specs.Refs.{changed}
-use Rattle.thread_state.specs.declared.phase.Phase.{Phase}
-use Rattle.thread_state.specs.declared.phase.Phase.TheVariants as phase
-use Rattle.thread_state.specs.declared.value.Value.{Value}
-use Rattle.thread_state.specs.declared.value.Value.TheVariants as value
-use Rattle.server_model.specs.Servers.{Cluster}
-use Rattle.heap_partition.specs.declared.value.BoxPtr.{BoxPtr}
-use Rattle.heap_partition.specs.declared.value.Owned.TheVariants as owned
-use Rattle.heap_law.specs.Names.{Among}
-use Rattle.heap_law.specs.Things.{Location, Thing, holds, shares, lies, flies, sent, things_of}
-use Rattle.server_msgs.specs.declared.message.Message.{Message}
-use Rattle.server_msgs.specs.declared.message.Message.TheVariants.{Drop}
-use Rattle.heap_law.specs.Follow.{Standing, value_in}
-use Rattle.heap_law.specs.Sight.{location_of, sight}
-use Rattle.heap_law.specs.Words.{LeadsTo}
-use Rattle.heap_law.specs.Balances.{Agree, AtMostOne}
-use Rattle.heap_law.specs.Weights.{cells, owners, is_thread}
+use Rattle.path_law.specs.Below.fr_base.declared.name.ObjNo.{ObjNo}
+use Rattle.path_law.specs.Below.heap_partition.declared.value.Cell.{Cell}
+use Rattle.path_law.specs.Below.mut_borrow.declared.mutable.MutRef.{MutRef}
+use Rattle.path_law.specs.Below.mut_borrow.Refs.{changed}
+use Rattle.path_law.specs.Below.thread_state.declared.phase.Phase.{Phase}
+use Rattle.path_law.specs.Below.thread_state.declared.phase.Phase.TheVariants as phase
+use Rattle.path_law.specs.Below.thread_state.declared.value.Value.{Value}
+use Rattle.path_law.specs.Below.thread_state.declared.value.Value.TheVariants as value
+use Rattle.path_law.specs.Below.server_model.Servers.{Cluster}
+use Rattle.path_law.specs.Below.heap_partition.declared.value.BoxPtr.{BoxPtr}
+use Rattle.path_law.specs.Below.heap_partition.declared.value.Owned.TheVariants as owned
+use Rattle.path_law.specs.Below.heap_law.Names.{Among}
+use Rattle.path_law.specs.Below.heap_law.Things.{Location, Thing, holds, shares, lies, flies, sent, things_of}
+use Rattle.path_law.specs.Below.server_msgs.declared.message.Message.{Message}
+use Rattle.path_law.specs.Below.server_msgs.declared.message.Message.TheVariants.{Drop}
+use Rattle.path_law.specs.Below.heap_law.Follow.{Standing, value_in}
+use Rattle.path_law.specs.Below.heap_law.Sight.{location_of, sight}
+use Rattle.path_law.specs.Below.heap_law.Words.{LeadsTo}
+use Rattle.path_law.specs.Below.heap_law.Balances.{Agree, AtMostOne}
+use Rattle.path_law.specs.Below.heap_law.Weights.{cells, owners, is_thread}
 
 -- the word that a thread has taken for its mutable borrow
 abbrev pub taken_word : Phase → Option ℕ

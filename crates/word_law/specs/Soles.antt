@@ -1,21 +1,21 @@
 -- THE POINTER THROUGH WHICH AN OBJECT IS WRITTEN (this project's rule): each other pointer to the object stands above it. What tells this are places and holders
 -- alone, no words and no types, so it stays in the small steps of an event that give pointers words.
 use Rattle.std.specs.Prelude.{false, ◌≡◌, ◌⊎◌, ℕ, Option, Some, None, true}
-use Rattle.fr_base.specs.declared.name.ObjNo.{ObjNo}
-use Rattle.fr_base.specs.declared.place.Lval.{Lval}
-use Rattle.heap_partition.specs.declared.value.Owned.TheVariants as owned
-use Rattle.mut_borrow.specs.declared.mutable.MutRef.{MutRef}
-use Rattle.thread_state.specs.declared.value.Value.{Value}
-use Rattle.thread_state.specs.declared.value.Value.TheVariants as value
-use Rattle.server_model.specs.Servers.{Cluster}
-use Rattle.heap_law.specs.Names.{Among}
-use Rattle.heap_law.specs.Things.{Location, in_cell, things_of}
-use Rattle.heap_law.specs.Follow.{Standing, value_in, leads}
-use Rattle.heap_law.specs.Stale.{Reference, references, is_held_at}
-use Rattle.heap_law.specs.Sight.{Pointer, pointers_in, sight}
-use Rattle.heap_law.specs.Placing.{standing_in, standing_pointers}
-use Rattle.heap_law.specs.Words.{IsStale}
-use Rattle.heap_law.specs.Dirty.{DirtyAlone}
+use Rattle.path_law.specs.Below.fr_base.declared.name.ObjNo.{ObjNo}
+use Rattle.path_law.specs.Below.fr_base.declared.place.Lval.{Lval}
+use Rattle.path_law.specs.Below.heap_partition.declared.value.Owned.TheVariants as owned
+use Rattle.path_law.specs.Below.mut_borrow.declared.mutable.MutRef.{MutRef}
+use Rattle.path_law.specs.Below.thread_state.declared.value.Value.{Value}
+use Rattle.path_law.specs.Below.thread_state.declared.value.Value.TheVariants as value
+use Rattle.path_law.specs.Below.server_model.Servers.{Cluster}
+use Rattle.path_law.specs.Below.heap_law.Names.{Among}
+use Rattle.path_law.specs.Below.heap_law.Things.{Location, in_cell, things_of}
+use Rattle.path_law.specs.Below.heap_law.Follow.{Standing, value_in, leads}
+use Rattle.path_law.specs.Below.heap_law.Stale.{Reference, references, is_held_at}
+use Rattle.path_law.specs.Below.heap_law.Sight.{Pointer, pointers_in, sight}
+use Rattle.path_law.specs.Below.heap_law.Placing.{standing_in, standing_pointers}
+use Rattle.path_law.specs.Below.heap_law.Words.{IsStale}
+use Rattle.path_law.specs.Below.heap_law.Dirty.{DirtyAlone}
 use Rattle.path_law.specs.HeapStore.{GoesOn, HasPaths}
 use Rattle.path_law.specs.Pointing.{Above, MayWrite, LastHop}
 use Rattle.word_law.specs.Reworded.{HasPlaces, Reworded}

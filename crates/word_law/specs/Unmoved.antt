@@ -1,31 +1,31 @@
 -- NOTHING THAT THE WORDS OF OBJECTS SEE CHANGES (this project's rule): two clusters of which the second has at each location the pointer that the first has, and
 -- the same pointers outside of locations.
 use Rattle.std.specs.Prelude.{false, ◌≡◌, ℕ, List, [], ◌∷◌, Option, Some, None, slice_get}
-use Rattle.fr_base.specs.declared.name.ObjNo.{ObjNo}
-use Rattle.fr_base.specs.declared.place.Lval.{Lval}
-use Rattle.fr_base.specs.declared.instruction.Instr.{Instr}
-use Rattle.fr_base.specs.declared.instruction.Instr.TheVariants as instr
-use Rattle.heap_partition.specs.declared.value.Cell.{Cell}
-use Rattle.heap_partition.specs.declared.value.Owned.TheVariants as owned
-use Rattle.journal.specs.View.{EntryView}
-use Rattle.thread_state.specs.declared.phase.Phase.{Phase}
-use Rattle.thread_state.specs.declared.phase.Phase.TheVariants as phase
-use Rattle.thread_state.specs.declared.value.Value.{Value}
-use Rattle.thread_state.specs.declared.value.Value.TheVariants as value
-use Rattle.server_model.specs.declared.event.Event.{Event}
-use Rattle.server_model.specs.declared.event.What.TheVariants.{Deliver, Evict}
-use Rattle.server_msgs.specs.declared.message.Message.{Message}
-use Rattle.server_msgs.specs.declared.message.Message.TheVariants.{Fetch}
-use Rattle.server_model.specs.Servers.{Server, Cluster, server_at}
-use Rattle.server_model.specs.Clusters.{act_at}
-use Rattle.heap_law.specs.Names.{Among}
-use Rattle.heap_law.specs.Things.{Location, at_slot, at_temp, in_cell, lies, things_of}
-use Rattle.heap_law.specs.Follow.{Standing, value_in}
-use Rattle.heap_law.specs.Sight.{Pointer, pointers_in, Sight, sight}
-use Rattle.heap_law.specs.Placing.{standing_in}
-use Rattle.heap_law.specs.Words.{HasWords}
-use Rattle.heap_law.specs.Dirty.{DirtyAlone, PastWords}
-use Rattle.heap_law.specs.Coherent.{Holds, first_at_holder}
+use Rattle.path_law.specs.Below.fr_base.declared.name.ObjNo.{ObjNo}
+use Rattle.path_law.specs.Below.fr_base.declared.place.Lval.{Lval}
+use Rattle.path_law.specs.Below.fr_base.declared.instruction.Instr.{Instr}
+use Rattle.path_law.specs.Below.fr_base.declared.instruction.Instr.TheVariants as instr
+use Rattle.path_law.specs.Below.heap_partition.declared.value.Cell.{Cell}
+use Rattle.path_law.specs.Below.heap_partition.declared.value.Owned.TheVariants as owned
+use Rattle.path_law.specs.Below.journal.View.{EntryView}
+use Rattle.path_law.specs.Below.thread_state.declared.phase.Phase.{Phase}
+use Rattle.path_law.specs.Below.thread_state.declared.phase.Phase.TheVariants as phase
+use Rattle.path_law.specs.Below.thread_state.declared.value.Value.{Value}
+use Rattle.path_law.specs.Below.thread_state.declared.value.Value.TheVariants as value
+use Rattle.path_law.specs.Below.server_model.declared.event.Event.{Event}
+use Rattle.path_law.specs.Below.server_model.declared.event.What.TheVariants.{Deliver, Evict}
+use Rattle.path_law.specs.Below.server_msgs.declared.message.Message.{Message}
+use Rattle.path_law.specs.Below.server_msgs.declared.message.Message.TheVariants.{Fetch}
+use Rattle.path_law.specs.Below.server_model.Servers.{Server, Cluster, server_at}
+use Rattle.path_law.specs.Below.server_model.Clusters.{act_at}
+use Rattle.path_law.specs.Below.heap_law.Names.{Among}
+use Rattle.path_law.specs.Below.heap_law.Things.{Location, at_slot, at_temp, in_cell, lies, things_of}
+use Rattle.path_law.specs.Below.heap_law.Follow.{Standing, value_in}
+use Rattle.path_law.specs.Below.heap_law.Sight.{Pointer, pointers_in, Sight, sight}
+use Rattle.path_law.specs.Below.heap_law.Placing.{standing_in}
+use Rattle.path_law.specs.Below.heap_law.Words.{HasWords}
+use Rattle.path_law.specs.Below.heap_law.Dirty.{DirtyAlone, PastWords}
+use Rattle.path_law.specs.Below.heap_law.Coherent.{Holds, first_at_holder}
 use Rattle.word_law.specs.Reworded.{HasPlaces, LiesThere}
 
 -- a value that leads somewhere. Whether a shared reference keeps a copy in use isn't seen

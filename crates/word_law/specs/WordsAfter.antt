@@ -1,18 +1,18 @@
 -- THE WORDS OF OBJECTS GO ON where one of them changes (this project's rules).
 use Rattle.std.specs.Prelude.{false, true, ◌≡◌, ◌≢◌, ℕ, Some}
-use Rattle.fr_base.specs.declared.name.ObjNo.{ObjNo}
-use Rattle.mut_borrow.specs.declared.mutable.MutRef.{MutRef}
-use Rattle.mut_borrow.specs.Refs.{changed}
-use Rattle.thread_state.specs.declared.value.Value.TheVariants as value
-use Rattle.server_model.specs.Servers.{Cluster}
-use Rattle.heap_law.specs.Names.{Among}
-use Rattle.heap_law.specs.Things.{Location, things_of}
-use Rattle.heap_law.specs.Follow.{value_in}
-use Rattle.heap_law.specs.Stale.{Reference, references}
-use Rattle.heap_law.specs.Sight.{Pointer, Sight, sight, issued}
-use Rattle.heap_law.specs.Coherent.{Holds, are_issued, first_at_holder}
-use Rattle.heap_law.specs.Dirty.{DirtyAlone, PastWords}
-use Rattle.heap_law.specs.Words.{all_pointers, IsStale, HasWords}
+use Rattle.path_law.specs.Below.fr_base.declared.name.ObjNo.{ObjNo}
+use Rattle.path_law.specs.Below.mut_borrow.declared.mutable.MutRef.{MutRef}
+use Rattle.path_law.specs.Below.mut_borrow.Refs.{changed}
+use Rattle.path_law.specs.Below.thread_state.declared.value.Value.TheVariants as value
+use Rattle.path_law.specs.Below.server_model.Servers.{Cluster}
+use Rattle.path_law.specs.Below.heap_law.Names.{Among}
+use Rattle.path_law.specs.Below.heap_law.Things.{Location, things_of}
+use Rattle.path_law.specs.Below.heap_law.Follow.{value_in}
+use Rattle.path_law.specs.Below.heap_law.Stale.{Reference, references}
+use Rattle.path_law.specs.Below.heap_law.Sight.{Pointer, Sight, sight, issued}
+use Rattle.path_law.specs.Below.heap_law.Coherent.{Holds, are_issued, first_at_holder}
+use Rattle.path_law.specs.Below.heap_law.Dirty.{DirtyAlone, PastWords}
+use Rattle.path_law.specs.Below.heap_law.Words.{all_pointers, IsStale, HasWords}
 use Rattle.word_law.specs.Reworded.{HasPlaces, Reworded}
 use Rattle.word_law.specs.Soles.{IsSole, IsOnly}
 

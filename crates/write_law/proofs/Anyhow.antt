@@ -1,17 +1,17 @@
 -- All ways in which places are followed, together.
 use Rattle.std.proofs.Common.{◌≡◌, ℕ, zero, suc, ◌-◌, Bool, true, false, length, Option, Some, None, refl}
 use Rattle.std.specs.Prelude.{slice_get}
-use Rattle.fr_base.specs.Lists.{last_of}
-use Rattle.fr_base.specs.declared.place.Lval.{Lval}
-use Rattle.fr_base.specs.declared.instruction.Instr.{Instr}
-use Rattle.fr_base.specs.declared.instruction.Instr.TheVariants as instr
-use Rattle.thread_state.specs.declared.value.Value.{Value}
-use Rattle.thread_state.specs.declared.value.Value.TheVariants as value
-use Rattle.server_model.specs.Places.{Spot, in_slot, on_top}
-use Rattle.server_model.specs.Prepare.{Access, ending, assigned, read_or_taken, access_of}
-use Rattle.event_law.specs.Kinds.{step_assign, step_read, step_discard, step_drop_slot, instr_kind}
-use Rattle.event_law.specs.Laws.{HasResult}
-use Rattle.server_model.specs.declared.event.What.TheVariants.{Step}
+use Rattle.result_law.specs.Below.fr_base.Lists.{last_of}
+use Rattle.result_law.specs.Below.fr_base.declared.place.Lval.{Lval}
+use Rattle.result_law.specs.Below.fr_base.declared.instruction.Instr.{Instr}
+use Rattle.result_law.specs.Below.fr_base.declared.instruction.Instr.TheVariants as instr
+use Rattle.result_law.specs.Below.thread_state.declared.value.Value.{Value}
+use Rattle.result_law.specs.Below.thread_state.declared.value.Value.TheVariants as value
+use Rattle.result_law.specs.Below.server_model.Places.{Spot, in_slot, on_top}
+use Rattle.result_law.specs.Below.server_model.Prepare.{Access, ending, assigned, read_or_taken, access_of}
+use Rattle.result_law.specs.Below.event_law.Kinds.{step_assign, step_read, step_discard, step_drop_slot, instr_kind}
+use Rattle.result_law.specs.Below.event_law.Laws.{HasResult}
+use Rattle.result_law.specs.Below.server_model.declared.event.What.TheVariants.{Step}
 use Rattle.result_law.specs.Results.{FollowsNone, no_place, reads_variable, ReadsPlace, reads, Anyhow, StepsHaveResults}
 use Rattle.result_law.proofs.Variables.{quiet_steps}
 use Rattle.result_law.proofs.Readers.{copies_have_results}

@@ -3,44 +3,44 @@ use Rattle.std.proofs.Common.{◌≡◌, ◌≤◌, ◌<◌, ℕ, zero, suc, ◌
 use Rattle.std.specs.Prelude.{slice_get, slice_set}
 use Rattle.std.proofs.lemmas.Option.{slice_get_within}
 use Rattle.std.proofs.lemmas.Bool.Decides.{nat_tests}
-use Rattle.fr_base.specs.Lists.{last_of}
-use Rattle.fr_base.specs.declared.place.Lval.{Lval}
-use Rattle.fr_base.specs.declared.instruction.Operand.{Operand}
-use Rattle.fr_base.specs.declared.instruction.Instr.{Instr}
-use Rattle.fr_base.specs.declared.instruction.Instr.TheVariants as instr
-use Rattle.fr_typing.specs.Kinds.{Kind}
-use Rattle.fr_store.specs.Keys.{slot_k, temp_k}
-use Rattle.fr_store.specs.Typed.{KeyTypes, Unnamed}
-use Rattle.fr_code.specs.CodeTypes.{Entry, Table, Takes, InstrTypes, i_assign}
-use Rattle.mut_borrow.specs.declared.mutable.MutRef.{MutRef}
-use Rattle.thread_state.specs.View.{ThreadState}
-use Rattle.thread_state.specs.declared.value.Value.{Value}
-use Rattle.thread_state.specs.declared.value.Value.TheVariants as value
-use Rattle.server_model.specs.declared.event.What.TheVariants.{Step}
-use Rattle.server_model.specs.Servers.{Server, Cluster}
-use Rattle.server_model.specs.Work.{Hand, Popped, with_slots, with_temps, front_of, then_some}
-use Rattle.server_model.specs.Places.{Spot, in_slot, on_top, put_slot}
-use Rattle.server_model.specs.Prepare.{Prepared, ready, requested, nothing, EndRef, ending, assigned, access_of, prepare, end_ref}
-use Rattle.server_model.specs.Drop.{drop_value}
-use Rattle.server_model.specs.Commit.{goes_on, label_dropped, replace_slot, assign, discard, drop_slot, commit}
-use Rattle.server_model.specs.Events.{committed, prepared}
-use Rattle.heap_law.specs.Things.{at_slot, at_temp}
-use Rattle.heap_law.specs.Follow.{Standing, slot_of, temp_of}
-use Rattle.heap_law.specs.Paths.{ends, path_of, assigning}
-use Rattle.heap_law.specs.Paths as paths_of
-use Rattle.heap_law.specs.Sight.{sight}
-use Rattle.heap_law.specs.Walking.{path}
-use Rattle.event_law.specs.Kinds.{step_assign, step_discard, step_drop_slot, instr_kind}
-use Rattle.event_law.specs.Laws.{HasResult}
-use Rattle.type_law.specs.Names.{NameTypes}
-use Rattle.type_law.specs.ClusterTypes.{temps_wrong}
-use Rattle.path_law.specs.HeapStore.{GoesOn, HasPaths}
-use Rattle.path_law.specs.Pointing.{assigns}
-use Rattle.path_law.proofs.Ended.{newest_free, dropped_at}
-use Rattle.path_law.proofs.FreshPaths.{slot_there, temp_there}
-use Rattle.path_law.proofs.MayWrites.{may_write_there}
-use Rattle.path_law.proofs.Pointers.{temp_unnamed}
-use Rattle.path_law.proofs.Shown.{stands_there}
+use Rattle.result_law.specs.Below.fr_base.Lists.{last_of}
+use Rattle.result_law.specs.Below.fr_base.declared.place.Lval.{Lval}
+use Rattle.result_law.specs.Below.fr_base.declared.instruction.Operand.{Operand}
+use Rattle.result_law.specs.Below.fr_base.declared.instruction.Instr.{Instr}
+use Rattle.result_law.specs.Below.fr_base.declared.instruction.Instr.TheVariants as instr
+use Rattle.result_law.specs.Below.fr_typing.Kinds.{Kind}
+use Rattle.result_law.specs.Below.fr_store.Keys.{slot_k, temp_k}
+use Rattle.result_law.specs.Below.fr_store.Typed.{KeyTypes, Unnamed}
+use Rattle.result_law.specs.Below.fr_code.CodeTypes.{Entry, Table, Takes, InstrTypes, i_assign}
+use Rattle.result_law.specs.Below.mut_borrow.declared.mutable.MutRef.{MutRef}
+use Rattle.result_law.specs.Below.thread_state.View.{ThreadState}
+use Rattle.result_law.specs.Below.thread_state.declared.value.Value.{Value}
+use Rattle.result_law.specs.Below.thread_state.declared.value.Value.TheVariants as value
+use Rattle.result_law.specs.Below.server_model.declared.event.What.TheVariants.{Step}
+use Rattle.result_law.specs.Below.server_model.Servers.{Server, Cluster}
+use Rattle.result_law.specs.Below.server_model.Work.{Hand, Popped, with_slots, with_temps, front_of, then_some}
+use Rattle.result_law.specs.Below.server_model.Places.{Spot, in_slot, on_top, put_slot}
+use Rattle.result_law.specs.Below.server_model.Prepare.{Prepared, ready, requested, nothing, EndRef, ending, assigned, access_of, prepare, end_ref}
+use Rattle.result_law.specs.Below.server_model.Drop.{drop_value}
+use Rattle.result_law.specs.Below.server_model.Commit.{goes_on, label_dropped, replace_slot, assign, discard, drop_slot, commit}
+use Rattle.result_law.specs.Below.server_model.Events.{committed, prepared}
+use Rattle.result_law.specs.Below.heap_law.Things.{at_slot, at_temp}
+use Rattle.result_law.specs.Below.heap_law.Follow.{Standing, slot_of, temp_of}
+use Rattle.result_law.specs.Below.heap_law.Paths.{ends, path_of, assigning}
+use Rattle.result_law.specs.Below.heap_law.Paths as paths_of
+use Rattle.result_law.specs.Below.heap_law.Sight.{sight}
+use Rattle.result_law.specs.Below.heap_law.Walking.{path}
+use Rattle.result_law.specs.Below.event_law.Kinds.{step_assign, step_discard, step_drop_slot, instr_kind}
+use Rattle.result_law.specs.Below.event_law.Laws.{HasResult}
+use Rattle.result_law.specs.Below.type_law.Names.{NameTypes}
+use Rattle.result_law.specs.Below.type_law.ClusterTypes.{temps_wrong}
+use Rattle.result_law.specs.Below.path_law.HeapStore.{GoesOn, HasPaths}
+use Rattle.result_law.specs.Below.path_law.Pointing.{assigns}
+use Rattle.result_law.proofs.Below.path_law.Ended.{newest_free, dropped_at}
+use Rattle.result_law.proofs.Below.path_law.FreshPaths.{slot_there, temp_there}
+use Rattle.result_law.proofs.Below.path_law.MayWrites.{may_write_there}
+use Rattle.result_law.proofs.Below.path_law.Pointers.{temp_unnamed}
+use Rattle.result_law.proofs.Below.path_law.Shown.{stands_there}
 use Rattle.end_law.proofs.Ends.{EndsAt, last_is, key_of}
 use Rattle.result_law.specs.Results.{StepsHaveResults}
 use Rattle.result_law.proofs.Operands.{gets}
@@ -258,7 +258,7 @@ ending_drops k n t s y i coherent few server on_it at_it code is f = by i code i
 pub ending_assignments : StepsHaveResults step_assign EndsReference
 ending_assignments k n t s y i coherent few server on_it at_it code is f = by i code is f
   where
-    no_write : {w : Lval} → EndsReference (Some (Rattle.server_model.specs.Prepare.WriteTo w)) → ⊥
+    no_write : {w : Lval} → EndsReference (Some (Rattle.result_law.specs.Below.server_model.Prepare.WriteTo w)) → ⊥
     no_write g = elim g [ ]
 
     by_depth : (w : Lval) (o : Operand) (d : ℕ) → w.depth ≡ d → slice_get k.code y.pc ≡ Some (instr.Assign w o) → EndsReference (assigned w d y) → HasResult k n (Step t)

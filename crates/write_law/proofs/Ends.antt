@@ -4,44 +4,44 @@ use Rattle.std.specs.Prelude.{slice_get, slice_set}
 use Rattle.std.specs.Bool.{⊤}
 use Rattle.std.proofs.lemmas.Option.{slice_get_within}
 use Rattle.std.proofs.lemmas.Bool.Decides.{nat_tests}
-use Rattle.fr_base.specs.Lists.{last_of}
-use Rattle.fr_base.specs.declared.name.ObjNo.{ObjNo}
-use Rattle.fr_base.specs.declared.place.Lval.{Lval}
-use Rattle.fr_base.specs.declared.step.Fresh.TheVariants as fresh
-use Rattle.fr_base.specs.declared.instruction.Instr.{Instr}
-use Rattle.global_addr.specs.Words.{colour_of, server_of, next_word}
-use Rattle.heap_partition.specs.declared.value.BoxPtr.{BoxPtr}
-use Rattle.heap_partition.specs.declared.value.Cell.{Cell}
-use Rattle.heap_partition.specs.declared.value.Owned.{Owned}
-use Rattle.heap_partition.specs.declared.value.Owned.TheVariants as owned
-use Rattle.migration.specs.Packing.{unpin_all}
-use Rattle.mut_borrow.specs.Refs.{cleaned_answer, finish_word}
-use Rattle.mut_borrow.specs.declared.mutable.MutRef.{MutRef}
-use Rattle.mut_borrow.specs.declared.mutable.Cleaned.TheVariants as cleaned
-use Rattle.owner_box.specs.View.{PartitionState}
-use Rattle.owner_box.specs.Partition.{stored}
-use Rattle.thread_state.specs.View.{ThreadState}
-use Rattle.thread_state.specs.declared.value.Value.{Value}
-use Rattle.thread_state.specs.declared.value.Value.TheVariants as value
-use Rattle.server_model.specs.Servers.{Rest, Server, Cluster}
-use Rattle.server_model.specs.Work.{Hand, with_slots, with_temps, with_partition, working, front_of, then_some}
-use Rattle.server_model.specs.NewWords.{NewWord, issue_tint, issue_renewal}
-use Rattle.server_model.specs.Places.{Spot, in_slot, on_top, in_cell, value_in as cell_value, value_at, note_write, put_at, with_word, took, put_word, set_pointer}
-use Rattle.server_model.specs.Prepare.{Prepared, ready, requested, nothing, and_then, ready_at, ask_object, box_of, cleaned_by, clean, clean_value, follow_holder, follow_ended, unlabelled, end_ref, write_stars}
-use Rattle.server_model.specs.Drop.{finished_at, finish}
-use Rattle.server_model.specs.Commit.{goes_on, go_on}
-use Rattle.server_model.specs.Events.{committed}
-use Rattle.heap_law.specs.Things.{Location, at_slot, in_cell as in_object}
-use Rattle.heap_law.specs.Follow.{Standing}
-use Rattle.heap_law.specs.Paths.{ends}
-use Rattle.heap_law.specs.Sight.{Pointer, sight}
-use Rattle.heap_law.specs.Walking.{path}
-use Rattle.heap_law.specs.Words.{IsStale}
-use Rattle.path_law.specs.HeapStore.{GoesOn, HasPaths}
-use Rattle.path_law.proofs.Sole.{some_is}
+use Rattle.result_law.specs.Below.fr_base.Lists.{last_of}
+use Rattle.result_law.specs.Below.fr_base.declared.name.ObjNo.{ObjNo}
+use Rattle.result_law.specs.Below.fr_base.declared.place.Lval.{Lval}
+use Rattle.result_law.specs.Below.fr_base.declared.step.Fresh.TheVariants as fresh
+use Rattle.result_law.specs.Below.fr_base.declared.instruction.Instr.{Instr}
+use Rattle.result_law.specs.Below.global_addr.Words.{colour_of, server_of, next_word}
+use Rattle.result_law.specs.Below.heap_partition.declared.value.BoxPtr.{BoxPtr}
+use Rattle.result_law.specs.Below.heap_partition.declared.value.Cell.{Cell}
+use Rattle.result_law.specs.Below.heap_partition.declared.value.Owned.{Owned}
+use Rattle.result_law.specs.Below.heap_partition.declared.value.Owned.TheVariants as owned
+use Rattle.result_law.specs.Below.migration.Packing.{unpin_all}
+use Rattle.result_law.specs.Below.mut_borrow.Refs.{cleaned_answer, finish_word}
+use Rattle.result_law.specs.Below.mut_borrow.declared.mutable.MutRef.{MutRef}
+use Rattle.result_law.specs.Below.mut_borrow.declared.mutable.Cleaned.TheVariants as cleaned
+use Rattle.result_law.specs.Below.owner_box.View.{PartitionState}
+use Rattle.result_law.specs.Below.owner_box.Partition.{stored}
+use Rattle.result_law.specs.Below.thread_state.View.{ThreadState}
+use Rattle.result_law.specs.Below.thread_state.declared.value.Value.{Value}
+use Rattle.result_law.specs.Below.thread_state.declared.value.Value.TheVariants as value
+use Rattle.result_law.specs.Below.server_model.Servers.{Rest, Server, Cluster}
+use Rattle.result_law.specs.Below.server_model.Work.{Hand, with_slots, with_temps, with_partition, working, front_of, then_some}
+use Rattle.result_law.specs.Below.server_model.NewWords.{NewWord, issue_tint, issue_renewal}
+use Rattle.result_law.specs.Below.server_model.Places.{Spot, in_slot, on_top, in_cell, value_in as cell_value, value_at, note_write, put_at, with_word, took, put_word, set_pointer}
+use Rattle.result_law.specs.Below.server_model.Prepare.{Prepared, ready, requested, nothing, and_then, ready_at, ask_object, box_of, cleaned_by, clean, clean_value, follow_holder, follow_ended, unlabelled, end_ref, write_stars}
+use Rattle.result_law.specs.Below.server_model.Drop.{finished_at, finish}
+use Rattle.result_law.specs.Below.server_model.Commit.{goes_on, go_on}
+use Rattle.result_law.specs.Below.server_model.Events.{committed}
+use Rattle.result_law.specs.Below.heap_law.Things.{Location, at_slot, in_cell as in_object}
+use Rattle.result_law.specs.Below.heap_law.Follow.{Standing}
+use Rattle.result_law.specs.Below.heap_law.Paths.{ends}
+use Rattle.result_law.specs.Below.heap_law.Sight.{Pointer, sight}
+use Rattle.result_law.specs.Below.heap_law.Walking.{path}
+use Rattle.result_law.specs.Below.heap_law.Words.{IsStale}
+use Rattle.result_law.specs.Below.path_law.HeapStore.{GoesOn, HasPaths}
+use Rattle.result_law.proofs.Below.path_law.Sole.{some_is}
 use Rattle.end_law.proofs.Below.word_law.Standing.{told, told_standing}
 use Rattle.end_law.specs.Below.read_law.Reading.{LiesUnder}
-use Rattle.event_law.proofs.Objects.{length_set}
+use Rattle.result_law.proofs.Below.event_law.Objects.{length_set}
 use Rattle.end_law.specs.Ending.{EndsAlone}
 use Rattle.end_law.proofs.Alone.{ended_are_alone}
 use Rattle.end_law.proofs.Ends.{EndsAt}

@@ -3,39 +3,39 @@
 use Rattle.std.proofs.Common.{◌≡◌, inl, ◌≤◌, ℕ, suc, ◌-◌, nat_le, Bool, true, Option, Some, None, refl, sym, ap, subst, ◌∙◌, arith}
 use Rattle.std.specs.Prelude.{slice_get}
 use Rattle.std.proofs.lemmas.Bool.Decides.{nat_tests}
-use Rattle.fr_base.specs.declared.name.ObjNo.{ObjNo}
-use Rattle.fr_base.specs.declared.instruction.Instr.{Instr}
-use Rattle.fr_store.specs.Keys.{Key, slot_k}
-use Rattle.fr_store.specs.Store.{at_key, at_object, Store, Place as StorePlace, below_key}
-use Rattle.fr_store.specs.Typed.{Exact, KeyTypes, Resolves, here, through, RefFits, Unnamed}
-use Rattle.fr_store.proofs.Chains.{unique}
-use Rattle.fr_store.proofs.Sound.{ref_at, sound}
-use Rattle.heap_partition.specs.declared.value.BoxPtr.{BoxPtr}
-use Rattle.heap_partition.specs.declared.value.Cell.{Cell}
-use Rattle.heap_partition.specs.declared.value.Owned.{Owned}
-use Rattle.heap_partition.specs.declared.value.Owned.TheVariants as owned
-use Rattle.mut_borrow.specs.declared.mutable.MutRef.{MutRef}
-use Rattle.thread_state.specs.View.{ThreadState}
-use Rattle.thread_state.specs.declared.value.Value.{Value}
-use Rattle.thread_state.specs.declared.value.Value.TheVariants as value
-use Rattle.server_model.specs.Servers.{Server, Cluster}
-use Rattle.server_model.specs.Places.{with_word}
-use Rattle.heap_law.specs.Names.{tot, Among}
-use Rattle.heap_law.specs.Things.{Location, at_slot, at_temp, in_cell as in_object, borrows, things_of}
-use Rattle.heap_law.specs.Follow.{Standing, Ground, cell_of, value_in, value_of, slot_of, leads, locate}
-use Rattle.heap_law.specs.Naming.{most_stars, long_holder}
-use Rattle.heap_law.specs.Paths.{ends, written_place}
-use Rattle.heap_law.specs.Sight.{sight}
-use Rattle.heap_law.specs.Walking.{path}
-use Rattle.heap_law.proofs.Words.{none_at}
-use Rattle.event_law.proofs.Askers.{other_none}
-use Rattle.path_law.specs.HeapStore.{heap_store, GoesOn, IsUnmarked, HasPaths}
-use Rattle.path_law.proofs.Alike.{leads_in_heap, IsShown, a_slot, an_object, lead_alike, mark_unnamed}
-use Rattle.path_law.proofs.Circles.{shorter, Shorter}
-use Rattle.path_law.proofs.Climbs.{one_location, ref_is}
-use Rattle.path_law.proofs.FreshPaths.{MutThere}
-use Rattle.path_law.proofs.Shown.{stands_there}
-use Rattle.path_law.proofs.Sole.{some_is}
+use Rattle.result_law.specs.Below.fr_base.declared.name.ObjNo.{ObjNo}
+use Rattle.result_law.specs.Below.fr_base.declared.instruction.Instr.{Instr}
+use Rattle.result_law.specs.Below.fr_store.Keys.{Key, slot_k}
+use Rattle.result_law.specs.Below.fr_store.Store.{at_key, at_object, Store, Place as StorePlace, below_key}
+use Rattle.result_law.specs.Below.fr_store.Typed.{Exact, KeyTypes, Resolves, here, through, RefFits, Unnamed}
+use Rattle.result_law.proofs.Below.fr_store.Chains.{unique}
+use Rattle.result_law.proofs.Below.fr_store.Sound.{ref_at, sound}
+use Rattle.result_law.specs.Below.heap_partition.declared.value.BoxPtr.{BoxPtr}
+use Rattle.result_law.specs.Below.heap_partition.declared.value.Cell.{Cell}
+use Rattle.result_law.specs.Below.heap_partition.declared.value.Owned.{Owned}
+use Rattle.result_law.specs.Below.heap_partition.declared.value.Owned.TheVariants as owned
+use Rattle.result_law.specs.Below.mut_borrow.declared.mutable.MutRef.{MutRef}
+use Rattle.result_law.specs.Below.thread_state.View.{ThreadState}
+use Rattle.result_law.specs.Below.thread_state.declared.value.Value.{Value}
+use Rattle.result_law.specs.Below.thread_state.declared.value.Value.TheVariants as value
+use Rattle.result_law.specs.Below.server_model.Servers.{Server, Cluster}
+use Rattle.result_law.specs.Below.server_model.Places.{with_word}
+use Rattle.result_law.specs.Below.heap_law.Names.{tot, Among}
+use Rattle.result_law.specs.Below.heap_law.Things.{Location, at_slot, at_temp, in_cell as in_object, borrows, things_of}
+use Rattle.result_law.specs.Below.heap_law.Follow.{Standing, Ground, cell_of, value_in, value_of, slot_of, leads, locate}
+use Rattle.result_law.specs.Below.heap_law.Naming.{most_stars, long_holder}
+use Rattle.result_law.specs.Below.heap_law.Paths.{ends, written_place}
+use Rattle.result_law.specs.Below.heap_law.Sight.{sight}
+use Rattle.result_law.specs.Below.heap_law.Walking.{path}
+use Rattle.result_law.proofs.Below.heap_law.Words.{none_at}
+use Rattle.result_law.proofs.Below.event_law.Askers.{other_none}
+use Rattle.result_law.specs.Below.path_law.HeapStore.{heap_store, GoesOn, IsUnmarked, HasPaths}
+use Rattle.result_law.proofs.Below.path_law.Alike.{leads_in_heap, IsShown, a_slot, an_object, lead_alike, mark_unnamed}
+use Rattle.result_law.proofs.Below.path_law.Circles.{shorter, Shorter}
+use Rattle.result_law.proofs.Below.path_law.Climbs.{one_location, ref_is}
+use Rattle.result_law.proofs.Below.path_law.FreshPaths.{MutThere}
+use Rattle.result_law.proofs.Below.path_law.Shown.{stands_there}
+use Rattle.result_law.proofs.Below.path_law.Sole.{some_is}
 use Rattle.end_law.proofs.Below.word_law.Standing.{slot_among, temp_among}
 use Rattle.end_law.proofs.Alone.{holder_stars}
 use Rattle.end_law.proofs.Ends.{EndsAt}
@@ -158,7 +158,7 @@ module _ (k : Cluster) (n t : ℕ) (s : Server) (y : ThreadState) (i : Instr) (z
       let heap = (leads_in_heap k c x on slot j (at_slot tn b) e).0 in
       let below_it : below_key st q.base q.boxes ≡ Some (at_key (slot_k tn b)) = sym (sound c.types.typing.rank E st c.types.state.typed true (slot_k tn slot) j q.base q.boxes q.type q.res) ∙ heap in
       let one = unique st c.types.state.typed.owner q.base (slot_k tn b) q.boxes 0 (at_key (slot_k tn b)) below_it refl in
-      let key : slot_k tn b ≡ m.key = keys (ap Rattle.path_law.specs.HeapStore.in_store (sym here_it) ∙ m.is) in
+      let key : slot_k tn b ≡ m.key = keys (ap Rattle.result_law.specs.Below.path_law.HeapStore.in_store (sym here_it) ∙ m.is) in
       let free : Unnamed E q.base = subst (Unnamed E) (sym (one.0 ∙ key)) it.free in
       let began : slot_k tn slot ≡ q.base = not_reached E true (slot_k tn slot) j q.base q.boxes q.type free q.res in
       it.free m.key true u m.exact (ap (slot_k tn) (sym h.2) ∙ began ∙ one.0 ∙ key)

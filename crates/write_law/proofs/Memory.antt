@@ -5,20 +5,20 @@ use Rattle.std.specs.List.{AllByRecursion}
 use Rattle.std.proofs.lemmas.Bool.Decides.{nat_tests}
 use Rattle.std.proofs.lemmas.List.{length-set, length-append, get_or-set_same, get_or-set_other, get_or_append_left}
 use Rattle.std.proofs.lemmas.Option.{slice_get_within}
-use Rattle.global_addr.specs.Words.{colour_of, server_of, address_of, next_word}
-use Rattle.heap_partition.specs.declared.value.BoxPtr.{BoxPtr}
-use Rattle.heap_partition.specs.declared.value.Cell.{Cell}
-use Rattle.heap_partition.specs.declared.value.Owned.{Owned}
-use Rattle.colour_retire.specs.Colours.{picked, rest_of}
-use Rattle.owner_box.specs.View.{PartitionState}
-use Rattle.owner_box.specs.Partition.{cell_of, next_place, new_word, put_cell, made, made_again, freed, renewed, with_value, stored}
-use Rattle.owner_box.proofs.Issued.{packed}
-use Rattle.server_model.specs.Servers.{Rest, no_mutexes}
-use Rattle.journal.specs.declared.act.Act.TheVariants as act
-use Rattle.server_model.specs.Work.{Work, note, with_partition, leads_here, look}
-use Rattle.server_model.specs.NewWords.{NewWord, can_grow, is_last, issue_tint, issue_renewal, issue_colour}
-use Rattle.event_law.proofs.Cells.{indexed}
-use Rattle.path_law.proofs.Sole.{some_is}
+use Rattle.result_law.specs.Below.global_addr.Words.{colour_of, server_of, address_of, next_word}
+use Rattle.result_law.specs.Below.heap_partition.declared.value.BoxPtr.{BoxPtr}
+use Rattle.result_law.specs.Below.heap_partition.declared.value.Cell.{Cell}
+use Rattle.result_law.specs.Below.heap_partition.declared.value.Owned.{Owned}
+use Rattle.result_law.specs.Below.colour_retire.Colours.{picked, rest_of}
+use Rattle.result_law.specs.Below.owner_box.View.{PartitionState}
+use Rattle.result_law.specs.Below.owner_box.Partition.{cell_of, next_place, new_word, put_cell, made, made_again, freed, renewed, with_value, stored}
+use Rattle.result_law.proofs.Below.owner_box.Issued.{packed}
+use Rattle.result_law.specs.Below.server_model.Servers.{Rest, no_mutexes}
+use Rattle.result_law.specs.Below.journal.declared.act.Act.TheVariants as act
+use Rattle.result_law.specs.Below.server_model.Work.{Work, note, with_partition, leads_here, look}
+use Rattle.result_law.specs.Below.server_model.NewWords.{NewWord, can_grow, is_last, issue_tint, issue_renewal, issue_colour}
+use Rattle.result_law.proofs.Below.event_law.Cells.{indexed}
+use Rattle.result_law.proofs.Below.path_law.Sole.{some_is}
 use Rattle.still_law.proofs.Addresses.{InPlace, next_empty, stored_places, renews}
 
 -- the word is of this server, leads to that cell, and its colour is below the limit

@@ -3,48 +3,48 @@ use Rattle.std.proofs.Common.{◌≡◌, ◌≤◌, ◌<◌, ℕ, zero, suc, ◌
 use Rattle.std.specs.Prelude.{slice_get}
 use Rattle.std.proofs.lemmas.Bool.{eqb-true, eq-eqb}
 use Rattle.std.proofs.lemmas.Bool.Decides.{nat_tests}
-use Rattle.fr_base.specs.Lists.{last_of}
-use Rattle.fr_base.specs.declared.place.Lval.{Lval}
-use Rattle.fr_base.specs.declared.instruction.Instr.{Instr}
-use Rattle.fr_base.specs.declared.instruction.Instr.TheVariants as instr
-use Rattle.heap_partition.specs.declared.value.Cell.{Cell}
-use Rattle.mut_borrow.specs.declared.mutable.MutRef.{MutRef}
-use Rattle.thread_state.specs.View.{ThreadState}
-use Rattle.thread_state.specs.declared.phase.Phase.{Phase}
-use Rattle.thread_state.specs.declared.phase.Phase.TheVariants as phase
-use Rattle.thread_state.specs.declared.value.Value.{Value}
-use Rattle.thread_state.specs.declared.value.Value.TheVariants as value
-use Rattle.server_msgs.specs.declared.message.Message.TheVariants as message
-use Rattle.server_model.specs.declared.event.What.TheVariants.{Deliver}
-use Rattle.server_model.specs.Servers.{Server, Cluster, server_at}
-use Rattle.server_model.specs.Work.{Work, Hand, thread_in, with_phase, then_some}
-use Rattle.server_model.specs.NewWords.{can_grow}
-use Rattle.server_model.specs.Places.{Spot, in_slot, on_top, value_at, with_word, put_at, set_pointer}
-use Rattle.server_model.specs.Prepare.{Access, WriteTo, EndRef, access_of}
-use Rattle.server_model.specs.Prepare as ready_for
-use Rattle.server_model.specs.Objects.{waits_for_cell, arrived_at, arrived_write, arrived_end, arrived, instr_access, came, deliver_moved}
-use Rattle.server_model.specs.Events.{received}
-use Rattle.heap_law.specs.Names.{tot, other}
-use Rattle.heap_law.specs.Things.{things_of}
-use Rattle.heap_law.specs.Follow.{Standing, threads_in, thread_at}
-use Rattle.heap_law.specs.Sight.{sight}
-use Rattle.heap_law.specs.Paths.{Path, no_path, reads, shares, lends, writes, ends, path_of, written_place, Awaited}
-use Rattle.heap_law.specs.Paths as on_path
-use Rattle.heap_law.specs.Turn.{InTurn, by_read, by_share, by_lend, by_write, by_end, by_holder, NextHop, WaitsFor}
-use Rattle.heap_law.specs.Walking.{path, hop_count, too_far, sum_threads}
-use Rattle.heap_law.specs.Requests.{is_cell, in_phase, in_server, carries, lost}
-use Rattle.heap_law.specs.Follow.{Standing}
-use Rattle.heap_law.specs.Coherent.{IsSound}
-use Rattle.heap_law.proofs.Names.{and_left, and_right}
-use Rattle.event_law.specs.Laws.{FewEvents, HasResult}
-use Rattle.event_law.proofs.Askers.{other_none}
-use Rattle.event_law.proofs.HaveResults.{some_map, some_if, arrives}
-use Rattle.event_law.proofs.AnswerResults.{at_it}
-use Rattle.event_law.proofs.MovedResults.{moved_have_results}
-use Rattle.event_law.proofs.MutexResults.{has}
-use Rattle.event_law.proofs.StandsHere.{IsWaiting, stands_here}
-use Rattle.event_law.proofs.GiftsTaken.{none_here}
-use Rattle.type_law.specs.ClusterTypes.{IsCoherent}
+use Rattle.result_law.specs.Below.fr_base.Lists.{last_of}
+use Rattle.result_law.specs.Below.fr_base.declared.place.Lval.{Lval}
+use Rattle.result_law.specs.Below.fr_base.declared.instruction.Instr.{Instr}
+use Rattle.result_law.specs.Below.fr_base.declared.instruction.Instr.TheVariants as instr
+use Rattle.result_law.specs.Below.heap_partition.declared.value.Cell.{Cell}
+use Rattle.result_law.specs.Below.mut_borrow.declared.mutable.MutRef.{MutRef}
+use Rattle.result_law.specs.Below.thread_state.View.{ThreadState}
+use Rattle.result_law.specs.Below.thread_state.declared.phase.Phase.{Phase}
+use Rattle.result_law.specs.Below.thread_state.declared.phase.Phase.TheVariants as phase
+use Rattle.result_law.specs.Below.thread_state.declared.value.Value.{Value}
+use Rattle.result_law.specs.Below.thread_state.declared.value.Value.TheVariants as value
+use Rattle.result_law.specs.Below.server_msgs.declared.message.Message.TheVariants as message
+use Rattle.result_law.specs.Below.server_model.declared.event.What.TheVariants.{Deliver}
+use Rattle.result_law.specs.Below.server_model.Servers.{Server, Cluster, server_at}
+use Rattle.result_law.specs.Below.server_model.Work.{Work, Hand, thread_in, with_phase, then_some}
+use Rattle.result_law.specs.Below.server_model.NewWords.{can_grow}
+use Rattle.result_law.specs.Below.server_model.Places.{Spot, in_slot, on_top, value_at, with_word, put_at, set_pointer}
+use Rattle.result_law.specs.Below.server_model.Prepare.{Access, WriteTo, EndRef, access_of}
+use Rattle.result_law.specs.Below.server_model.Prepare as ready_for
+use Rattle.result_law.specs.Below.server_model.Objects.{waits_for_cell, arrived_at, arrived_write, arrived_end, arrived, instr_access, came, deliver_moved}
+use Rattle.result_law.specs.Below.server_model.Events.{received}
+use Rattle.result_law.specs.Below.heap_law.Names.{tot, other}
+use Rattle.result_law.specs.Below.heap_law.Things.{things_of}
+use Rattle.result_law.specs.Below.heap_law.Follow.{Standing, threads_in, thread_at}
+use Rattle.result_law.specs.Below.heap_law.Sight.{sight}
+use Rattle.result_law.specs.Below.heap_law.Paths.{Path, no_path, reads, shares, lends, writes, ends, path_of, written_place, Awaited}
+use Rattle.result_law.specs.Below.heap_law.Paths as on_path
+use Rattle.result_law.specs.Below.heap_law.Turn.{InTurn, by_read, by_share, by_lend, by_write, by_end, by_holder, NextHop, WaitsFor}
+use Rattle.result_law.specs.Below.heap_law.Walking.{path, hop_count, too_far, sum_threads}
+use Rattle.result_law.specs.Below.heap_law.Requests.{is_cell, in_phase, in_server, carries, lost}
+use Rattle.result_law.specs.Below.heap_law.Follow.{Standing}
+use Rattle.result_law.specs.Below.heap_law.Coherent.{IsSound}
+use Rattle.result_law.proofs.Below.heap_law.Names.{and_left, and_right}
+use Rattle.result_law.specs.Below.event_law.Laws.{FewEvents, HasResult}
+use Rattle.result_law.proofs.Below.event_law.Askers.{other_none}
+use Rattle.result_law.proofs.Below.event_law.HaveResults.{some_map, some_if, arrives}
+use Rattle.result_law.proofs.Below.event_law.AnswerResults.{at_it}
+use Rattle.result_law.proofs.Below.event_law.MovedResults.{moved_have_results}
+use Rattle.result_law.proofs.Below.event_law.MutexResults.{has}
+use Rattle.result_law.proofs.Below.event_law.StandsHere.{IsWaiting, stands_here}
+use Rattle.result_law.proofs.Below.event_law.GiftsTaken.{none_here}
+use Rattle.result_law.specs.Below.type_law.ClusterTypes.{IsCoherent}
 use Rattle.write_law.specs.Deliveries.{MovedHaveResults}
 use Rattle.write_law.proofs.Passed.{a_reference, slot_takes, x, on, r2, arrives_so}
 use Rattle.write_law.proofs.Routes.{roomy_at}
@@ -56,11 +56,11 @@ is_waiting _ w e = absurd (cc e)
 cell_waits : (w : ℕ) → IsWaiting (is_cell w)
 cell_waits w = record { unready = by; ungot = by2 }
   where
-    by : (p : Phase) → is_cell w p ≡ true → Rattle.heap_law.specs.Walking.is_ready p ≡ false
+    by : (p : Phase) → is_cell w p ≡ true → Rattle.result_law.specs.Below.heap_law.Walking.is_ready p ≡ false
     by (phase.WaitCell v) e = refl
     by _ e = absurd (cc e)
 
-    by2 : (p : Phase) → is_cell w p ≡ true → Rattle.heap_law.specs.Requests.is_got p ≡ false
+    by2 : (p : Phase) → is_cell w p ≡ true → Rattle.result_law.specs.Below.heap_law.Requests.is_got p ≡ false
     by2 (phase.WaitCell v) e = refl
     by2 _ e = absurd (cc e)
 
@@ -200,7 +200,7 @@ module _ (k : Cluster) (co : IsCoherent k) (few : FewEvents k) (number i : ℕ) 
   -- a thread that has passed some hop writes
   no_write : (p : Path) → path (sight k) me ≡ p → written_place p ≡ None → ⊥
   no_write p is none =
-      let all : too_far (sight k) me ≡ 0 = none_here k co.sound number s here t y at (too_far (sight k)) (Rattle.heap_law.specs.Coherent.Walks.passed_within co.sound.walks) in
+      let all : too_far (sight k) me ≡ 0 = none_here k co.sound number s here t y at (too_far (sight k)) (Rattle.result_law.specs.Below.heap_law.Coherent.Walks.passed_within co.sound.walks) in
       let test : nat_le y.passed (hop_count (written_place (path (sight k) me))) ≡ true = other_none _ all in
       let le : y.passed ≤ hop_count (written_place (path (sight k) me)) = grind (arith, nat_tests, test) in
       let count : hop_count (written_place (path (sight k) me)) ≡ 0 = ap (λ z. hop_count (written_place z)) is ∙ ap hop_count none in

@@ -4,41 +4,41 @@ use Rattle.std.proofs.Common.{◌≡◌, ◌≤◌, ℕ, ◌+◌, nat_lt, true, 
 use Rattle.std.specs.Prelude.{slice_get, slice_set}
 use Rattle.std.proofs.lemmas.Option.{slice_get_within}
 use Rattle.std.proofs.lemmas.Bool.Decides.{nat_tests}
-use Rattle.fr_base.specs.declared.name.ObjNo.{ObjNo}
-use Rattle.fr_base.specs.declared.place.Lval.{Lval}
-use Rattle.heap_partition.specs.declared.value.BoxPtr.{BoxPtr}
-use Rattle.heap_partition.specs.declared.value.Cell.{Cell}
-use Rattle.heap_partition.specs.declared.value.Owned.{Owned}
-use Rattle.heap_partition.specs.declared.value.Owned.TheVariants as owned
-use Rattle.mut_borrow.specs.declared.mutable.MutRef.{MutRef}
-use Rattle.owner_box.specs.View.{PartitionState}
-use Rattle.owner_box.specs.Partition.{made, stored}
-use Rattle.thread_state.specs.View.{ThreadState, is_over}
-use Rattle.thread_state.specs.declared.value.Value.{Value}
-use Rattle.thread_state.specs.declared.value.Value.TheVariants as value
-use Rattle.thread_state.specs.declared.phase.Phase.TheVariants as phase
-use Rattle.server_model.specs.Servers.{Rest, Server, Cluster, server_at}
-use Rattle.server_model.specs.Work.{Work, Hand, thread_in, receive, with_slots, with_partition, with_phase, working, then_some}
-use Rattle.server_model.specs.Places.{Spot, in_slot, in_cell, value_in as cell_value, value_at, note_write, with_word, put_at, set_pointer}
-use Rattle.server_model.specs.Prepare.{Prepared, ready, requested, nothing, passing, write_stars}
-use Rattle.server_model.specs.Objects.{passed_spot, arrived_at, arrived_write}
-use Rattle.heap_law.specs.Names.{Among}
-use Rattle.heap_law.specs.Things.{Location, at_slot, in_cell as in_object}
-use Rattle.heap_law.specs.Follow.{Standing, Ground, cell_of, value_in, value_of, slot_of, locate}
-use Rattle.heap_law.specs.Paths.{Awaited, to_write, written_place}
-use Rattle.heap_law.specs.Sight.{sight}
-use Rattle.heap_law.specs.Turn.{NextHop}
-use Rattle.heap_law.specs.Walking.{path}
-use Rattle.heap_law.proofs.Passing.{paths_law}
-use Rattle.event_law.specs.Laws.{FewEvents}
-use Rattle.event_law.proofs.HaveResults.{some_map}
-use Rattle.event_law.proofs.ThreadThere.{thread_there}
-use Rattle.type_law.specs.ClusterTypes.{IsCoherent}
-use Rattle.path_law.specs.HeapStore.{GoesOn, HasPaths}
-use Rattle.path_law.proofs.Alike.{coherent_has_paths}
-use Rattle.path_law.proofs.Contained.{among_thread}
-use Rattle.path_law.proofs.Shown.{stands_there}
-use Rattle.path_law.proofs.Sole.{some_is}
+use Rattle.result_law.specs.Below.fr_base.declared.name.ObjNo.{ObjNo}
+use Rattle.result_law.specs.Below.fr_base.declared.place.Lval.{Lval}
+use Rattle.result_law.specs.Below.heap_partition.declared.value.BoxPtr.{BoxPtr}
+use Rattle.result_law.specs.Below.heap_partition.declared.value.Cell.{Cell}
+use Rattle.result_law.specs.Below.heap_partition.declared.value.Owned.{Owned}
+use Rattle.result_law.specs.Below.heap_partition.declared.value.Owned.TheVariants as owned
+use Rattle.result_law.specs.Below.mut_borrow.declared.mutable.MutRef.{MutRef}
+use Rattle.result_law.specs.Below.owner_box.View.{PartitionState}
+use Rattle.result_law.specs.Below.owner_box.Partition.{made, stored}
+use Rattle.result_law.specs.Below.thread_state.View.{ThreadState, is_over}
+use Rattle.result_law.specs.Below.thread_state.declared.value.Value.{Value}
+use Rattle.result_law.specs.Below.thread_state.declared.value.Value.TheVariants as value
+use Rattle.result_law.specs.Below.thread_state.declared.phase.Phase.TheVariants as phase
+use Rattle.result_law.specs.Below.server_model.Servers.{Rest, Server, Cluster, server_at}
+use Rattle.result_law.specs.Below.server_model.Work.{Work, Hand, thread_in, receive, with_slots, with_partition, with_phase, working, then_some}
+use Rattle.result_law.specs.Below.server_model.Places.{Spot, in_slot, in_cell, value_in as cell_value, value_at, note_write, with_word, put_at, set_pointer}
+use Rattle.result_law.specs.Below.server_model.Prepare.{Prepared, ready, requested, nothing, passing, write_stars}
+use Rattle.result_law.specs.Below.server_model.Objects.{passed_spot, arrived_at, arrived_write}
+use Rattle.result_law.specs.Below.heap_law.Names.{Among}
+use Rattle.result_law.specs.Below.heap_law.Things.{Location, at_slot, in_cell as in_object}
+use Rattle.result_law.specs.Below.heap_law.Follow.{Standing, Ground, cell_of, value_in, value_of, slot_of, locate}
+use Rattle.result_law.specs.Below.heap_law.Paths.{Awaited, to_write, written_place}
+use Rattle.result_law.specs.Below.heap_law.Sight.{sight}
+use Rattle.result_law.specs.Below.heap_law.Turn.{NextHop}
+use Rattle.result_law.specs.Below.heap_law.Walking.{path}
+use Rattle.result_law.proofs.Below.heap_law.Passing.{paths_law}
+use Rattle.result_law.specs.Below.event_law.Laws.{FewEvents}
+use Rattle.result_law.proofs.Below.event_law.HaveResults.{some_map}
+use Rattle.result_law.proofs.Below.event_law.ThreadThere.{thread_there}
+use Rattle.result_law.specs.Below.type_law.ClusterTypes.{IsCoherent}
+use Rattle.result_law.specs.Below.path_law.HeapStore.{GoesOn, HasPaths}
+use Rattle.result_law.proofs.Below.path_law.Alike.{coherent_has_paths}
+use Rattle.result_law.proofs.Below.path_law.Contained.{among_thread}
+use Rattle.result_law.proofs.Below.path_law.Shown.{stands_there}
+use Rattle.result_law.proofs.Below.path_law.Sole.{some_is}
 use Rattle.end_law.proofs.Fresh.{writing}
 use Rattle.write_law.proofs.Memory.{Leads, leads_on, looks, made_leads, made_longer}
 use Rattle.write_law.proofs.Route.{Route, Writing, begins, At, a_slot, a_cell, Fine, all_hops, rerouted}
@@ -73,7 +73,7 @@ slot_takes h m new v there p = subst (λ o. IsSome (then_some o (λ x. then_some
 
     by : (v : Value) → Pointer v → IsSome (then_some (with_word new v) (λ y. put_at (in_slot m) y h))
     by _ (a_box q) = subst (λ b. IsSome (if b then Some (with_slots (slice_set h.thread.slots m (value.Own (owned.Box (record q { word = new })))) h) else None)) (sym test) refl
-    by _ (a_reference r) = subst (λ b. IsSome (if b then Some (with_slots (slice_set h.thread.slots m (value.Mut (Rattle.server_model.specs.Places.took r new))) h) else None)) (sym test) refl
+    by _ (a_reference r) = subst (λ b. IsSome (if b then Some (with_slots (slice_set h.thread.slots m (value.Mut (Rattle.result_law.specs.Below.server_model.Places.took r new))) h) else None)) (sym test) refl
 
 -- and in a cell here
 cell_takes : (h : Hand) (b : ℕ) (q : Option ℕ) (d : Cell) (new : ℕ) → Leads h.work.rest.partition b d → Pointer (value.Own d.value) → IsSome (set_pointer (in_cell b q) new h)

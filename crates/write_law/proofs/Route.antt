@@ -4,30 +4,30 @@ use Rattle.std.specs.Prelude.{slice_get, slice_set}
 use Rattle.std.specs.Bool.{⊤}
 use Rattle.std.proofs.lemmas.Option.{slice_get_within}
 use Rattle.std.proofs.lemmas.Bool.Decides.{nat_tests}
-use Rattle.fr_base.specs.declared.label.Label.{Label}
-use Rattle.fr_base.specs.declared.name.ObjNo.{ObjNo}
-use Rattle.global_addr.specs.Words.{server_of}
-use Rattle.heap_partition.specs.declared.value.BoxPtr.{BoxPtr}
-use Rattle.heap_partition.specs.declared.value.Cell.{Cell}
-use Rattle.heap_partition.specs.declared.value.Owned.{Owned}
-use Rattle.heap_partition.specs.declared.value.Owned.TheVariants as owned
-use Rattle.mut_borrow.specs.declared.mutable.MutRef.{MutRef}
-use Rattle.owner_box.specs.View.{PartitionState}
-use Rattle.owner_box.specs.Partition.{stored}
-use Rattle.journal.specs.declared.act.Act.{Act}
-use Rattle.thread_state.specs.View.{ThreadState}
-use Rattle.thread_state.specs.declared.value.Value.{Value}
-use Rattle.thread_state.specs.declared.value.Value.TheVariants as value
-use Rattle.place_walk.specs.declared.hop.Hop.TheVariants as jump
-use Rattle.place_walk.specs.Hops.{write_hop}
-use Rattle.server_model.specs.Servers.{Rest}
-use Rattle.server_model.specs.Work.{Hand, with_slots, with_partition, working, then_some}
-use Rattle.server_model.specs.NewWords.{NewWord}
-use Rattle.server_model.specs.Places.{Spot, in_slot, in_cell, value_in, value_at, load_at, written, note_slot, note_write, put_at, with_word, put_word}
-use Rattle.server_model.specs.Prepare.{Prepared, ready, requested, nothing, and_then, ready_at, local, passing, box_ready, write_by, pass_by, write_value, write_star, write_stars}
-use Rattle.heap_law.specs.Things.{Location, at_slot, in_cell as in_object}
-use Rattle.path_law.proofs.Sole.{some_is}
-use Rattle.event_law.proofs.Objects.{length_set}
+use Rattle.result_law.specs.Below.fr_base.declared.label.Label.{Label}
+use Rattle.result_law.specs.Below.fr_base.declared.name.ObjNo.{ObjNo}
+use Rattle.result_law.specs.Below.global_addr.Words.{server_of}
+use Rattle.result_law.specs.Below.heap_partition.declared.value.BoxPtr.{BoxPtr}
+use Rattle.result_law.specs.Below.heap_partition.declared.value.Cell.{Cell}
+use Rattle.result_law.specs.Below.heap_partition.declared.value.Owned.{Owned}
+use Rattle.result_law.specs.Below.heap_partition.declared.value.Owned.TheVariants as owned
+use Rattle.result_law.specs.Below.mut_borrow.declared.mutable.MutRef.{MutRef}
+use Rattle.result_law.specs.Below.owner_box.View.{PartitionState}
+use Rattle.result_law.specs.Below.owner_box.Partition.{stored}
+use Rattle.result_law.specs.Below.journal.declared.act.Act.{Act}
+use Rattle.result_law.specs.Below.thread_state.View.{ThreadState}
+use Rattle.result_law.specs.Below.thread_state.declared.value.Value.{Value}
+use Rattle.result_law.specs.Below.thread_state.declared.value.Value.TheVariants as value
+use Rattle.result_law.specs.Below.place_walk.declared.hop.Hop.TheVariants as jump
+use Rattle.result_law.specs.Below.place_walk.Hops.{write_hop}
+use Rattle.result_law.specs.Below.server_model.Servers.{Rest}
+use Rattle.result_law.specs.Below.server_model.Work.{Hand, with_slots, with_partition, working, then_some}
+use Rattle.result_law.specs.Below.server_model.NewWords.{NewWord}
+use Rattle.result_law.specs.Below.server_model.Places.{Spot, in_slot, in_cell, value_in, value_at, load_at, written, note_slot, note_write, put_at, with_word, put_word}
+use Rattle.result_law.specs.Below.server_model.Prepare.{Prepared, ready, requested, nothing, and_then, ready_at, local, passing, box_ready, write_by, pass_by, write_value, write_star, write_stars}
+use Rattle.result_law.specs.Below.heap_law.Things.{Location, at_slot, in_cell as in_object}
+use Rattle.result_law.proofs.Below.path_law.Sole.{some_is}
+use Rattle.result_law.proofs.Below.event_law.Objects.{length_set}
 use Rattle.write_law.proofs.Memory.{Leads, leads_on, looks, Sane, stored_elsewhere, stored_sane, Issues, colour_issued}
 
 pub set_other : (vs : List Value) (i m : ℕ) (v : Value) → (m ≡ i → ⊥) → slice_get (slice_set vs i v) m ≡ slice_get vs m
@@ -371,7 +371,7 @@ module _ (r : Rest) (y : ThreadState) (C : ObjNo → Option Cell) (at : ℕ → 
                 server = issues.given.server;
                 limit = issues.given.limit;
                 sane = λ a. stored_sane p2 word c new leads2 issues.given.sane;
-                long = (let a = issues.given.longer in let e = length_set p2.cells (Rattle.global_addr.specs.Words.address_of word) (Rattle.owner_box.specs.Partition.with_value new (Rattle.owner_box.specs.Partition.cell_of p2 word)) in omega (arith, a, e));
+                long = (let a = issues.given.longer in let e = length_set p2.cells (Rattle.result_law.specs.Below.global_addr.Words.address_of word) (Rattle.result_law.specs.Below.owner_box.Partition.with_value new (Rattle.result_law.specs.Below.owner_box.Partition.cell_of p2 word)) in omega (arith, a, e));
                 size = marks_size q h.thread.slots;
                 slots = λ k away. marks_other q h.thread.slots k (λ e. let r2 = behind_is j q k behind e in away r2.0 (let lt2 = r2.1 in omega (arith, lt2)) r2.2);
                 cells = λ v e lead away.

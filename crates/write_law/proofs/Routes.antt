@@ -4,52 +4,52 @@ use Rattle.std.proofs.Common.{◌≡◌, ◌≤◌, ◌<◌, ℕ, suc, ◌+◌, 
 use Rattle.std.specs.Prelude.{slice_get}
 use Rattle.std.specs.List.{AllByRecursion}
 use Rattle.std.proofs.lemmas.Bool.Decides.{nat_tests}
-use Rattle.fr_base.specs.declared.name.ObjNo.{ObjNo}
-use Rattle.fr_base.specs.declared.place.Lval.{Lval}
-use Rattle.fr_store.specs.Keys.{Key, slot_k}
-use Rattle.fr_store.specs.Typed.{Exact, KeyTypes, Resolves}
-use Rattle.global_addr.specs.Words.{server_of}
-use Rattle.heap_partition.specs.declared.value.BoxPtr.{BoxPtr}
-use Rattle.heap_partition.specs.declared.value.Cell.{Cell}
-use Rattle.heap_partition.specs.declared.value.Owned.{Owned}
-use Rattle.heap_partition.specs.declared.value.Owned.TheVariants as owned
-use Rattle.mut_borrow.specs.declared.mutable.MutRef.{MutRef}
-use Rattle.owner_box.specs.View.{PartitionState}
-use Rattle.thread_state.specs.View.{ThreadState}
-use Rattle.thread_state.specs.declared.value.Value.{Value}
-use Rattle.thread_state.specs.declared.value.Value.TheVariants as value
-use Rattle.server_model.specs.Servers.{Server, Cluster, server_at}
-use Rattle.server_model.specs.Places.{pointer_of}
-use Rattle.heap_law.specs.Names.{tot, one, other, same_object}
-use Rattle.heap_law.specs.Things.{Location, at_slot, in_cell as in_object, lies, things_at, cell_things, free_things, things_of}
-use Rattle.heap_law.specs.Follow.{Standing, Ground, cell_of, value_in, value_of, slot_of, leads, locate}
-use Rattle.heap_law.specs.Sight.{Pointer, sight}
-use Rattle.heap_law.specs.Passing.{MayPass, over_box, over_reference, LiesAt, IsPassed}
-use Rattle.heap_law.specs.Paths.{written_place}
-use Rattle.heap_law.specs.Placing.{words, next_colours}
-use Rattle.heap_law.specs.Naming.{events_of, large_counts}
-use Rattle.heap_law.specs.Walking.{path}
-use Rattle.heap_law.specs.Weights.{cells}
-use Rattle.heap_law.specs.Words.{IsStale}
-use Rattle.heap_law.specs.Coherent.{IsSound}
-use Rattle.event_law.specs.Laws.{FewEvents}
-use Rattle.type_law.specs.ClusterTypes.{IsCoherent}
-use Rattle.heap_law.proofs.Passing.{paths_law}
-use Rattle.heap_law.proofs.Sums.{tot-append, server_parts}
-use Rattle.heap_law.proofs.Words.{itself}
-use Rattle.event_law.proofs.Askers.{other_none}
-use Rattle.event_law.proofs.Bags.{counts_of}
-use Rattle.event_law.proofs.Each.{at_most}
-use Rattle.event_law.proofs.Events.{tot-server}
-use Rattle.event_law.proofs.KnownSound.{server_known}
+use Rattle.result_law.specs.Below.fr_base.declared.name.ObjNo.{ObjNo}
+use Rattle.result_law.specs.Below.fr_base.declared.place.Lval.{Lval}
+use Rattle.result_law.specs.Below.fr_store.Keys.{Key, slot_k}
+use Rattle.result_law.specs.Below.fr_store.Typed.{Exact, KeyTypes, Resolves}
+use Rattle.result_law.specs.Below.global_addr.Words.{server_of}
+use Rattle.result_law.specs.Below.heap_partition.declared.value.BoxPtr.{BoxPtr}
+use Rattle.result_law.specs.Below.heap_partition.declared.value.Cell.{Cell}
+use Rattle.result_law.specs.Below.heap_partition.declared.value.Owned.{Owned}
+use Rattle.result_law.specs.Below.heap_partition.declared.value.Owned.TheVariants as owned
+use Rattle.result_law.specs.Below.mut_borrow.declared.mutable.MutRef.{MutRef}
+use Rattle.result_law.specs.Below.owner_box.View.{PartitionState}
+use Rattle.result_law.specs.Below.thread_state.View.{ThreadState}
+use Rattle.result_law.specs.Below.thread_state.declared.value.Value.{Value}
+use Rattle.result_law.specs.Below.thread_state.declared.value.Value.TheVariants as value
+use Rattle.result_law.specs.Below.server_model.Servers.{Server, Cluster, server_at}
+use Rattle.result_law.specs.Below.server_model.Places.{pointer_of}
+use Rattle.result_law.specs.Below.heap_law.Names.{tot, one, other, same_object}
+use Rattle.result_law.specs.Below.heap_law.Things.{Location, at_slot, in_cell as in_object, lies, things_at, cell_things, free_things, things_of}
+use Rattle.result_law.specs.Below.heap_law.Follow.{Standing, Ground, cell_of, value_in, value_of, slot_of, leads, locate}
+use Rattle.result_law.specs.Below.heap_law.Sight.{Pointer, sight}
+use Rattle.result_law.specs.Below.heap_law.Passing.{MayPass, over_box, over_reference, LiesAt, IsPassed}
+use Rattle.result_law.specs.Below.heap_law.Paths.{written_place}
+use Rattle.result_law.specs.Below.heap_law.Placing.{words, next_colours}
+use Rattle.result_law.specs.Below.heap_law.Naming.{events_of, large_counts}
+use Rattle.result_law.specs.Below.heap_law.Walking.{path}
+use Rattle.result_law.specs.Below.heap_law.Weights.{cells}
+use Rattle.result_law.specs.Below.heap_law.Words.{IsStale}
+use Rattle.result_law.specs.Below.heap_law.Coherent.{IsSound}
+use Rattle.result_law.specs.Below.event_law.Laws.{FewEvents}
+use Rattle.result_law.specs.Below.type_law.ClusterTypes.{IsCoherent}
+use Rattle.result_law.proofs.Below.heap_law.Passing.{paths_law}
+use Rattle.result_law.proofs.Below.heap_law.Sums.{tot-append, server_parts}
+use Rattle.result_law.proofs.Below.heap_law.Words.{itself}
+use Rattle.result_law.proofs.Below.event_law.Askers.{other_none}
+use Rattle.result_law.proofs.Below.event_law.Bags.{counts_of}
+use Rattle.result_law.proofs.Below.event_law.Each.{at_most}
+use Rattle.result_law.proofs.Below.event_law.Events.{tot-server}
+use Rattle.result_law.proofs.Below.event_law.KnownSound.{server_known}
 use Rattle.still_law.proofs.Addresses.{InPlace, in_place}
 use Rattle.still_law.proofs.Leaving.{others, placed_here}
-use Rattle.path_law.specs.HeapStore.{GoesOn, IsUnmarked, HasPaths}
-use Rattle.path_law.proofs.Alike.{leads_in_heap, IsShown, a_slot, an_object, lead_alike}
-use Rattle.path_law.proofs.Circles.{shorter}
-use Rattle.path_law.proofs.InState.{only_one}
-use Rattle.path_law.proofs.Shown.{stands_there}
-use Rattle.path_law.proofs.Sole.{some_is}
+use Rattle.result_law.specs.Below.path_law.HeapStore.{GoesOn, IsUnmarked, HasPaths}
+use Rattle.result_law.proofs.Below.path_law.Alike.{leads_in_heap, IsShown, a_slot, an_object, lead_alike}
+use Rattle.result_law.proofs.Below.path_law.Circles.{shorter}
+use Rattle.result_law.proofs.Below.path_law.InState.{only_one}
+use Rattle.result_law.proofs.Below.path_law.Shown.{stands_there}
+use Rattle.result_law.proofs.Below.path_law.Sole.{some_is}
 use Rattle.end_law.proofs.Below.word_law.Standing.{lying, cell_found}
 use Rattle.end_law.specs.Below.read_law.Reading.{LiesUnder}
 use Rattle.end_law.proofs.Fresh.{writes_are_fresh}
@@ -76,7 +76,7 @@ module _ (k : Cluster) (co : IsCoherent k) (few : FewEvents k) (n : ℕ) (s : Se
       let sound : IsSound k = co.sound in
       let fits = its_partition k sound n s here in
       let limit : ℕ = k.options.colours in
-      let all : tot (words (λ v. other (nat_lt (Rattle.global_addr.specs.Words.colour_of v) limit))) (things_of k) + tot (next_colours limit) (things_of k) ≡ 0 = sound.words.below_limit in
+      let all : tot (words (λ v. other (nat_lt (Rattle.result_law.specs.Below.global_addr.Words.colour_of v) limit))) (things_of k) + tot (next_colours limit) (things_of k) ≡ 0 = sound.words.below_limit in
       let f = next_colours limit in
       let m = s.rest.number in
       let cells_there = things_at (cell_things m P.free) 0 P.cells in

@@ -1,21 +1,21 @@
 -- The place that an enabled step of a coherent cluster follows for writing is a route from its hand.
 use Rattle.std.proofs.Common.{◌≡◌, ◌≤◌, ℕ, ◌^◌, true, length, Option, Some, sym, ap, ◌∙◌, arith}
-use Rattle.fr_base.specs.declared.name.ObjNo.{ObjNo}
-use Rattle.fr_base.specs.declared.place.Lval.{Lval}
-use Rattle.fr_base.specs.declared.instruction.Instr.{Instr}
-use Rattle.fr_store.specs.Keys.{Key, slot_k}
-use Rattle.fr_store.specs.Typed.{Exact, Resolves}
-use Rattle.heap_partition.specs.declared.value.Cell.{Cell}
-use Rattle.thread_state.specs.View.{ThreadState}
-use Rattle.thread_state.specs.declared.phase.Phase.TheVariants as phase
-use Rattle.server_model.specs.Servers.{Server, Cluster}
-use Rattle.server_model.specs.Events.{can_step}
-use Rattle.heap_law.specs.Things.{Location}
-use Rattle.heap_law.specs.Follow.{Standing, cell_of, locate}
-use Rattle.heap_law.specs.Paths.{written_place}
-use Rattle.heap_law.specs.Sight.{sight}
-use Rattle.heap_law.specs.Walking.{path}
-use Rattle.path_law.specs.HeapStore.{IsUnmarked}
+use Rattle.result_law.specs.Below.fr_base.declared.name.ObjNo.{ObjNo}
+use Rattle.result_law.specs.Below.fr_base.declared.place.Lval.{Lval}
+use Rattle.result_law.specs.Below.fr_base.declared.instruction.Instr.{Instr}
+use Rattle.result_law.specs.Below.fr_store.Keys.{Key, slot_k}
+use Rattle.result_law.specs.Below.fr_store.Typed.{Exact, Resolves}
+use Rattle.result_law.specs.Below.heap_partition.declared.value.Cell.{Cell}
+use Rattle.result_law.specs.Below.thread_state.View.{ThreadState}
+use Rattle.result_law.specs.Below.thread_state.declared.phase.Phase.TheVariants as phase
+use Rattle.result_law.specs.Below.server_model.Servers.{Server, Cluster}
+use Rattle.result_law.specs.Below.server_model.Events.{can_step}
+use Rattle.result_law.specs.Below.heap_law.Things.{Location}
+use Rattle.result_law.specs.Below.heap_law.Follow.{Standing, cell_of, locate}
+use Rattle.result_law.specs.Below.heap_law.Paths.{written_place}
+use Rattle.result_law.specs.Below.heap_law.Sight.{sight}
+use Rattle.result_law.specs.Below.heap_law.Walking.{path}
+use Rattle.result_law.specs.Below.path_law.HeapStore.{IsUnmarked}
 use Rattle.end_law.proofs.Lying.{written_lie_there}
 use Rattle.result_law.proofs.Known.{Steps, standing, able, paths, goes}
 use Rattle.write_law.proofs.Memory.{Sane}

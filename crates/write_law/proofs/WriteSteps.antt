@@ -1,42 +1,42 @@
 -- Each enabled assignment and each enabled move through stars has a result.
 use Rattle.std.proofs.Common.{◌≡◌, ◌≤◌, ℕ, zero, suc, true, false, List, reverse, Option, Some, None, IsSome, refl, sym, ap, subst, ◌∙◌}
 use Rattle.std.specs.Prelude.{slice_get}
-use Rattle.fr_base.specs.declared.place.Lval.{Lval}
-use Rattle.fr_base.specs.declared.instruction.Operand.{Operand}
-use Rattle.fr_base.specs.declared.instruction.Instr.{Instr}
-use Rattle.fr_base.specs.declared.instruction.Instr.TheVariants as instr
-use Rattle.fr_typing.specs.Kinds.{Owned as OwnedType, Kind, own, Piece}
-use Rattle.fr_typing.specs.Places.{owned_shape, found, piece_shape, equal_shapes, shape_at}
-use Rattle.fr_typing.specs.Checks.{is_kept_out, has_shape_of}
-use Rattle.fr_typing.specs.Finding.{IsOpen}
-use Rattle.fr_store.specs.Keys.{slot_k}
-use Rattle.fr_store.specs.Typed.{KeyTypes}
-use Rattle.fr_store.specs.Below.{ExactOf}
-use Rattle.fr_store.proofs.Below.{Resolved, mut_place, resolved_writable}
-use Rattle.fr_code.specs.CodeTypes.{Entry, Table, Takes, HasType, InstrTypes, i_assign, i_move}
-use Rattle.thread_state.specs.View.{ThreadState}
-use Rattle.thread_state.specs.declared.value.Value.{Value}
-use Rattle.thread_state.specs.declared.value.Value.TheVariants as value
-use Rattle.server_model.specs.declared.event.What.TheVariants.{Step}
-use Rattle.server_model.specs.Servers.{Server, Cluster}
-use Rattle.server_model.specs.Work.{Hand, with_temps, then_some}
-use Rattle.server_model.specs.Places.{Spot, in_slot}
-use Rattle.server_model.specs.Prepare.{ReadTo, ending, assigned, read_or_taken, access_of, prepare, write_stars}
-use Rattle.server_model.specs.Commit.{goes_on, replace_at, assign}
-use Rattle.server_model.specs.Events.{committed, prepared}
-use Rattle.heap_law.specs.Things.{Location, at_slot}
-use Rattle.heap_law.specs.Follow.{Standing}
-use Rattle.heap_law.specs.Paths.{path_of, assigning, taking, written_place}
-use Rattle.heap_law.specs.Sight.{sight}
-use Rattle.heap_law.specs.Walking.{path}
-use Rattle.event_law.specs.Kinds.{step_assign, step_read, instr_kind}
-use Rattle.event_law.specs.Laws.{HasResult}
-use Rattle.type_law.specs.Names.{NameTypes}
-use Rattle.type_law.specs.ClusterTypes.{temps_wrong}
-use Rattle.path_law.specs.HeapStore.{heap_store, GoesOn, IsUnmarked, HasPaths}
-use Rattle.path_law.specs.Pointing.{MayWrite, moves}
-use Rattle.path_law.proofs.Forms.{names as names_at}
-use Rattle.path_law.proofs.MayWrites.{awake_thread, slot_there, variable_unmarked, may_write_there}
+use Rattle.result_law.specs.Below.fr_base.declared.place.Lval.{Lval}
+use Rattle.result_law.specs.Below.fr_base.declared.instruction.Operand.{Operand}
+use Rattle.result_law.specs.Below.fr_base.declared.instruction.Instr.{Instr}
+use Rattle.result_law.specs.Below.fr_base.declared.instruction.Instr.TheVariants as instr
+use Rattle.result_law.specs.Below.fr_typing.Kinds.{Owned as OwnedType, Kind, own, Piece}
+use Rattle.result_law.specs.Below.fr_typing.Places.{owned_shape, found, piece_shape, equal_shapes, shape_at}
+use Rattle.result_law.specs.Below.fr_typing.Checks.{is_kept_out, has_shape_of}
+use Rattle.result_law.specs.Below.fr_typing.Finding.{IsOpen}
+use Rattle.result_law.specs.Below.fr_store.Keys.{slot_k}
+use Rattle.result_law.specs.Below.fr_store.Typed.{KeyTypes}
+use Rattle.result_law.specs.Below.fr_store.Below.{ExactOf}
+use Rattle.result_law.proofs.Below.fr_store.Below.{Resolved, mut_place, resolved_writable}
+use Rattle.result_law.specs.Below.fr_code.CodeTypes.{Entry, Table, Takes, HasType, InstrTypes, i_assign, i_move}
+use Rattle.result_law.specs.Below.thread_state.View.{ThreadState}
+use Rattle.result_law.specs.Below.thread_state.declared.value.Value.{Value}
+use Rattle.result_law.specs.Below.thread_state.declared.value.Value.TheVariants as value
+use Rattle.result_law.specs.Below.server_model.declared.event.What.TheVariants.{Step}
+use Rattle.result_law.specs.Below.server_model.Servers.{Server, Cluster}
+use Rattle.result_law.specs.Below.server_model.Work.{Hand, with_temps, then_some}
+use Rattle.result_law.specs.Below.server_model.Places.{Spot, in_slot}
+use Rattle.result_law.specs.Below.server_model.Prepare.{ReadTo, ending, assigned, read_or_taken, access_of, prepare, write_stars}
+use Rattle.result_law.specs.Below.server_model.Commit.{goes_on, replace_at, assign}
+use Rattle.result_law.specs.Below.server_model.Events.{committed, prepared}
+use Rattle.result_law.specs.Below.heap_law.Things.{Location, at_slot}
+use Rattle.result_law.specs.Below.heap_law.Follow.{Standing}
+use Rattle.result_law.specs.Below.heap_law.Paths.{path_of, assigning, taking, written_place}
+use Rattle.result_law.specs.Below.heap_law.Sight.{sight}
+use Rattle.result_law.specs.Below.heap_law.Walking.{path}
+use Rattle.result_law.specs.Below.event_law.Kinds.{step_assign, step_read, instr_kind}
+use Rattle.result_law.specs.Below.event_law.Laws.{HasResult}
+use Rattle.result_law.specs.Below.type_law.Names.{NameTypes}
+use Rattle.result_law.specs.Below.type_law.ClusterTypes.{temps_wrong}
+use Rattle.result_law.specs.Below.path_law.HeapStore.{heap_store, GoesOn, IsUnmarked, HasPaths}
+use Rattle.result_law.specs.Below.path_law.Pointing.{MayWrite, moves}
+use Rattle.result_law.proofs.Below.path_law.Forms.{names as names_at}
+use Rattle.result_law.proofs.Below.path_law.MayWrites.{awake_thread, slot_there, variable_unmarked, may_write_there}
 use Rattle.result_law.specs.Results.{StepsHaveResults}
 use Rattle.result_law.proofs.Operands.{gets, got_owned}
 use Rattle.result_law.proofs.Known.{Steps, hand, standing, paths, goes, types, names, entry, typed, temps_fit, has_result}

@@ -4,42 +4,42 @@ use Rattle.std.specs.Prelude.{slice_get, slice_set}
 use Rattle.std.specs.Bool.{⊤}
 use Rattle.std.proofs.lemmas.Option.{slice_get_within}
 use Rattle.std.proofs.lemmas.Bool.Decides.{nat_tests}
-use Rattle.fr_base.specs.declared.label.Label.{Label}
-use Rattle.fr_base.specs.declared.name.ObjNo.{ObjNo}
-use Rattle.fr_base.specs.declared.place.Lval.{Lval}
-use Rattle.fr_base.specs.declared.step.Fresh.TheVariants as fresh
-use Rattle.fr_base.specs.declared.instruction.Instr.{Instr}
-use Rattle.fr_typing.specs.Kinds.{Owned as OwnedType, Kind, own, shared, mutable, view, Piece, whole, gone, boxed, map_some}
-use Rattle.fr_typing.specs.Places.{Shape, owned_shape, piece_shape, equal_shapes, first_shape, shared_to, mutable_to}
-use Rattle.fr_typing.specs.Checks.{is_kept_out}
-use Rattle.fr_store.specs.Keys.{Key, slot_k}
-use Rattle.fr_store.specs.Typed.{Tree, Exact, owns, refers, KeyTypes, Resolves}
-use Rattle.fr_store.specs.Below.{TreeOf, RefOf, ExactOf}
-use Rattle.heap_partition.specs.declared.value.Cell.{Cell}
-use Rattle.heap_partition.specs.declared.value.Owned.{Owned}
-use Rattle.heap_partition.specs.declared.value.Owned.TheVariants as owned
-use Rattle.migration.specs.Packing.{unpin_all}
-use Rattle.owner_box.specs.Partition.{stored}
-use Rattle.thread_state.specs.View.{ThreadState}
-use Rattle.thread_state.specs.declared.value.Value.{Value}
-use Rattle.thread_state.specs.declared.value.Value.TheVariants as value
-use Rattle.server_model.specs.Servers.{Rest, Server, Cluster}
-use Rattle.server_model.specs.Work.{Hand, with_slots, with_temps, with_partition, working, push_temp, label_all, then_some}
-use Rattle.server_model.specs.Places.{Spot, in_slot, in_cell, nowhere, value_in as cell_value, value_at, cell_at, load_of, load_at, put_slot, note_write}
-use Rattle.server_model.specs.Prepare.{Prepared, ready, requested, nothing, write_stars}
-use Rattle.server_model.specs.Drop.{give_up, drop_labels, drop_value}
-use Rattle.server_model.specs.Commit.{goes_on, go_on, label_dropped, store_labels, store_at, replace_at, take_out, read, commit}
-use Rattle.server_model.specs.Events.{committed, prepared}
-use Rattle.heap_law.specs.Things.{Location, at_slot, in_cell as in_object}
-use Rattle.heap_law.specs.Follow.{Standing, Ground, value_in, slot_of}
-use Rattle.heap_law.specs.Paths.{written_place}
-use Rattle.heap_law.specs.Sight.{sight}
-use Rattle.heap_law.specs.Walking.{path}
-use Rattle.type_law.specs.Names.{NameTypes}
-use Rattle.type_law.specs.ClusterTypes.{has_form}
-use Rattle.path_law.specs.HeapStore.{GoesOn, IsUnmarked, HasPaths}
-use Rattle.path_law.proofs.Shown.{stands_there}
-use Rattle.path_law.proofs.Sole.{some_is}
+use Rattle.result_law.specs.Below.fr_base.declared.label.Label.{Label}
+use Rattle.result_law.specs.Below.fr_base.declared.name.ObjNo.{ObjNo}
+use Rattle.result_law.specs.Below.fr_base.declared.place.Lval.{Lval}
+use Rattle.result_law.specs.Below.fr_base.declared.step.Fresh.TheVariants as fresh
+use Rattle.result_law.specs.Below.fr_base.declared.instruction.Instr.{Instr}
+use Rattle.result_law.specs.Below.fr_typing.Kinds.{Owned as OwnedType, Kind, own, shared, mutable, view, Piece, whole, gone, boxed, map_some}
+use Rattle.result_law.specs.Below.fr_typing.Places.{Shape, owned_shape, piece_shape, equal_shapes, first_shape, shared_to, mutable_to}
+use Rattle.result_law.specs.Below.fr_typing.Checks.{is_kept_out}
+use Rattle.result_law.specs.Below.fr_store.Keys.{Key, slot_k}
+use Rattle.result_law.specs.Below.fr_store.Typed.{Tree, Exact, owns, refers, KeyTypes, Resolves}
+use Rattle.result_law.specs.Below.fr_store.Below.{TreeOf, RefOf, ExactOf}
+use Rattle.result_law.specs.Below.heap_partition.declared.value.Cell.{Cell}
+use Rattle.result_law.specs.Below.heap_partition.declared.value.Owned.{Owned}
+use Rattle.result_law.specs.Below.heap_partition.declared.value.Owned.TheVariants as owned
+use Rattle.result_law.specs.Below.migration.Packing.{unpin_all}
+use Rattle.result_law.specs.Below.owner_box.Partition.{stored}
+use Rattle.result_law.specs.Below.thread_state.View.{ThreadState}
+use Rattle.result_law.specs.Below.thread_state.declared.value.Value.{Value}
+use Rattle.result_law.specs.Below.thread_state.declared.value.Value.TheVariants as value
+use Rattle.result_law.specs.Below.server_model.Servers.{Rest, Server, Cluster}
+use Rattle.result_law.specs.Below.server_model.Work.{Hand, with_slots, with_temps, with_partition, working, push_temp, label_all, then_some}
+use Rattle.result_law.specs.Below.server_model.Places.{Spot, in_slot, in_cell, nowhere, value_in as cell_value, value_at, cell_at, load_of, load_at, put_slot, note_write}
+use Rattle.result_law.specs.Below.server_model.Prepare.{Prepared, ready, requested, nothing, write_stars}
+use Rattle.result_law.specs.Below.server_model.Drop.{give_up, drop_labels, drop_value}
+use Rattle.result_law.specs.Below.server_model.Commit.{goes_on, go_on, label_dropped, store_labels, store_at, replace_at, take_out, read, commit}
+use Rattle.result_law.specs.Below.server_model.Events.{committed, prepared}
+use Rattle.result_law.specs.Below.heap_law.Things.{Location, at_slot, in_cell as in_object}
+use Rattle.result_law.specs.Below.heap_law.Follow.{Standing, Ground, value_in, slot_of}
+use Rattle.result_law.specs.Below.heap_law.Paths.{written_place}
+use Rattle.result_law.specs.Below.heap_law.Sight.{sight}
+use Rattle.result_law.specs.Below.heap_law.Walking.{path}
+use Rattle.result_law.specs.Below.type_law.Names.{NameTypes}
+use Rattle.result_law.specs.Below.type_law.ClusterTypes.{has_form}
+use Rattle.result_law.specs.Below.path_law.HeapStore.{GoesOn, IsUnmarked, HasPaths}
+use Rattle.result_law.proofs.Below.path_law.Shown.{stands_there}
+use Rattle.result_law.proofs.Below.path_law.Sole.{some_is}
 use Rattle.result_law.proofs.Usable.{walk_goes}
 use Rattle.result_law.proofs.Known.{settled, Steps, hand, standing, paths, goes, usable}
 use Rattle.result_law.proofs.Lines as line
@@ -115,9 +115,9 @@ Left h o = (h2 : Hand) × (o ≡ Some h2) × (h2.thread.walk ≡ h.thread.walk) 
 
 labelled_value : (ls : List Label) (h : Hand) (sp : Spot) → value_at (working (label_all ls) h) sp ≡ value_at h sp
 labelled_value ls h (in_slot m) = refl
-labelled_value ls h Rattle.server_model.specs.Places.on_top = refl
+labelled_value ls h Rattle.result_law.specs.Below.server_model.Places.on_top = refl
 labelled_value ls h (in_cell w q) = refl
-labelled_value ls h (Rattle.server_model.specs.Places.in_copy w) = refl
+labelled_value ls h (Rattle.result_law.specs.Below.server_model.Places.in_copy w) = refl
 labelled_value ls h nowhere = refl
 
 module _ (r : Rest) (y : ThreadState) (C0 : ObjNo → Option Cell) (at0 : ℕ → Option Location) where

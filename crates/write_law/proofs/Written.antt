@@ -2,44 +2,44 @@
 use Rattle.std.proofs.Common.{◌≡◌, inl, ℕ, suc, ◌<◌, ◌≤◌, nat_le, true, Option, Some, None, refl, sym, ap, subst, ◌∙◌, arith}
 use Rattle.std.specs.Prelude.{slice_get}
 use Rattle.std.proofs.lemmas.Bool.Decides.{nat_tests}
-use Rattle.fr_base.specs.declared.place.Lval.{Lval}
-use Rattle.fr_base.specs.declared.instruction.Instr.{Instr}
-use Rattle.fr_base.specs.declared.instruction.Instr.TheVariants as instr
-use Rattle.fr_code.specs.CodeTypes.{Entry, Table, InstrTypes, i_assign, i_move, i_borrow_mut}
-use Rattle.fr_code.specs.CodeTable.{Leads, Successors, to_next, ends as ends_there}
-use Rattle.fr_store.specs.Keys.{Key, slot_k}
-use Rattle.fr_store.specs.Store.{Place as StorePlace}
-use Rattle.fr_store.specs.Typed.{Exact, KeyTypes, Resolves, RefFits}
-use Rattle.fr_store.proofs.Sound.{ref_at}
-use Rattle.heap_partition.specs.declared.value.BoxPtr.{BoxPtr}
-use Rattle.heap_partition.specs.declared.value.Owned.TheVariants as owned
-use Rattle.mut_borrow.specs.declared.mutable.MutRef.{MutRef}
-use Rattle.thread_state.specs.declared.value.Value.{Value}
-use Rattle.thread_state.specs.declared.value.Value.TheVariants as value
-use Rattle.server_model.specs.Servers.{Cluster}
-use Rattle.server_model.specs.Places.{pointer_of}
-use Rattle.heap_partition.specs.declared.value.Cell.{Cell}
-use Rattle.heap_law.specs.Names.{tot, Among}
-use Rattle.heap_law.specs.Things.{Location, at_slot, at_temp, in_cell, borrows, things_of}
-use Rattle.heap_law.specs.Naming.{most_stars, long_holder}
-use Rattle.heap_law.specs.Coherent.{Holds, holders_short}
-use Rattle.heap_law.proofs.Words.{none_at}
-use Rattle.event_law.proofs.Askers.{other_none}
-use Rattle.heap_law.specs.Follow.{Standing, cell_of, value_of, value_in, locate}
-use Rattle.heap_law.specs.Paths.{ends, written_place}
-use Rattle.heap_law.specs.Passing.{MayPass, over_box, over_reference, to_slot, to_lent_slot, LiesAt, HavePassed, IsPassed}
-use Rattle.heap_law.specs.Sight.{sight}
-use Rattle.heap_law.specs.Walking.{path}
-use Rattle.heap_law.specs.Words.{IsStale, HasWords, LeadsTo}
-use Rattle.heap_law.proofs.Passing.{paths_law}
-use Rattle.path_law.specs.HeapStore.{heap_store, GoesOn, IsUnmarked, HasPaths}
-use Rattle.path_law.specs.Pointing.{WritesTo, assigns, moves, lends}
-use Rattle.path_law.proofs.Forms.{running_typed}
+use Rattle.result_law.specs.Below.fr_base.declared.place.Lval.{Lval}
+use Rattle.result_law.specs.Below.fr_base.declared.instruction.Instr.{Instr}
+use Rattle.result_law.specs.Below.fr_base.declared.instruction.Instr.TheVariants as instr
+use Rattle.result_law.specs.Below.fr_code.CodeTypes.{Entry, Table, InstrTypes, i_assign, i_move, i_borrow_mut}
+use Rattle.result_law.specs.Below.fr_code.CodeTable.{Leads, Successors, to_next, ends as ends_there}
+use Rattle.result_law.specs.Below.fr_store.Keys.{Key, slot_k}
+use Rattle.result_law.specs.Below.fr_store.Store.{Place as StorePlace}
+use Rattle.result_law.specs.Below.fr_store.Typed.{Exact, KeyTypes, Resolves, RefFits}
+use Rattle.result_law.proofs.Below.fr_store.Sound.{ref_at}
+use Rattle.result_law.specs.Below.heap_partition.declared.value.BoxPtr.{BoxPtr}
+use Rattle.result_law.specs.Below.heap_partition.declared.value.Owned.TheVariants as owned
+use Rattle.result_law.specs.Below.mut_borrow.declared.mutable.MutRef.{MutRef}
+use Rattle.result_law.specs.Below.thread_state.declared.value.Value.{Value}
+use Rattle.result_law.specs.Below.thread_state.declared.value.Value.TheVariants as value
+use Rattle.result_law.specs.Below.server_model.Servers.{Cluster}
+use Rattle.result_law.specs.Below.server_model.Places.{pointer_of}
+use Rattle.result_law.specs.Below.heap_partition.declared.value.Cell.{Cell}
+use Rattle.result_law.specs.Below.heap_law.Names.{tot, Among}
+use Rattle.result_law.specs.Below.heap_law.Things.{Location, at_slot, at_temp, in_cell, borrows, things_of}
+use Rattle.result_law.specs.Below.heap_law.Naming.{most_stars, long_holder}
+use Rattle.result_law.specs.Below.heap_law.Coherent.{Holds, holders_short}
+use Rattle.result_law.proofs.Below.heap_law.Words.{none_at}
+use Rattle.result_law.proofs.Below.event_law.Askers.{other_none}
+use Rattle.result_law.specs.Below.heap_law.Follow.{Standing, cell_of, value_of, value_in, locate}
+use Rattle.result_law.specs.Below.heap_law.Paths.{ends, written_place}
+use Rattle.result_law.specs.Below.heap_law.Passing.{MayPass, over_box, over_reference, to_slot, to_lent_slot, LiesAt, HavePassed, IsPassed}
+use Rattle.result_law.specs.Below.heap_law.Sight.{sight}
+use Rattle.result_law.specs.Below.heap_law.Walking.{path}
+use Rattle.result_law.specs.Below.heap_law.Words.{IsStale, HasWords, LeadsTo}
+use Rattle.result_law.proofs.Below.heap_law.Passing.{paths_law}
+use Rattle.result_law.specs.Below.path_law.HeapStore.{heap_store, GoesOn, IsUnmarked, HasPaths}
+use Rattle.result_law.specs.Below.path_law.Pointing.{WritesTo, assigns, moves, lends}
+use Rattle.result_law.proofs.Below.path_law.Forms.{running_typed}
 use Rattle.end_law.proofs.Below.word_law.Standing.{slot_among, temp_among}
-use Rattle.path_law.proofs.Alike.{mark_unnamed}
-use Rattle.path_law.proofs.Circles.{shorter}
-use Rattle.path_law.proofs.MayWrites.{may_write_there}
-use Rattle.path_law.proofs.Sole.{some_is}
+use Rattle.result_law.proofs.Below.path_law.Alike.{mark_unnamed}
+use Rattle.result_law.proofs.Below.path_law.Circles.{shorter}
+use Rattle.result_law.proofs.Below.path_law.MayWrites.{may_write_there}
+use Rattle.result_law.proofs.Below.path_law.Sole.{some_is}
 use Rattle.end_law.specs.Below.read_law.Reading.{LiesUnder}
 use Rattle.end_law.proofs.Below.read_law.Homes.{fresh_word}
 use Rattle.end_law.proofs.Alone.{holder_stars}

@@ -1,12 +1,12 @@
 -- THAT THE DELIVERY OF AN OBJECT THAT COMES HAS A RESULT, whatever its thread has passed (this project's rule).
 use Rattle.std.specs.Prelude.{◌≡◌, ℕ, true, Some, slice_get}
-use Rattle.heap_partition.specs.declared.value.Cell.{Cell}
-use Rattle.server_msgs.specs.declared.message.Message.TheVariants.{Moved}
-use Rattle.server_model.specs.declared.event.What.TheVariants.{Deliver}
-use Rattle.server_model.specs.Servers.{Server, Cluster, server_at}
-use Rattle.server_model.specs.Events.{enabled}
-use Rattle.event_law.specs.Laws.{FewEvents, HasResult}
-use Rattle.type_law.specs.ClusterTypes.{IsCoherent}
+use Rattle.result_law.specs.Below.heap_partition.declared.value.Cell.{Cell}
+use Rattle.result_law.specs.Below.server_msgs.declared.message.Message.TheVariants.{Moved}
+use Rattle.result_law.specs.Below.server_model.declared.event.What.TheVariants.{Deliver}
+use Rattle.result_law.specs.Below.server_model.Servers.{Server, Cluster, server_at}
+use Rattle.result_law.specs.Below.server_model.Events.{enabled}
+use Rattle.result_law.specs.Below.event_law.Laws.{FewEvents, HasResult}
+use Rattle.result_law.specs.Below.type_law.ClusterTypes.{IsCoherent}
 
 -- in a coherent cluster where few events were done
 abbrev pub MovedHaveResults : Type 0

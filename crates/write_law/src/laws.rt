@@ -1,6 +1,6 @@
 //! That a step that writes through a place, or ends a mutable reference, has a result.
 
-ghost use Rattle.event_law.specs.Kinds.{step_assign, step_discard, step_drop_slot, step_read};
+ghost use Rattle.result_law.specs.Below.event_law.Kinds.{step_assign, step_discard, step_drop_slot, step_read};
 ghost use Rattle.result_law.specs.Results.{Anyhow, StepsHaveResults};
 ghost use Rattle.write_law.specs.Deliveries.{MovedHaveResults};
 

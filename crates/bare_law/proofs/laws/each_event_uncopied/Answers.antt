@@ -1,5 +1,5 @@
 use Rattle.bare_law.proofs.laws.each_event_uncopied.Goals as goal
-use Rattle.heap_law.specs.Coherent.{passed_not_copied}
+use Rattle.fresh_law.specs.Below.heap_law.Coherent.{passed_not_copied}
 use Rattle.bare_law.proofs.Landed.{unstepped_bare}
 use Rattle.bare_law.proofs.Own.{steps_bare}
 use Rattle.bare_law.proofs.Walks.{each_event}

@@ -1,4 +1,4 @@
-use Rattle.event_law.specs.Kinds.{evicts, migrates, starts, arrives, fetch, fetched, asks_lock, granted, unlocked, asks_dup, dupped, released, asks_join, joined, finished, step_print, step_arith, step_par_end}
+use Rattle.value_law.specs.Below.event_law.Kinds.{evicts, migrates, starts, arrives, fetch, fetched, asks_lock, granted, unlocked, asks_dup, dupped, released, asks_join, joined, finished, step_print, step_arith, step_par_end}
 use Rattle.copy_law.proofs.laws.copies_stay.Goals as goal
 use Rattle.copy_law.proofs.KeptCopies.{keep_copies}
 

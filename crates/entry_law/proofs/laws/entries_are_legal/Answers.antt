@@ -1,4 +1,4 @@
-use Rattle.event_law.specs.Kinds.{evicts, migrates, starts, arrives, asks_lock, asks_dup, asks_join, granted, dupped, joined, unlocked, released, finished}
+use Rattle.read_law.specs.Below.event_law.Kinds.{evicts, migrates, starts, arrives, asks_lock, asks_dup, asks_join, granted, dupped, joined, unlocked, released, finished}
 use Rattle.entry_law.proofs.laws.entries_are_legal.Goals as goal
 use Rattle.entry_law.proofs.LegalKinds.{kind_legal}
 

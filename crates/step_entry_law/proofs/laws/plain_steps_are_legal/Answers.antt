@@ -1,4 +1,4 @@
-use Rattle.event_law.specs.Kinds.{step_print, step_arith, step_par_end}
+use Rattle.entry_law.specs.Below.event_law.Kinds.{step_print, step_arith, step_par_end}
 use Rattle.step_entry_law.proofs.laws.plain_steps_are_legal.Goals as goal
 use Rattle.step_entry_law.proofs.PlainSteps.{plain_legal}
 

@@ -1,2 +1,2 @@
 -- What this law stands on, passed on to the laws above it, which need not list that then.
-pub use Rattle.hidden_law.specs.Below.fresh_law as fresh_law
+pub use Rattle.word_law.proofs as word_law

@@ -1,0 +1,25 @@
+-- What this law stands on, passed on to the laws above it, which need not list that then.
+pub use Rattle.made_law.specs.Below.carry_law as carry_law
+pub use Rattle.made_law.specs.Below.end_law as end_law
+pub use Rattle.turn_law.specs.Below.event_law as event_law
+pub use Rattle.turn_law.specs.Below.fr_base as fr_base
+pub use Rattle.turn_law.specs.Below.fr_code as fr_code
+pub use Rattle.made_law.specs.Below.fr_sound as fr_sound
+pub use Rattle.turn_law.specs.Below.fr_store as fr_store
+pub use Rattle.turn_law.specs.Below.global_addr as global_addr
+pub use Rattle.turn_law.specs.Below.heap_law as heap_law
+pub use Rattle.turn_law.specs.Below.heap_partition as heap_partition
+pub use Rattle.turn_law.specs.Below.journal as journal
+pub use Rattle.made_law.specs.Below.local_law as local_law
+pub use Rattle.move_law.specs as move_law
+pub use Rattle.turn_law.specs.Below.mut_borrow as mut_borrow
+pub use Rattle.turn_law.specs.Below.owner_box as owner_box
+pub use Rattle.made_law.specs.Below.path_law as path_law
+pub use Rattle.made_law.specs.Below.prepare_law as prepare_law
+pub use Rattle.turn_law.specs.Below.read_law as read_law
+pub use Rattle.turn_law.specs.Below.server_model as server_model
+pub use Rattle.turn_law.specs.Below.server_msgs as server_msgs
+pub use Rattle.made_law.specs.Below.stay_law as stay_law
+pub use Rattle.turn_law.specs.Below.thread_state as thread_state
+pub use Rattle.made_law.specs.Below.type_law as type_law
+pub use Rattle.move_law.specs.Below.word_law as word_law

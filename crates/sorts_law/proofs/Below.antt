@@ -1,0 +1,19 @@
+-- What this law stands on, passed on to the laws above it, which need not list that then.
+pub use Rattle.agree_law.proofs as agree_law
+pub use Rattle.state_law.proofs.Below.assign_law as assign_law
+pub use Rattle.state_law.proofs.Below.drop_law as drop_law
+pub use Rattle.agree_law.proofs.Below.event_law as event_law
+pub use Rattle.agree_law.proofs.Below.fr_store as fr_store
+pub use Rattle.agree_law.proofs.Below.fr_typing as fr_typing
+pub use Rattle.agree_law.proofs.Below.frame_law as frame_law
+pub use Rattle.agree_law.proofs.Below.local_law as local_law
+pub use Rattle.state_law.proofs.Below.lock_law as lock_law
+pub use Rattle.state_law.proofs.Below.path_law as path_law
+pub use Rattle.state_law.proofs.Below.plain_types as plain_types
+pub use Rattle.state_law.proofs.Below.result_law as result_law
+pub use Rattle.state_law.proofs as state_law
+pub use Rattle.agree_law.proofs.Below.still_law as still_law
+pub use Rattle.state_law.proofs.Below.turn_law as turn_law
+pub use Rattle.state_law.proofs.Below.typed_law as typed_law
+pub use Rattle.state_law.proofs.Below.word_law as word_law
+pub use Rattle.state_law.proofs.Below.write_law as write_law

@@ -1,0 +1,14 @@
+-- What this law stands on, passed on to the laws above it, which need not list that then.
+pub use Rattle.borrow_law.proofs.Below.ask_law as ask_law
+pub use Rattle.walk_law.proofs.Below.event_law as event_law
+pub use Rattle.walk_law.proofs.Below.heap_law as heap_law
+pub use Rattle.borrow_law.proofs.Below.local_law as local_law
+pub use Rattle.walk_law.proofs.Below.path_law as path_law
+pub use Rattle.borrow_law.proofs.Below.read_law as read_law
+pub use Rattle.walk_law.proofs.Below.result_law as result_law
+pub use Rattle.walk_law.proofs.Below.still_law as still_law
+pub use Rattle.borrow_law.proofs.Below.value_law as value_law
+pub use Rattle.walk_law.proofs.Below.wait_law as wait_law
+pub use Rattle.walk_law.proofs as walk_law
+pub use Rattle.borrow_law.proofs.Below.word_law as word_law
+pub use Rattle.walk_law.proofs.Below.write_law as write_law
