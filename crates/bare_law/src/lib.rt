@@ -3,4 +3,6 @@
 
 mod laws;
 
-pub use laws::{each_event_uncopied, passed_stays, steps_uncopied, unstepped_passed, unstepped_uncopied};
+pub use laws::{
+    each_event_uncopied, passed_stays, steps_uncopied, unstepped_passed, unstepped_uncopied,
+};

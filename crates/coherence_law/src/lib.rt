@@ -3,4 +3,7 @@
 
 mod laws;
 
-pub use laws::{ends_stay, events_keep_coherence, events_keep_copies, events_keep_types, events_stand_once, owners_end};
+pub use laws::{
+    ends_stay, events_keep_coherence, events_keep_copies, events_keep_types, events_stand_once,
+    owners_end,
+};

@@ -29,7 +29,7 @@ use Rattle.all_issued_law.specs.Below.path_law.HeapStore.{HasPaths}
 use Rattle.all_issued_law.specs.Below.word_law.Unmoved.{Delivers}
 use Rattle.all_issued_law.specs.Below.issue_law.Issuing.{LandsNone}
 use Rattle.all_issued_law.proofs.Below.issue_law.Steady.{issued_steady}
-use Rattle.ever_issued_law.proofs.Kinds.{deliveries_stand_issued}
+use Rattle.ever_issued_law.proofs.ByKind.{deliveries_stand_issued}
 use Rattle.all_issued_law.proofs.Below.regain_law.Arrivals.{none_done}
 use Rattle.apart_law.proofs.UnderWay.{FlightsIssued, step_flights, landing_flights}
 use Rattle.all_issued_law.specs.Below.old_words_law.Old.{unissued, first_words, lent_words}

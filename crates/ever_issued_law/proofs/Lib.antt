@@ -1,4 +1,4 @@
-pub mod Kinds
+pub mod ByKind
 pub mod Put
 pub mod There
 pub mod Fresh

@@ -3,4 +3,7 @@
 
 mod laws;
 
-pub use laws::{arrivals_leave_issued, each_event_issues, events_issue_words, lent_words_stay, words_follow, words_stand_issued};
+pub use laws::{
+    arrivals_leave_issued, each_event_issues, events_issue_words, lent_words_stay, words_follow,
+    words_stand_issued,
+};
