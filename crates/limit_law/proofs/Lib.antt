@@ -4,5 +4,5 @@ mod Steps
 mod Deliveries
 pub mod Events
 mod Lengths
-mod Numbers
+pub mod Numbers
 pub mod Counts
