@@ -43,8 +43,8 @@ use Rattle.entry_law.proofs.Answers.{Agrees, answers_of, fits, condemning, conde
 use Rattle.entry_law.proofs.Weighed.{Bare, WorkTurns, sends}
 use Rattle.entry_law.proofs.Carried.{cluster_less, is_sent}
 use Rattle.entry_law.proofs.Shown.{if_some, placed_in, dropped_by, as_living, living_is, copy_in, served_in, wished_in, runs, holder_by, there_in}
-use Rattle.entry_law.proofs.Live.{issued_by, dropped_seen, placed_after, word_kept, word_told}
-use Rattle.entry_law.proofs.After.{Follows, Keeps, living_still, copy_still, served_still, issued_still, started_still, running_still, ended_by, wishes_still, made_still, there_less, holder_still}
+use Rattle.entry_law.proofs.Live.{issued_by, dropped_seen, placed_after, living_still as living_stays, word_kept, word_told}
+use Rattle.entry_law.proofs.After.{Follows, Keeps, copy_still, served_still, issued_still, started_still, running_still, ended_by, wishes_still, made_still, there_less, holder_still}
 use Rattle.entry_law.proofs.Runs.{silent, runs_one, leads_on}
 use Rattle.entry_law.proofs.Applied.{server_there}
 use Rattle.entry_law.proofs.Quiet.{Quietly, quiet_agrees, quiet_leads}
@@ -122,7 +122,7 @@ placed_somewhere k o l = by (first_shown (placed_in o) (things_of k)) refl
     by None e = absurd (omega (arith, l, cells_shown o k, none_told (things_of k) e))
     by (Some p) e = (p, e)
 
-module _ (k : Cluster) (sound : IsSound k) (p : Spot) (loose : location_of p ≡ None) (b : BoxPtr) (rest : List Thing) (there : AreThere k (holds p (owned.Box b) ∷ rest)) where
+module _ (k : Cluster) (sound : IsSound k) (p : Spot) (b : BoxPtr) (rest : List Thing) (there : AreThere k (holds p (owned.Box b) ∷ rest)) where
   abbrev o : ObjNo
   o = b.object
 
@@ -142,7 +142,81 @@ module _ (k : Cluster) (sound : IsSound k) (p : Spot) (loose : location_of p ≡
       let l = own_one in
       omega (arith, l, few, same, owned_split o (things_of k))
 
-  its_word : before.word o ≡ b.word
+  pub place_of : (q : Plain × Place) × (first_shown (placed_in o) (things_of k) ≡ Some q)
+  place_of = placed_somewhere k o live
+
+  abbrev it : Bool → Living
+  it condemned = as_living o (Some b.word) condemned (place_of.0)
+
+  -- where that box has its object's word
+  module _ (named_so : before.word o ≡ b.word) where
+    shown : word (sight k) o ≡ Some b.word
+    shown = word_told k before o live ∙ ap (λ w. Some w) named_so
+
+    pub lives_so : living_of (sight k) o ≡ Some (it false)
+    lives_so =
+        living_is (sight k) o ∙ ap₂ (λ w n. option_map (as_living o w (some n)) (first_shown (placed_in o) (things_of k))) shown undropped ∙ ap (option_map (as_living o (Some b.word) false)) (place_of.1)
+
+    -- afterwards it is condemned, and nothing else
+    module _ (c : Cluster) (olds news : List Thing) (f : Follows k c olds (news ++ sent (server_of b.word) (message.Drop b.word b.object) ∷ [])) (words : (h : HasWords (sight k)) → WordsStay (sight k) (sight c) h)
+        (placed : (q : ObjNo) (g : Plain × Place → ℕ) → tot (λ x. told g (placed_in q x)) olds ≡ tot (λ x. told g (placed_in q x)) news) (drops : (q : ObjNo) → tot (dropped_by q) olds ≡ tot (dropped_by q) news) where
+      abbrev gone : Thing
+      gone = sent (server_of b.word) (message.Drop b.word b.object)
+
+      abbrev all : List Thing
+      all = news ++ gone ∷ []
+
+      placed_same : (q : ObjNo) (g : Plain × Place → ℕ) → tot (λ x. told g (placed_in q x)) olds ≡ tot (λ x. told g (placed_in q x)) all
+      placed_same q g = omega (arith, placed q g, tot-append (λ x. told g (placed_in q x)) news (gone ∷ []))
+
+      drops_more : (q : ObjNo) → tot (dropped_by q) all ≡ tot (dropped_by q) olds + one (same_object b.object q)
+      drops_more q = omega (arith, drops q, tot-append (dropped_by q) news (gone ∷ []))
+
+      stay : WordsStay (sight k) (sight c) before
+      stay = words before
+
+      there_then : first_shown (placed_in o) (things_of c) ≡ Some (place_of.0)
+      there_then = placed_after k c olds all f.things sound.one_home.home_of_each before stay o (Some (place_of.0)) (λ g. let e : told g (first_shown (placed_in o) (things_of k)) ≡ told g (Some (place_of.0)) = ap (told g) (place_of.1) in omega (arith, e, placed_same o g))
+
+      word_then : word (sight c) o ≡ Some b.word
+      word_then = word_kept k c olds all f.things sound.one_home.home_of_each before stay o (place_of.0) (place_of.0) (place_of.1) there_then ∙ shown
+
+      condemned_then : living_of (sight c) o ≡ Some (it true)
+      condemned_then =
+          let u = undropped in
+          let mine : one (same_object b.object o) ≡ 1 = ap one (objects.itself o) in
+          let count : tot (dropped_by o) (things_of c) ≡ 1 = omega (arith, f.things (dropped_by o) (dropped_seen o), drops_more o, u, mine) in
+          living_is (sight c) o ∙ ap₂ (λ w n. option_map (as_living o w (some n)) (first_shown (placed_in o) (things_of c))) word_then count ∙ ap (option_map (as_living o (Some b.word) true)) there_then
+
+      abbrev marked : Living → Living
+      marked x = if is_object o x then record x { is_condemned = true } else x
+
+      pub living_so : (q : ObjNo) → option_map marked (living_of (sight k) q) ≡ living_of (sight c) q
+      living_so q = by (same_object b.object q) refl
+        where
+          object_so : (s : Sight) → (x : Living) → living_of s q ≡ Some x → x.object ≡ q
+          object_so s x e = of (first_shown (placed_in q) s.things) (sym (living_is s q) ∙ e)
+            where
+              of : (z : Option (Plain × Place)) → option_map (as_living q (word s q) (some (tot (dropped_by q) s.things))) z ≡ Some x → x.object ≡ q
+              of None d = absurd (cc d)
+              of (Some z) d = let same : as_living q (word s q) (some (tot (dropped_by q) s.things)) z ≡ x = cc in ap (λ (y : Living). y.object) (sym same)
+
+          unmarked : same_object b.object q ≡ false → (z : Option Living) → living_of (sight k) q ≡ z → option_map marked z ≡ z
+          unmarked e None d = refl
+          unmarked e (Some x) d = ap (λ t. Some (if t then record x { is_condemned = true } else x)) (ap (λ i. same_object i o) (object_so (sight k) x d) ∙ object_flip q o ∙ e)
+
+          by : (t : Bool) → same_object b.object q ≡ t → option_map marked (living_of (sight k) q) ≡ living_of (sight c) q
+          by false e =
+              let none : one (same_object b.object q) ≡ 0 = ap one e in
+              unmarked e (living_of (sight k) q) refl ∙ living_stays k c olds all f.things sound.one_home.home_of_each before stay q (placed_same q) (omega (arith, drops_more q, none))
+          by true e =
+              let same : o ≡ q = named o q e in
+              subst (λ i. option_map marked (living_of (sight k) i) ≡ living_of (sight c) i) same
+              (ap (option_map marked) lives_so ∙ ap (λ t. Some (if t then it true else it false)) (objects.itself o) ∙ sym condemned_then)
+
+-- a box that stands in no place has its object's word
+module _ (k : Cluster) (sound : IsSound k) (p : Spot) (loose : location_of p ≡ None) (b : BoxPtr) (rest : List Thing) (there : AreThere k (holds p (owned.Box b) ∷ rest)) where
+  its_word : sound.words.have_words.word b.object ≡ b.word
   its_word = by f.0 f.1 f.2
     where
       mine : held_loosely b (holds p (owned.Box b)) ≡ 1
@@ -155,7 +229,7 @@ module _ (k : Cluster) (sound : IsSound k) (p : Spot) (loose : location_of p ≡
       none_is None e = refl
       none_is (Some x) e = absurd (cc e)
 
-      by : (x : Thing) → Among x (things_of k) → 1 ≤ held_loosely b x → before.word o ≡ b.word
+      by : (x : Thing) → Among x (things_of k) → 1 ≤ held_loosely b x → sound.words.have_words.word b.object ≡ b.word
       by (holds r (owned.Box d)) m l =
           let all : (is_none (location_of r) && ((d.word == b.word) && same_object d.object b.object)) ≡ true = truly (is_none (location_of r) && ((d.word == b.word) && same_object d.object b.object)) l in
           let free : location_of r ≡ None = none_is (location_of r) (and_left (is_none (location_of r)) ((d.word == b.word) && same_object d.object b.object) all) in
@@ -164,7 +238,7 @@ module _ (k : Cluster) (sound : IsSound k) (p : Spot) (loose : location_of p ≡
           let object_so : d.object ≡ b.object = named d.object b.object (and_right (d.word == b.word) (same_object d.object b.object) both) in
           let q : Pointer = record { at = location_of r; word = d.word; object = d.object } in
           let among = among_first q (pointers_in (things_of k)) (taken_pointers (sight k).code (sight k).ground (sight k).ground.threads) (pointers_among q (holds r (owned.Box d)) (things_of k) m (inl refl)) in
-          ⊎_elim (λ (h : IsStale (sight k) (location_of r)). absurd (subst (IsStale (sight k)) free h)) (λ (h : d.word ≡ before.word d.object). ap before.word (sym object_so) ∙ sym h ∙ word_so) (before.same q among)
+          ⊎_elim (λ (h : IsStale (sight k) (location_of r)). absurd (subst (IsStale (sight k)) free h)) (λ (h : d.word ≡ sound.words.have_words.word d.object). ap sound.words.have_words.word (sym object_so) ∙ sym h ∙ word_so) (sound.words.have_words.same q among)
       by (holds r _) m l = absurd (one_none (is_none (location_of r)) l)
         where
           one_none : (c : Bool) → 1 ≤ one (c && false) → ⊥
@@ -172,75 +246,17 @@ module _ (k : Cluster) (sound : IsSound k) (p : Spot) (loose : location_of p ≡
           one_none false l = absurd (omega (arith, l))
       by _ m l = absurd (omega (arith, l))
 
-  shown : word (sight k) o ≡ Some b.word
-  shown = word_told k before o live ∙ ap (λ w. Some w) its_word
+  abbrev pub at_place : (q : Plain × Place) × (first_shown (placed_in b.object) (things_of k) ≡ Some q)
+  at_place = place_of k sound p b rest there
 
-  pub at_place : (q : Plain × Place) × (first_shown (placed_in o) (things_of k) ≡ Some q)
-  at_place = placed_somewhere k o live
-
-  abbrev it : Bool → Living
-  it condemned = as_living o (Some b.word) condemned (at_place.0)
-
-  pub lives : living_of (sight k) o ≡ Some (it false)
-  lives =
-      living_is (sight k) o ∙ ap₂ (λ w n. option_map (as_living o w (some n)) (first_shown (placed_in o) (things_of k))) shown undropped ∙ ap (option_map (as_living o (Some b.word) false)) (at_place.1)
+  pub lives : living_of (sight k) b.object ≡ Some (as_living b.object (Some b.word) false (at_place.0))
+  lives = lives_so k sound p b rest there its_word
 
   -- afterwards it is condemned, and nothing else
-  module _ (c : Cluster) (olds news : List Thing) (f : Follows k c olds (news ++ sent (server_of b.word) (message.Drop b.word b.object) ∷ [])) (keeps : Keeps k c)
-      (placed : (q : ObjNo) (g : Plain × Place → ℕ) → tot (λ x. told g (placed_in q x)) olds ≡ tot (λ x. told g (placed_in q x)) news) (drops : (q : ObjNo) → tot (dropped_by q) olds ≡ tot (dropped_by q) news) where
-    abbrev gone : Thing
-    gone = sent (server_of b.word) (message.Drop b.word b.object)
-
-    abbrev all : List Thing
-    all = news ++ gone ∷ []
-
-    placed_same : (q : ObjNo) (g : Plain × Place → ℕ) → tot (λ x. told g (placed_in q x)) olds ≡ tot (λ x. told g (placed_in q x)) all
-    placed_same q g = omega (arith, placed q g, tot-append (λ x. told g (placed_in q x)) news (gone ∷ []))
-
-    drops_more : (q : ObjNo) → tot (dropped_by q) all ≡ tot (dropped_by q) olds + one (same_object b.object q)
-    drops_more q = omega (arith, drops q, tot-append (dropped_by q) news (gone ∷ []))
-
-    stay : WordsStay (sight k) (sight c) before
-    stay = keeps.words before
-
-    there_then : first_shown (placed_in o) (things_of c) ≡ Some (at_place.0)
-    there_then = placed_after k c olds all f.things sound.one_home.home_of_each before stay o (Some (at_place.0)) (λ g. let e : told g (first_shown (placed_in o) (things_of k)) ≡ told g (Some (at_place.0)) = ap (told g) (at_place.1) in omega (arith, e, placed_same o g))
-
-    word_then : word (sight c) o ≡ Some b.word
-    word_then = word_kept k c olds all f.things sound.one_home.home_of_each before stay o (at_place.0) (at_place.0) (at_place.1) there_then ∙ shown
-
-    condemned_then : living_of (sight c) o ≡ Some (it true)
-    condemned_then =
-        let u = undropped in
-        let mine : one (same_object b.object o) ≡ 1 = ap one (objects.itself o) in
-        let count : tot (dropped_by o) (things_of c) ≡ 1 = omega (arith, f.things (dropped_by o) (dropped_seen o), drops_more o, u, mine) in
-        living_is (sight c) o ∙ ap₂ (λ w n. option_map (as_living o w (some n)) (first_shown (placed_in o) (things_of c))) word_then count ∙ ap (option_map (as_living o (Some b.word) true)) there_then
-
-    abbrev marked : Living → Living
-    marked x = if is_object o x then record x { is_condemned = true } else x
-
-    pub living_then : (q : ObjNo) → option_map marked (living_of (sight k) q) ≡ living_of (sight c) q
-    living_then q = by (same_object b.object q) refl
-      where
-        named_so : (s : Sight) → (x : Living) → living_of s q ≡ Some x → x.object ≡ q
-        named_so s x e = of (first_shown (placed_in q) s.things) (sym (living_is s q) ∙ e)
-          where
-            of : (z : Option (Plain × Place)) → option_map (as_living q (word s q) (some (tot (dropped_by q) s.things))) z ≡ Some x → x.object ≡ q
-            of None d = absurd (cc d)
-            of (Some z) d = let same : as_living q (word s q) (some (tot (dropped_by q) s.things)) z ≡ x = cc in ap (λ (y : Living). y.object) (sym same)
-
-        unmarked : same_object b.object q ≡ false → (z : Option Living) → living_of (sight k) q ≡ z → option_map marked z ≡ z
-        unmarked e None d = refl
-        unmarked e (Some x) d = ap (λ t. Some (if t then record x { is_condemned = true } else x)) (ap (λ i. same_object i o) (named_so (sight k) x d) ∙ object_flip q o ∙ e)
-
-        by : (t : Bool) → same_object b.object q ≡ t → option_map marked (living_of (sight k) q) ≡ living_of (sight c) q
-        by false e =
-            let none : one (same_object b.object q) ≡ 0 = ap one e in
-            unmarked e (living_of (sight k) q) refl ∙ living_still k c olds all sound f keeps q (placed_same q) (omega (arith, drops_more q, none))
-        by true e =
-            let same : o ≡ q = named o q e in
-            subst (λ i. option_map marked (living_of (sight k) i) ≡ living_of (sight c) i) same
-            (ap (option_map marked) lives ∙ ap (λ t. Some (if t then it true else it false)) (objects.itself o) ∙ sym condemned_then)
+  pub living_then : (c : Cluster) (olds news : List Thing) → Follows k c olds (news ++ sent (server_of b.word) (message.Drop b.word b.object) ∷ []) → Keeps k c
+      → ((q : ObjNo) (g : Plain × Place → ℕ) → tot (λ x. told g (placed_in q x)) olds ≡ tot (λ x. told g (placed_in q x)) news) → ((q : ObjNo) → tot (dropped_by q) olds ≡ tot (dropped_by q) news)
+      → (q : ObjNo) → option_map (λ (x : Living). if is_object b.object x then record x { is_condemned = true } else x) (living_of (sight k) q) ≡ living_of (sight c) q
+  living_then c olds news f keeps placed drops = living_so k sound p b rest there its_word c olds news f keeps.words placed drops
 
 -- WHAT IS LET GO
 

@@ -14,11 +14,11 @@ use Rattle.entry_law.specs.Entries.{LeadsOn}
 use Rattle.serve_law.specs.Served.{LegalEntryContinues}
 
 -- an event leaves the options
-same_options : (k : Cluster) (e : Event) → Gives (λ (d : Cluster × EntryView). d.0.options ≡ k.options) (apply k e)
+pub same_options : (k : Cluster) (e : Event) → Gives (λ (d : Cluster × EntryView). d.0.options ≡ k.options) (apply k e)
 same_options k e =
     then_gives (λ (d : Cluster × EntryView). d.0.options ≡ k.options) (server_at k.servers e.server) _ (λ s here. map_gives (λ (d : Cluster × EntryView). d.0.options ≡ k.options) (done_at k e.what s) _ (λ r q. refl))
 
-with_entry : (k c : Cluster) (es : List EntryView) (v : EntryView) (l : LeavesColoured k es) → c.options ≡ k.options → LeadsOn k.options v l.state c → LeavesColoured c (es ++ v ∷ [])
+pub with_entry : (k c : Cluster) (es : List EntryView) (v : EntryView) (l : LeavesColoured k es) → c.options ≡ k.options → LeadsOn k.options v l.state c → LeavesColoured c (es ++ v ∷ [])
 with_entry k c es v l same leads = record {
   state = leads.state;
   legal =

@@ -60,7 +60,7 @@ use Rattle.serve_law.proofs.Beside.{ObjectsOnly, objects_agree}
 use Rattle.serve_law.proofs.Lying.{word_told, has_cell, placed, living, its_object}
 
 -- at most a colour is below the next one
-up_to : (i j : ℕ) → nat_le i j ≡ nat_lt i (j + 1)
+pub up_to : (i j : ℕ) → nat_le i j ≡ nat_lt i (j + 1)
 up_to i j = by (nat_le i j) (nat_lt i (j + 1)) refl refl
   where
     by : (a b : Bool) → nat_le i j ≡ a → nat_lt i (j + 1) ≡ b → a ≡ b
@@ -70,7 +70,7 @@ up_to i j = by (nat_le i j) (nat_lt i (j + 1)) refl refl
     by false true p q = absurd (grind (arith, nat_tests, p, q))
 
 -- a word that is looked up has a colour below the limit
-below_limit : (p : PartitionState) (w : ℕ) (c : Cell) → look p w ≡ Some c → nat_lt (colour_of w) p.limit ≡ true
+pub below_limit : (p : PartitionState) (w : ℕ) (c : Cell) → look p w ≡ Some c → nat_lt (colour_of w) p.limit ≡ true
 below_limit p w c e = by (leads_here p w) refl e
   where
     by : (b : Bool) → leads_here p w ≡ b → (if b then cell_of p w else None) ≡ Some c → nat_lt (colour_of w) p.limit ≡ true
@@ -78,7 +78,7 @@ below_limit p w c e = by (leads_here p w) refl e
     by false q f = absurd (cc f)
 
 -- the last colour below the limit
-last_colour : (i limit : ℕ) → nat_lt i limit ≡ true → nat_lt (i + 1) limit ≡ false → limit ≡ i + 1
+pub last_colour : (i limit : ℕ) → nat_lt i limit ≡ true → nat_lt (i + 1) limit ≡ false → limit ≡ i + 1
 last_colour i limit a b = grind (arith, nat_tests, a, b)
 
 module _ (k : Cluster) (coherent : IsCoherent k) (number : ℕ) (s : Server) (here : server_at k.servers number ≡ Some s) (c0 : Coloured) (is_coloured : StandsColoured k c0) (i w : ℕ) (o : ObjNo) (a t : ℕ) (at : slice_get s.rest.inbox i ≡ Some (message.Move w o a t)) where

@@ -85,7 +85,7 @@ module _ (k : Cluster) (coherent : IsCoherent k) where
     at_hop _ n (before_lend w i _ lt q) = pointed q.location q.value q.hop.stands (read_pointer colours q.value a q.asked)
     at_hop _ n (at_lend w i _ lt q) = pointed q.location q.value q.hop.stands (write_pointer q.value a q.asked)
 
-    in_turn : (u : ℕ) (p : Path) → path (sight k) x ≡ p → InTurn (sight k) x u a p → ⊥
+    pub in_turn : (u : ℕ) (p : Path) → path (sight k) x ≡ p → InTurn (sight k) x u a p → ⊥
     in_turn u _ is (by_read p f) = at_hop (reads p) f.number f.at
     in_turn u _ is (by_share p f) = at_hop (shares p) f.number f.at
     in_turn u _ is (by_lend p f) = at_hop (lends p) f.number f.at

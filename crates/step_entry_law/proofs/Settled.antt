@@ -21,7 +21,7 @@ use Rattle.entry_law.specs.Below.coloured_heap.Changes.{stored}
 use Rattle.entry_law.specs.Below.coloured_heap.Reach.{reaches, is_reached}
 use Rattle.entry_law.specs.Below.coloured_heap.Legal.{is_placed, entry_after, settled}
 use Rattle.entry_law.specs.Below.heap_law.Names.{tot, one, some, if_so}
-use Rattle.entry_law.specs.Below.heap_law.Things.{Thing, stands, things_at, copy_things, things_of}
+use Rattle.entry_law.specs.Below.heap_law.Things.{Thing, copied, stands, things_at, copy_things, things_of}
 use Rattle.entry_law.specs.Below.heap_law.Follow.{Standing, threads_in, thread_at}
 use Rattle.entry_law.specs.Below.heap_law.Sight.{sight}
 use Rattle.entry_law.specs.Below.heap_law.Requests.{is_mutex, locked_mutex}
@@ -37,7 +37,7 @@ use Rattle.entry_law.proofs.Below.still_law.Tests.{numbers}
 use Rattle.entry_law.specs.Below.word_law.Unmoved.{LeavesWords}
 use Rattle.entry_law.specs.Entries.{LeadsOn}
 use Rattle.entry_law.proofs.Answers.{Answers, answers_of, Fits, fits, coloured_by}
-use Rattle.entry_law.proofs.Weighed.{Seen, WorkTurns, SiteTurns, thread_turns, server_turns}
+use Rattle.entry_law.proofs.Weighed.{WorkTurns, SiteTurns, thread_turns, server_turns}
 use Rattle.entry_law.proofs.Shown.{if_some, running_as, holder_by}
 use Rattle.entry_law.proofs.After.{Follows, Keeps}
 use Rattle.entry_law.proofs.Applied.{Afterwards, server_there}
@@ -95,17 +95,21 @@ goes_over s y (Some h) g = by (unpin_all h.thread.walk h.work.rest.cache) refl
 
 -- USES OF COPIES AREN'T SEEN
 
-module _ (f : Thing → ℕ) (h : Seen f) where
-  users_unseen : (n i : ℕ) (cs : List Copy) (w u : ℕ) → tot f (things_at (copy_things n) i (with_users cs w u)) ≡ tot f (things_at (copy_things n) i cs)
+-- a weight that doesn't see how many use a copy
+abbrev pub Unused : (Thing → ℕ) → Type 0
+Unused f = (n : ℕ) (c : Copy) (u : ℕ) → f (copied n (record c { users = u })) ≡ f (copied n c)
+
+module _ (f : Thing → ℕ) (unused : Unused f) where
+  pub users_unseen : (n i : ℕ) (cs : List Copy) (w u : ℕ) → tot f (things_at (copy_things n) i (with_users cs w u)) ≡ tot f (things_at (copy_things n) i cs)
   users_unseen n i [] w u = refl
   users_unseen n i (c ∷ cs) w u = by (c.word == w) (users_unseen n (i + 1) cs w u)
     where
       by : (b : Bool) → tot f (things_at (copy_things n) (i + 1) (with_users cs w u)) ≡ tot f (things_at (copy_things n) (i + 1) cs)
           → tot f (things_at (copy_things n) i (if b then record c { users = u } ∷ cs else c ∷ with_users cs w u)) ≡ tot f (things_at (copy_things n) i (c ∷ cs))
-      by true go = omega (arith, h.unused n c u)
+      by true go = omega (arith, unused n c u)
       by false go = omega (arith, go)
 
-  unpinned_unseen : (n : ℕ) (ws : List ℕ) (cs left : List Copy) → unpin_all ws cs ≡ Some left → tot f (things_at (copy_things n) 0 left) ≡ tot f (things_at (copy_things n) 0 cs)
+  pub unpinned_unseen : (n : ℕ) (ws : List ℕ) (cs left : List Copy) → unpin_all ws cs ≡ Some left → tot f (things_at (copy_things n) 0 left) ≡ tot f (things_at (copy_things n) 0 cs)
   unpinned_unseen n [] cs left e = let same : cs ≡ left = cc in ap (λ l. tot f (things_at (copy_things n) 0 l)) (sym same)
   unpinned_unseen n (w ∷ ws) cs left e = by (can_unpin cs w) e (unpinned_unseen n ws (unpin cs w) left)
     where
@@ -209,7 +213,7 @@ module _ (k : Cluster) (sound : IsSound k) (number : ℕ) (s : Server) (here : s
         things = λ f i.
             let t2 = of_cache n 0 s.rest q.copies (trade_whole (things_at (copy_things n) 0 s.rest.cache) (things_at (copy_things n) 0 q.copies)) in
             let there : tot f (rest_things n 0 d.hand.work.rest) ≡ tot f (rest_things n 0 (record s.rest { cache = q.copies })) = ap (λ r. tot f (rest_things n 0 r)) q.rest in
-            omega (arith, there, t2.before f, t2.after f, unpinned_unseen f i n q.walk s.rest.cache q.copies q.unpins);
+            omega (arith, there, t2.before f, t2.after f, unpinned_unseen f i.unused n q.walk s.rest.cache q.copies q.unpins);
       }
 
       turns : SiteTurns (begin_at s) olds news [] (record { work = bare_work; threads = set_thread s.threads z })
