@@ -32,13 +32,13 @@ use Rattle.length_law.proofs.Runs.{runs_are_short}
 -- EACH THREAD RESTS ONCE
 
 -- how often a number stands in a list
-abbrev among : ℕ → List ℕ → ℕ
+abbrev pub among : ℕ → List ℕ → ℕ
 among n ts = tot (λ u. one (u == n)) ts
 
-abbrev Once : List ℕ → Type 0
+abbrev pub Once : List ℕ → Type 0
 Once ts = (n : ℕ) → among n ts ≤ 1
 
-none_among : (t : ℕ) (ts : List ℕ) → has (λ u. u == t) ts ≡ false → among t ts ≡ 0
+pub none_among : (t : ℕ) (ts : List ℕ) → has (λ u. u == t) ts ≡ false → among t ts ≡ 0
 none_among t [] e = refl
 none_among t (x ∷ ts) e = by (x == t) e (none_among t ts)
   where
@@ -47,7 +47,7 @@ none_among t (x ∷ ts) e = by (x == t) e (none_among t ts)
     by false q go = omega (arith, go q)
 
 -- a number that isn't there comes
-one_more_rests : (t : ℕ) (moved : List ℕ) → among t moved ≡ 0 → Once moved → Once (t ∷ moved)
+pub one_more_rests : (t : ℕ) (moved : List ℕ) → among t moved ≡ 0 → Once moved → Once (t ∷ moved)
 one_more_rests t moved z once n = by (t == n) refl (once n)
   where
     by : (b : Bool) → (t == n) ≡ b → among n moved ≤ 1 → one b + among n moved ≤ 1
@@ -58,16 +58,16 @@ not_true : (b : Bool) → not b ≡ true → b ≡ false
 not_true true e = absurd (cc e)
 not_true false e = refl
 
-left_true : (a b : Bool) → (a && b) ≡ true → a ≡ true
+pub left_true : (a b : Bool) → (a && b) ≡ true → a ≡ true
 left_true true b e = refl
 left_true false b e = absurd (cc e)
 
-right_true : (a b : Bool) → (a && b) ≡ true → b ≡ true
+pub right_true : (a b : Bool) → (a && b) ≡ true → b ≡ true
 right_true true b e = e
 right_true false b e = absurd (cc e)
 
 -- threads that may move don't rest
-movers_rest : (moved ts : List ℕ) → Once moved → may_depart moved ts ≡ true → (n : ℕ) → among n ts + among n moved ≤ 1
+pub movers_rest : (moved ts : List ℕ) → Once moved → may_depart moved ts ≡ true → (n : ℕ) → among n ts + among n moved ≤ 1
 movers_rest moved [] once e n = omega (arith, once n)
 movers_rest moved (t ∷ ts) once e n =
     let a = not_true (has (λ u. u == t) moved) (left_true (not (has (λ u. u == t) moved)) (may_depart (t ∷ moved) ts) e) in
@@ -95,11 +95,11 @@ less_often n t (x ∷ moved) = by (x == t) (less_often n t moved)
 -- AN ENTRY
 
 -- who rests after an entry: as many more as move, and one less where a plain step is done
-record Rests (moved ts after : List ℕ) (done : ℕ) : Type 0 where
-  many : length moved + length ts ≤ length after + done
-  often : (n : ℕ) → among n after ≤ among n ts + among n moved
+pub record Rests (moved ts after : List ℕ) (done : ℕ) : Type 0 where
+  pub many : length moved + length ts ≤ length after + done
+  pub often : (n : ℕ) → among n after ≤ among n ts + among n moved
 
-entry_rests : (e : EntryView) (moved : List ℕ) → Once moved → Rests moved (departing e.acts) (resting e moved) (one (is_some e.done))
+pub entry_rests : (e : EntryView) (moved : List ℕ) → Once moved → Rests moved (departing e.acts) (resting e moved) (one (is_some e.done))
 entry_rests e moved once = by e.thread e.done
   where
     ts : List ℕ

@@ -116,7 +116,7 @@ module _ (code : List Instr) (o : Options) (s : Server) where
 
 module _ (f : Server → ℕ) where
   -- another state of a server
-  server_set : (ss : List Server) (n : ℕ) (s new : Server) → server_at ss n ≡ Some s → tot f (with_server ss n new) + f s ≡ tot f ss + f new
+  pub server_set : (ss : List Server) (n : ℕ) (s new : Server) → server_at ss n ≡ Some s → tot f (with_server ss n new) + f s ≡ tot f ss + f new
   server_set [] n s new e = absurd (cc e)
   server_set (x ∷ ss) n s new e = by (x.rest.number == n) e (server_set ss n s new)
     where
@@ -128,7 +128,7 @@ module _ (f : Server → ℕ) where
 abbrev all_worth : List Server → ℕ
 all_worth ss = tot server_worth ss
 
-abbrev all_begun : List Server → ℕ
+abbrev pub all_begun : List Server → ℕ
 all_begun ss = tot (λ (s : Server). s.rest.started) ss
 
 -- a message that is handed over is worth what it was, or is gone
@@ -153,7 +153,7 @@ begun_as (s ∷ ss) x = by (s.rest.number == x.target) (begun_as ss x)
     by true g = refl
     by false g = omega (arith, g)
 
-begun_all : (xs : List Sent) (ss : List Server) → all_begun (accept_all ss xs) ≡ all_begun ss
+pub begun_all : (xs : List Sent) (ss : List Server) → all_begun (accept_all ss xs) ≡ all_begun ss
 begun_all [] ss = refl
 begun_all (x ∷ xs) ss = omega (arith, begun_as ss x, begun_all xs (accept_at ss x))
 

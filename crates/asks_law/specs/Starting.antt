@@ -1,0 +1,21 @@
+-- HOW MANY THREADS A RUN STARTS (this project's rule): at most two with each plain step, and none else.
+use Rattle.std.specs.Prelude.{◌≤◌, ◌+◌, ◌*◌, is_some, List}
+use Rattle.local_law.specs.Below.fr_base.Lists.{one}
+use Rattle.local_law.specs.Below.fr_base.declared.instruction.Instr.{Instr}
+use Rattle.local_law.specs.Below.fr_base.declared.settings.Options.{Options}
+use Rattle.coherence_law.specs.Below.journal.View.{EntryView}
+use Rattle.coherence_law.specs.Below.server_model.declared.event.Event.{Event}
+use Rattle.coherence_law.specs.Below.server_model.Servers.{Cluster, start_of}
+use Rattle.coherence_law.specs.Below.server_model.Clusters.{apply}
+use Rattle.coherence_law.specs.Below.event_law.Laws.{Gives}
+use Rattle.length_law.specs.Credit.{begun}
+use Rattle.length_law.specs.Spending.{After, after_all}
+use Rattle.length_law.specs.Driving.{plain_steps}
+
+-- whatever the event and the cluster
+abbrev pub PlainStepsStartTwo : Type 0
+PlainStepsStartTwo = (k : Cluster) (e : Event) → Gives (λ (d : Cluster × EntryView). begun d.0 ≤ begun k + 2 * one (is_some d.1.done)) (apply k e)
+
+-- so a run from the start has started at most twice as many as it has plain steps
+abbrev pub RunsStartFew : Type 0
+RunsStartFew = (code : List Instr) (o : Options) (es : List Event) → Gives (λ (x : After). begun x.cluster ≤ 2 * plain_steps x.journal) (after_all es (start_of code o))
