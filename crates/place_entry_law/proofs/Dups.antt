@@ -54,12 +54,12 @@ is_mutex_value (owned.Task i) (Some c) e = absurd (cc e)
 is_mutex_value (owned.Box b) (Some c) e = absurd (cc e)
 
 -- what is a mutex is there
-value_there : (f : Option Value) (m : MutexNo) → then_some f mutex_of ≡ Some m → (v : Value) × (f ≡ Some v)
+pub value_there : (f : Option Value) (m : MutexNo) → then_some f mutex_of ≡ Some m → (v : Value) × (f ≡ Some v)
 value_there None m e = absurd (cc e)
 value_there (Some v) m e = (v, refl)
 
 -- a gift is no part of what stands at a spot
-cell_without : (h : Hand) (p : Spot) → cell_at (take_gift h) p ≡ cell_at h p
+pub cell_without : (h : Hand) (p : Spot) → cell_at (take_gift h) p ≡ cell_at h p
 cell_without h (in_slot j) = refl
 cell_without h on_top = refl
 cell_without h (in_cell v f) = refl

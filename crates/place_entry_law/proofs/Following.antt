@@ -90,11 +90,16 @@ module _ (k : Cluster) (co : IsCoherent k) (e : Event) (i : Instr) (s : Server) 
   abbrev pub Follows : Hand → Spot → Type 0
   Follows h p = (v : Value) → value_at h p ≡ Some v → Walked k.options c0 s y h p × At (sight k).ground y s.rest w n (finds k co e i s t y a w n reads) n h p
 
-  -- the step follows its place, and goes on from there
-  pub follows : (servers : ℕ) (next : Hand → Spot → Prepared) → ((h : Hand) (p : Spot) → Follows h p → Gives (Ends k c0 s y) (prepared servers i (next h p))) → Gives (Ends k c0 s y) (prepared servers i (and_then next (read_stars n h0 (in_slot w.slot))))
-  follows servers next go = by (read_stars n h0 (in_slot w.slot)) (walk g y s.rest w n found n (omega arith)) (stars_reached k co e i s t y a c0 is_coloured w n reads n (omega arith))
+  -- the step follows its place, and goes on from there to what is left where it is done
+  pub follows_to : (Q : Stepped → Type 0) (servers : ℕ) (next : Hand → Spot → Prepared) → ((h : Hand) (p : Spot) → Follows h p → Gives (λ (d : Stepped). is_some d.names ≡ true → Q d) (prepared servers i (next h p)))
+      → Gives (λ (d : Stepped). is_some d.names ≡ true → Q d) (prepared servers i (and_then next (read_stars n h0 (in_slot w.slot))))
+  follows_to Q servers next go = by (read_stars n h0 (in_slot w.slot)) (walk g y s.rest w n found n (omega arith)) (stars_reached k co e i s t y a c0 is_coloured w n reads n (omega arith))
     where
-      by : (x : Prepared) → Comes g y s.rest w n found n x → Reaches k.options c0 s y x → Gives (Ends k c0 s y) (prepared servers i (and_then next x))
+      by : (x : Prepared) → Comes g y s.rest w n found n x → Reaches k.options c0 s y x → Gives (λ (d : Stepped). is_some d.names ≡ true → Q d) (prepared servers i (and_then next x))
       by (ready h p) c r = go h p (λ v q. (r v q, c v q))
       by (requested h) c r = λ q. absurd (cc q)
       by nothing c r = tt
+
+  -- the same to what is left for the coloured heap and for words
+  pub follows : (servers : ℕ) (next : Hand → Spot → Prepared) → ((h : Hand) (p : Spot) → Follows h p → Gives (Ends k c0 s y) (prepared servers i (next h p))) → Gives (Ends k c0 s y) (prepared servers i (and_then next (read_stars n h0 (in_slot w.slot))))
+  follows = follows_to (λ d. Left k.options c0 s y d × Fades k s y d.hand)

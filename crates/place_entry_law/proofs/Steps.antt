@@ -30,6 +30,7 @@ use Rattle.borrow_law.proofs.Below.turn_law.Events.{AtStep}
 use Rattle.entry_law.specs.Entries.{LeadsOn}
 use Rattle.entry_law.proofs.Applied.{Afterwards, applied_by}
 use Rattle.step_entry_law.proofs.PlainSteps.{lives}
+use Rattle.step_entry_law.proofs.Settled.{StepLed}
 use Rattle.place_entry_law.proofs.Done.{HoldsNone, Left, left_led}
 
 -- one server
@@ -68,9 +69,13 @@ module _ (k : Cluster) (sound : IsSound k) (few : FewEvents k) (number t : ℕ) 
   abbrev pub Words : Server → Type 0
   Words r = (c : Cluster) → HasPlaces c → c.code ≡ k.code → Alike k.code (servers_things (with_server k.servers number r)) (things_of c) → LeavesWords k c
 
-  -- what a step that is done leaves, for the coloured heap and for words
+  -- what a step that is done leaves: something of its entry, and for words
+  abbrev pub EndsSo : (Stepped → Type 0) → Stepped → Type 0
+  EndsSo Led d = is_some d.names ≡ true → Led d × Words (stepped s d).0
+
+  -- for the coloured heap and for words
   abbrev pub Ends : Stepped → Type 0
-  Ends d = is_some d.names ≡ true → Left k.options c0 s y d × Words (stepped s d).0
+  Ends = EndsSo (Left k.options c0 s y)
 
   -- where words see nothing but what leaves them
   pub words_fade : (d : Stepped) → Fades k s y d.hand → Words (stepped s d).0
@@ -84,13 +89,13 @@ module _ (k : Cluster) (sound : IsSound k) (few : FewEvents k) (number t : ℕ) 
   pub at_step : can_step y.phase ≡ true → AtStep k event i s t y
   at_step on = record { here = here; at = at; number = thread_number s.threads t y at; on = on; code = code; what = refl }
 
-  module _ (ends : can_step y.phase ≡ true → Gives Ends (step k.options.servers i h0)) where
+  module _ (Led : Stepped → Type 0) (ends : can_step y.phase ≡ true → Gives (EndsSo Led) (step k.options.servers i h0)) where
     -- the event's thread steps its instruction
-    stepping : (P : Server × EntryView → Type 0) → ((d : Stepped) → can_step y.phase ≡ true → Ends d → P (stepped s d)) → enabled k.options s (Step t) ≡ true → Gives P (does k.code k.options s (Step t))
+    stepping : (P : Server × EntryView → Type 0) → ((d : Stepped) → can_step y.phase ≡ true → EndsSo Led d → P (stepped s d)) → enabled k.options s (Step t) ≡ true → Gives P (does k.code k.options s (Step t))
     stepping P go on =
         let calm : can_step y.phase ≡ true = subst (λ x. has_phase can_step x ≡ true) at on in
         subst (λ x. Gives P (option_map (stepped s) (then_some (option_map (λ v. record { work = begin_work s.rest; thread = v }) x) (step_in k.code k.options.servers)))) (sym at)
-        (subst (λ x. Gives P (option_map (stepped s) (then_some x (λ j. step k.options.servers j h0)))) (sym code) (over_gives Ends P (step k.options.servers i h0) (stepped s) (ends calm) (λ d g. go d calm g)))
+        (subst (λ x. Gives P (option_map (stepped s) (then_some x (λ j. step k.options.servers j h0)))) (sym code) (over_gives (EndsSo Led) P (step k.options.servers i h0) (stepped s) (ends calm) (λ d g. go d calm g)))
 
     -- WORDS
 
@@ -119,14 +124,18 @@ module _ (k : Cluster) (sound : IsSound k) (few : FewEvents k) (number t : ℕ) 
     -- THE ENTRY
 
     -- from what the step leaves
-    pub done_legal : (can_step y.phase ≡ true → HoldsNone k s.rest.number y) → Gives (λ (d : Cluster × EntryView). is_some d.1.done ≡ true → LeadsOn k.options d.1 c0 d.0) (apply k event)
-    done_legal none =
+    pub led_legal : ((d : Stepped) → can_step y.phase ≡ true → Led d → StepLed k s c0 (stepped s d)) → Gives (λ (d : Cluster × EntryView). is_some d.1.done ≡ true → LeadsOn k.options d.1 c0 d.0) (apply k event)
+    led_legal leads =
         both_give Done Then (λ (d : Cluster × EntryView). is_some d.1.done ≡ true → LeadsOn k.options d.1 c0 d.0) (apply k event) words
         (applied_by Then k event sound few (λ r h on.
         let same : r ≡ s = some_server (sym h ∙ here) in
         subst (λ (x : Server). Gives (λ (q : Server × EntryView). (c : Cluster) → Afterwards k x q.0 c → Then (c, q.1)) (does k.code k.options x (Step t))) (sym same)
-        (stepping (λ q. (c : Cluster) → Afterwards k s q.0 c → Then (c, q.1)) (λ d calm g c after q l. left_led k sound number s here c0 is_coloured t y at (lives y.phase calm) d (none calm) (g q).0 c after l) (subst (λ (x : Server). enabled k.options x (Step t) ≡ true) same on))))
+        (stepping (λ q. (c : Cluster) → Afterwards k s q.0 c → Then (c, q.1)) (λ d calm g c after q l. leads d calm (g q).0 c after l) (subst (λ (x : Server). enabled k.options x (Step t) ≡ true) same on))))
         (λ d a l q. l q (a q))
       where
         Then : Cluster × EntryView → Type 0
         Then d = is_some d.1.done ≡ true → LeavesWords k d.0 → LeadsOn k.options d.1 c0 d.0
+
+  -- where acts leave the coloured heap and labels load what is reached
+  pub done_legal : (can_step y.phase ≡ true → Gives Ends (step k.options.servers i h0)) → (can_step y.phase ≡ true → HoldsNone k s.rest.number y) → Gives (λ (d : Cluster × EntryView). is_some d.1.done ≡ true → LeadsOn k.options d.1 c0 d.0) (apply k event)
+  done_legal ends none = led_legal (Left k.options c0 s y) ends (λ d calm g. left_led k sound number s here c0 is_coloured t y at (lives y.phase calm) d (none calm) g)

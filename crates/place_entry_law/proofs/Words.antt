@@ -33,7 +33,7 @@ use Rattle.place_entry_law.proofs.Still.{Still}
 -- USES
 
 -- a thread whose slots are the same but for pins
-thread_unpinned : (code : List Instr) (n : ℕ) (y : ThreadState) (vs : List Value) (ws : List ℕ) → map unpinned vs ≡ map unpinned y.slots → Alike code (thread_things n false y) (thread_things n false (record y { slots = vs; walk = ws }))
+pub thread_unpinned : (code : List Instr) (n : ℕ) (y : ThreadState) (vs : List Value) (ws : List ℕ) → map unpinned vs ≡ map unpinned y.slots → Alike code (thread_things n false y) (thread_things n false (record y { slots = vs; walk = ws }))
 thread_unpinned code n y vs ws e =
     chain (packed_alike n n false false false y [])
     (subst (λ l. Alike code (thread_things n false (record y { walk = []; slots = l; temps = map unpinned y.temps; moved_since_step = false })) (thread_things n false (record y { slots = vs; walk = ws }))) e

@@ -1,0 +1,47 @@
+-- Steps that follow a place, whether they are done or ask.
+use Rattle.std.proofs.Common.{◌≡◌, true, Option, Some, None, is_some, refl, ap}
+use Rattle.borrow_law.specs.Below.fr_base.declared.step.Fresh.{Fresh}
+use Rattle.borrow_law.specs.Below.journal.View.{EntryView}
+use Rattle.borrow_law.specs.Below.server_model.declared.event.Event.{Event}
+use Rattle.borrow_law.specs.Below.server_model.declared.event.What.TheVariants.{Step}
+use Rattle.borrow_law.specs.Below.server_model.Servers.{Cluster}
+use Rattle.borrow_law.specs.Below.server_model.Clusters.{apply}
+use Rattle.borrow_law.proofs.Below.event_law.Results.{both_give}
+use Rattle.ask_entry_law.specs.Asking.{AskingLegal}
+use Rattle.ask_entry_law.proofs.ReadKinds.{reads_legal as asks_legal}
+use Rattle.ask_entry_law.proofs.BorrowKinds.{shared_legal, mutable_legal}
+use Rattle.entry_law.specs.Entries.{LeadsOn, EntryLegal}
+use Rattle.fresh_law.specs.Below.clean_law.Clean.{a_copy, a_dup, a_lock}
+use Rattle.serve_law.proofs.Continuing.{goes_further}
+use Rattle.place_entry_law.specs.Reads as reads
+use Rattle.place_entry_law.specs.Reads.{DoneLegal}
+use Rattle.place_entry_law.proofs.EachKind.{reads_legal, borrows_legal}
+use Rattle.more_entry_law.specs.Locks as of_locks
+use Rattle.more_entry_law.specs.Places.{copies, dups, locks, shares, lends, PlacesLegal, PlacesGoOn}
+use Rattle.more_entry_law.proofs.Locks.{locks_legal}
+
+-- an event does a plain step or does none
+pub each_legal : (k : Cluster) (e : Event) → DoneLegal k e → AskingLegal k e → EntryLegal k e
+each_legal k e done asking c is_coloured =
+    both_give (λ (d : Cluster × EntryView). is_some d.1.done ≡ true → LeadsOn k.options d.1 c d.0) (λ (d : Cluster × EntryView). d.1.done ≡ None → LeadsOn k.options d.1 c d.0) (λ (d : Cluster × EntryView). LeadsOn k.options d.1 c d.0) (apply k e)
+    (done c is_coloured) (asking c is_coloured) (λ d f g. by d f g d.1.done refl)
+  where
+    by : (d : Cluster × EntryView) → (is_some d.1.done ≡ true → LeadsOn k.options d.1 c d.0) → (d.1.done ≡ None → LeadsOn k.options d.1 c d.0) → (o : Option Fresh) → d.1.done ≡ o → LeadsOn k.options d.1 c d.0
+    by d f g None q = g q
+    by d f g (Some names) q = f (ap is_some q)
+
+-- by the instruction
+pub places_legal : PlacesLegal
+places_legal k number t s y _ co few here at code (copies w) =
+    each_legal k (record { server = number; what = Step t }) (reads_legal k number t s y _ co few here at code (reads.copies w)) (asks_legal k number t s y w _ co few here at code a_copy)
+places_legal k number t s y _ co few here at code (dups w) = each_legal k (record { server = number; what = Step t }) (reads_legal k number t s y _ co few here at code (reads.dups w)) (asks_legal k number t s y w _ co few here at code a_dup)
+places_legal k number t s y _ co few here at code (locks w) =
+    each_legal k (record { server = number; what = Step t }) (locks_legal k number t s y _ co few here at code (of_locks.locks w)) (asks_legal k number t s y w _ co few here at code a_lock)
+places_legal k number t s y _ co few here at code (shares w n deep clean) =
+    each_legal k (record { server = number; what = Step t }) (borrows_legal k number t s y _ co few here at code (reads.shares w n deep clean)) (shared_legal k number t s y w co few here at code)
+places_legal k number t s y _ co few here at code (lends w n deep) =
+    each_legal k (record { server = number; what = Step t }) (borrows_legal k number t s y _ co few here at code (reads.lends w n deep)) (mutable_legal k number t s y w co few here at code)
+
+-- and legal journals go on
+pub places_go_on : PlacesGoOn
+places_go_on k number t s y i es co few here at code is l = goes_further k (record { server = number; what = Step t }) es (places_legal k number t s y i co few here at code is) l
