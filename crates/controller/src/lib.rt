@@ -5,4 +5,4 @@ mod events;
 mod loads;
 
 pub use events::{Choice, next};
-pub use loads::{Load, balance};
+pub use loads::{Load, balance, busiest};

@@ -1,6 +1,6 @@
 //! Moving a thread from a server with many threads to one with few.
 
-ghost use Rattle.std.specs.Prelude.{◌≡◌, ◌+◌, ◌^◌, ◌<◌, ◌≤◌, nat_lt, length, option_map};
+ghost use Rattle.std.specs.Prelude.{◌≡◌, ◌+◌, ◌^◌, ◌<◌, ◌≤◌, nat_lt, length, option_map, Some, IfSome};
 ghost use Rattle.drive_model.specs.Balance.{balance, first_best, shift_between};
 
 use fr_base::ThreadNo;
@@ -115,4 +115,20 @@ pub fn balance(loads: &[Load]) -> Option<(ThreadNo, u8)>
         load: *first,
     };
     shift_between(greatest(first, 1, rest), least(first, 1, rest))
+}
+
+/// The server with the greatest load (of two with the same load the lower number), which `balance` takes its thread from; `None` exactly where there are no loads.
+/// Linear, without memory.
+pub fn busiest(loads: &[Load]) -> Option<u8>
+    requires few { length loads.now ≤ 256 }
+    ensures { IfSome (balance loads.now) (λ s. result ≡ Some s.source) }
+{
+    let [first, rest @ ..] = loads else {
+        return None;
+    };
+    let first = Loaded {
+        server: 0,
+        load: *first,
+    };
+    Some(greatest(first, 1, rest).server as u8)
 }

@@ -1,0 +1,4 @@
+pub mod Desks
+pub mod Drives
+pub mod Moves
+pub mod Runs

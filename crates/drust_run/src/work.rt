@@ -1,0 +1,61 @@
+//! A server's work in a round.
+
+ghost use Rattle.std.specs.Prelude.{◌≡◌, ◌≤◌, ◌^◌, true, [], length, Some, IsSome, IfOk, OnOk};
+ghost use Rattle.server_model.specs.Events.{does, enabled};
+ghost use Rattle.server_core.specs.Steps.{CountsLeft};
+ghost use Rattle.drive_model.specs.Rounds.{work};
+ghost use Rattle.rounds_law.specs.Working.{CanWork};
+ghost use Rattle.drust_run.specs.Desks.{IsReady, Works};
+
+use crate::desk::Desk;
+use controller::{Choice, next};
+use drust_io::Gate;
+use fr_base::NoMemory;
+use journal::Entry;
+use server_core::Server;
+use server_model::What;
+
+// Room for an event, and then it is done.
+pub(crate) fn act(server: &mut Server, what: &What) -> Result<Entry, NoMemory>
+    requires enabled { enabled server.old.options server.old.state what.now ≡ true }
+    requires result { IsSome (does server.old.code server.old.options server.old.state what.now) }
+    requires counts { CountsLeft server.old.state }
+    ensures done { IfOk result (λ e. does server.old.code server.old.options server.old.state what.now ≡ Some (server.new.state, e)) }
+    ensures kept { (server.new.code ≡ server.old.code) × (server.new.options ≡ server.old.options) }
+{
+    server.room(*what)?;
+    Ok(server.act(*what))
+}
+
+// At most so many events of a server, each the next one, until it has none.
+fn quantum(
+    server: &mut Server,
+    choice: &mut Choice,
+    entries: &mut Vec<Entry>,
+    most: u32,
+) -> Result<(), NoMemory>
+    requires able { CanWork server.old.code server.old.options most server.old.state choice.old }
+    requires short { length server.old.code ≤ 2 ^ 30 }
+    requires fresh { entries.old.items ≡ [] }
+    ensures worked { OnOk result (work server.old.code server.old.options most server.old.state choice.old ≡ Some (record { server = server.new.state; generator = choice.new; entries = entries.new.items })) }
+    ensures kept { (server.new.code ≡ server.old.code) × (server.new.options ≡ server.old.options) }
+{
+    'events: for _ in 0..most {
+        let Some(what) = next(server, choice) else {
+            return Ok(());
+        };
+        entries.push(act(server, &what)?)?;
+    }
+    Ok(())
+}
+
+// The server's work arrives, and it does at most so many events; where memory is wanting, that is marked.
+pub(crate) fn work_at<G: Gate>(desk: &mut Desk, most: u32, gate: &G)
+    requires ready { IsReady most desk.old }
+    ensures { Works most desk.old desk.new }
+{
+    gate.arrive(desk.number);
+    if quantum(&mut desk.server, &mut desk.choice, &mut desk.entries, most).is_err() {
+        desk.lacks = true;
+    }
+}
