@@ -1,0 +1,41 @@
+-- RUNS IN ROUNDS OF TYPED PROGRAMS (in the manner of DRust; what is said of them is this project's).
+use Rattle.std.specs.Prelude.{◌≡◌, true, false, List, [], length, Some}
+use Rattle.table_law.specs.Below.fr_base.declared.instruction.Instr.{Instr}
+use Rattle.table_law.specs.Below.fr_base.declared.settings.Options.{Options}
+use Rattle.table_law.specs.Below.fr_terms.Terms.{Term, block_t, IsBlock}
+use Rattle.table_law.specs.Below.fr_terms.Limits.{HasShortPlaces}
+use Rattle.table_law.specs.Below.fr_typing.Kinds.{Kind}
+use Rattle.table_law.specs.Below.fr_typing.Places.{Env}
+use Rattle.table_law.specs.Below.fr_typing.Typing.{Types}
+use Rattle.table_law.specs.Below.fr_plain.Resolve.{program}
+use Rattle.table_law.specs.Bare.{bare}
+use Rattle.table_law.specs.CodeOf.{code_of}
+use Rattle.coherence_law.specs.Below.journal.View.{EntryView}
+use Rattle.coherence_law.specs.Below.server_model.Servers.{Cluster}
+use Rattle.drive_model.specs.Ending.{ending, is_going}
+use Rattle.drive_model.specs.Rounds.{Run, rounds}
+use Rattle.coherence_law.specs.Below.heap_law.Naming.{options_out}
+use Rattle.rounds_law.specs.Order.{IsSameCluster}
+use Rattle.whole_law.specs.Programs.{Given, RunsRight}
+
+-- a cluster and the journal that led there are those of a right run of this program under these options
+pub record IsRight (t : Term) (o : Options) (k : Cluster) (es : List EntryView) : Type 0 where
+  pub given : Given
+  pub term : block_t given.at given.items ≡ t
+  pub options : given.options ≡ o
+  -- events of its servers, one after another and each with its messages handed over, with the same journal; they lead to a cluster that is this
+  -- one but for the order in which messages wait
+  pub led : Cluster
+  pub same : IsSameCluster k led
+  -- that cluster is coherent and the journal is right: the program's own plain run, of its terms on one heap, is there under the journal's
+  -- order, with the journal's labels and prints; the messages that wait and those that were delivered are together as many as the journal's
+  -- acts send; and where it is finished nothing is left
+  pub right : RunsRight given (led, es)
+  -- where the run has come to an end, they lead to this very cluster
+  pub exact : is_going (ending k) ≡ false → led ≡ k
+  -- and else it has as many events as it may
+  pub turns : is_going (ending k) ≡ true → length es ≡ o.turns
+
+-- each run in rounds of whatever code of a typed program
+abbrev pub RunsInRoundsAreRight : Type 0
+RunsInRoundsAreRight = (t : Term) (code : List Instr) (o : Options) (kind : Kind) (env : Env) (r : Run) → IsBlock t → HasShortPlaces t → Types [] t kind env → bare code ≡ code_of (program t) → options_out o ≡ 0 → rounds code o ≡ Some r → IsRight t o r.cluster r.journal
