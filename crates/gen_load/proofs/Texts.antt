@@ -1,5 +1,5 @@
 -- The texts of generated programs, piece by piece.
-use Rattle.std.proofs.Common.{◌≡◌, ◌∙◌, ◌≤◌, ◌+◌, ℕ, zero, suc, List, [], ◌∷◌, ◌++◌, codes, decimal, refl, sym, ap, arith, add-zero, zero-add}
+use Rattle.std.proofs.Common.{◌≡◌, ◌∙◌, ◌≤◌, ◌+◌, ◌/◌, ◌%◌, ℕ, zero, suc, List, [], ◌∷◌, ◌++◌, codes, decimal, refl, sym, ap, arith, add-zero, zero-add}
 use Rattle.std.proofs.lemmas.List.{append_assoc, append-nil}
 use Rattle.std.specs.Fmt.{digits}
 use Rattle.fr_terms.specs.Terms.{Text, Term, join_t, let_t, lock_t, print_t}
@@ -7,7 +7,7 @@ use Rattle.fr_parse.specs.Canonical.{canonical, words, item_words, more_words}
 use Rattle.fr_parse.specs.Written.{spaced}
 use Rattle.fr_parse.proofs.PrintLemmas.{program_written}
 use Rattle.gen_load.specs.Pieces.{items_text, more_text, term_text}
-use Rattle.gen_load.specs.Programs.{add_locked, block, counter, counting, handed, handed_from, handing, items, place, print_end, read, shared_round, sharing, times}
+use Rattle.gen_load.specs.Programs.{add_locked, block, by_kind, counter, counting, handed, handed_from, handing, items, place, print_end, program_text, read, shared_round, sharing, step_of, times}
 
 -- what is written behind what was written
 pub then : (o a b p q : List ℕ) → p ≡ o ++ a → q ≡ p ++ b → q ≡ o ++ (a ++ b)
@@ -167,3 +167,8 @@ handing_written o p q r s t i k d same a b c e f =
 -- its items between braces
 pub whole_written : (p q r : List ℕ) (ts : List Term) → p ≡ codes "{ " → q ≡ p ++ items_text ts → r ≡ q ++ codes "}\n" → r ≡ canonical (block ts)
 whole_written p q r ts a b c = program_written (item_words (items ts)) (words (block ts)) p q r refl a b c
+
+-- and a generated program's text
+pub text_written : (n size : ℕ) (p q r : List ℕ) → p ≡ codes "{ " → q ≡ p ++ items_text (by_kind (n % 3) size (1 + n / 3 % 97)) → r ≡ q ++ codes "}\n" → r ≡ program_text n size
+unfolding program_text
+text_written n size p q r a b c = whole_written p q r (by_kind (n % 3) size (step_of n)) a b c

@@ -105,6 +105,6 @@ by_kind kind k d = if kind == 0 then counting k d else (if kind == 1 then sharin
 abbrev pub program : ℕ → ℕ → Term
 program n size = block (by_kind (n % 3) size (step_of n))
 
--- its text
-abbrev pub program_text : ℕ → ℕ → List ℕ
+-- its text, which stays shut in what is said of it: open, it is long
+unfoldable pub program_text : ℕ → ℕ → List ℕ
 program_text n size = canonical (program n size)

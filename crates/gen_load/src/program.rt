@@ -30,7 +30,7 @@ fn add_items(text: &mut String, kind: u64, size: u32, step: u64) -> Result<(), N
 /// # Errors
 ///
 /// `NoMemory` alone.
-#[tactic(auto, using(crate::proofs::Texts::whole_written))]
+#[tactic(auto, using(crate::proofs::Texts::text_written))]
 pub fn generate(alloc: Global, number: u64, size: u32) -> Result<String, NoMemory>
     requires least { 1 ≤ size }
     requires most { size ≤ 4000 }
