@@ -1,0 +1,4 @@
+pub mod Report
+pub mod Replay
+pub mod Runs
+pub mod Answers
