@@ -6,6 +6,7 @@ use crate::program_cases::{
     REFUSED_ASSIGNMENTS_AND_BLOCKS, REFUSED_BORROWS_AND_VALUES, REFUSED_NAMES_AND_READS, RUNS,
     TYPED,
 };
+use crate::served_cases::{NO_WORDS, READ, WRITTEN};
 use crate::shared_cases::{MUTEX_ORDERS, PAIR_ORDERS, REFUSED_SHARED_ORDERS, SHARED_ORDERS};
 use drust_io::{MemorySink, MemorySource, NoGate};
 use drust_top::drust;
@@ -17,10 +18,12 @@ use std::thread::Threads;
 
 const FIRST: &str = "{ let mut x = box 1; *x = 2; print *x }";
 
-const FIRST_REPORT: &str = "ended finished\nprints 1\n2\norder 1\n0.0 7\nsteps 7\n";
+const FIRST_REPORT: &str =
+    "ended finished\nprints 1\n2\norder 1\n0.0 7\nsteps 7\nevents 8\nissued 2\nrenewed 0\nhits 0\nevictions 0\nmessages 0\n";
 
 // The report of an empty block's run.
-const EMPTY_REPORT: &str = "ended finished\nprints 0\norder 1\n0.0 1\nsteps 1\n";
+const EMPTY_REPORT: &str =
+    "ended finished\nprints 0\norder 1\n0.0 1\nsteps 1\nevents 1\nissued 0\nrenewed 0\nhits 0\nevictions 0\nmessages 0\n";
 
 // How many bytes a call of the source gives or one of the sink takes, and which calls of the source and of the sink fail.
 #[derive(Clone, Copy)]
@@ -57,10 +60,7 @@ const HALF_A_SINK: Devices = Devices {
 
 // Words, and an input that begins with a text and goes on with one byte up to a length.
 #[rattlefmt::skip]
-const INPUTS: [(&[&str], &str, u8, usize, Devices, u8, &str); 22] = [
-    (&[], FIRST, b' ', 0, SMALL, 5, "refused words\n"),
-    (&["run", "run"], FIRST, b' ', 0, SMALL, 5, "refused words\n"),
-    (&["walk"], FIRST, b' ', 0, SMALL, 5, "refused words\n"),
+const INPUTS: [(&[&str], &str, u8, usize, Devices, u8, &str); 9] = [
     (&["run"], FIRST, b' ', 0, LARGE, 0, FIRST_REPORT),
     (&["run"], FIRST, b' ', 0, SINGLE, 0, FIRST_REPORT),
     (&["run"], FIRST, b' ', 0, NO_SOURCE, 6, ""),
@@ -70,16 +70,21 @@ const INPUTS: [(&[&str], &str, u8, usize, Devices, u8, &str); 22] = [
     (&["run"], "{{{{{{{{{{{{{{{{{{{{{{{{{{{{{{{{{{{{{{{{{{{{{{{{{{{{{{{{{{{{{{{{{", b'}', 130, LARGE, 3, "refused depth at 64\n"),
     (&["run"], FIRST, b' ', 1_048_576, LARGE, 0, FIRST_REPORT),
     (&["run"], FIRST, b' ', 1_048_577, LARGE, 9, "refused size\n"),
-    (&["run"], "", b' ', 1_048_576, LARGE, 3, "refused syntax at 1048576\n"),
-    (&["run"], "", b' ', 1_048_577, LARGE, 9, "refused size\n"),
-    (&["run"], "", b'{', 1_048_576, LARGE, 3, "refused depth at 64\n"),
-    (&["run"], "", b'*', 1_048_576, LARGE, 3, "refused syntax at 0\n"),
-    (&["run"], "{", b'*', 1_048_576, LARGE, 3, "refused depth at 9\n"),
-    (&["run"], "{", b'(', 1_048_576, LARGE, 3, "refused depth at 64\n"),
-    (&["run"], "{", b'n', 1_048_576, LARGE, 3, "refused name at 1\n"),
-    (&["run"], "{", b'9', 1_048_576, LARGE, 3, "refused number at 1\n"),
-    (&["run"], "{", b';', 1_048_576, LARGE, 3, "refused syntax at 1\n"),
-    (&["run"], "{", b'&', 1_048_576, LARGE, 3, "refused syntax at 2\n"),
+];
+
+// Inputs as long as may be, and one byte longer, that no grammar has, and the places where they are refused.
+#[rattlefmt::skip]
+const LONG_INPUTS: [(&str, u8, usize, u8, &str); 10] = [
+    ("", b' ', 1_048_576, 3, "refused syntax at 1048576\n"),
+    ("", b' ', 1_048_577, 9, "refused size\n"),
+    ("", b'{', 1_048_576, 3, "refused depth at 64\n"),
+    ("", b'*', 1_048_576, 3, "refused syntax at 0\n"),
+    ("{", b'*', 1_048_576, 3, "refused depth at 9\n"),
+    ("{", b'(', 1_048_576, 3, "refused depth at 64\n"),
+    ("{", b'n', 1_048_576, 3, "refused name at 1\n"),
+    ("{", b'9', 1_048_576, 3, "refused number at 1\n"),
+    ("{", b';', 1_048_576, 3, "refused syntax at 1\n"),
+    ("{", b'&', 1_048_576, 3, "refused syntax at 2\n"),
 ];
 
 // The words of a command line.
@@ -124,6 +129,22 @@ fn answers<R: Threads + Wait + Abort + Sync>(
     Ok(())
 }
 
+// Words and an input are answered with status 0 and a text with this beginning and this end.
+fn is_told<R: Threads + Wait + Abort + Sync>(
+    rt: &R,
+    alloc: Global,
+    words: &[&str],
+    input: &[u8],
+    first: &str,
+    last: &str,
+) -> Result<(), Fail> {
+    let (given, bytes) = answer(rt, alloc, words, input, &LARGE)?;
+    assert_eq!(rt; given, 0, "{first}");
+    assert!(rt; bytes.starts_with(first.as_bytes()), "{first}");
+    assert!(rt; bytes.ends_with(last.as_bytes()), "{last}");
+    Ok(())
+}
+
 // A source with an order behind it.
 fn input_of(alloc: Global, source: &str, order: &str) -> Result<Vec<u8>, Fail> {
     let mut input = source.as_bytes().to_vec(alloc)?;
@@ -138,7 +159,6 @@ fn programs(rt: HostRuntime) -> Result<(), Fail> {
         ("run", REFUSED_NAMES_AND_READS.as_slice()),
         ("run", REFUSED_BORROWS_AND_VALUES.as_slice()),
         ("run", REFUSED_ASSIGNMENTS_AND_BLOCKS.as_slice()),
-        ("run", RUNS.as_slice()),
         ("replay", ORDERS.as_slice()),
     ] {
         for (input, status, text) in rows {
@@ -173,10 +193,33 @@ fn programs(rt: HostRuntime) -> Result<(), Fail> {
             )?;
         }
     }
+    for (input, _, text) in RUNS.as_slice() {
+        is_told(&rt, rt.alloc(), &["run"], input.as_bytes(), text, "")?;
+    }
     // Whatever they print.
     for input in TYPED {
         let (status, _) = answer(&rt, rt.alloc(), &["run"], input.as_bytes(), &LARGE)?;
         assert_eq!(rt; status, 0, "{input}");
+    }
+    Ok(())
+}
+
+#[test]
+fn programs_on_servers(rt: HostRuntime) -> Result<(), Fail> {
+    for rows in [READ.as_slice(), WRITTEN.as_slice()] {
+        for (words, input, first, last) in rows {
+            is_told(&rt, rt.alloc(), words, input.as_bytes(), first, last)?;
+        }
+    }
+    for words in NO_WORDS {
+        answers(
+            &rt,
+            rt.alloc(),
+            words,
+            FIRST.as_bytes(),
+            &SMALL,
+            (5, "refused words\n"),
+        )?;
     }
     Ok(())
 }
@@ -194,6 +237,15 @@ fn words_and_inputs(rt: HostRuntime) -> Result<(), Fail> {
     for (words, first, next, length, devices, status, text) in INPUTS {
         let input = bytes_of(rt.alloc(), first, next, length)?;
         answers(&rt, rt.alloc(), words, &input, &devices, (status, text))?;
+    }
+    Ok(())
+}
+
+#[test]
+fn long_inputs(rt: HostRuntime) -> Result<(), Fail> {
+    for (first, next, length, status, text) in LONG_INPUTS {
+        let input = bytes_of(rt.alloc(), first, next, length)?;
+        answers(&rt, rt.alloc(), &["run"], &input, &LARGE, (status, text))?;
     }
     Ok(())
 }
@@ -228,7 +280,7 @@ fn is_answered<R: Threads + Wait + Abort + Sync>(
     assert!(rt; place < input.len());
     input[place] = byte;
     let (status, bytes) = answer(rt, alloc, &["run"], &input, &LARGE)?;
-    assert!(rt; matches!(status, 0 | 3 | 4 | 11));
+    assert!(rt; matches!(status, 0 | 3 | 4));
     assert!(rt; bytes.ends_with(b"\n"));
     Ok(())
 }

@@ -8,4 +8,6 @@ mod order_cases;
 #[cfg(test)]
 mod program_cases;
 #[cfg(test)]
+mod served_cases;
+#[cfg(test)]
 mod shared_cases;

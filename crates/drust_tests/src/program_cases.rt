@@ -1,8 +1,6 @@
 //! Programs of one thread and their answers. Those of the typing table go by its rows: the ones that are typed run to their end, the
 //! others are refused at their first fault. Places, reasons, prints and numbers of steps were worked out by hand.
 
-use crate::order_cases::{AT_ONCE, JOINED, LET_GO};
-
 /// Sources of typed programs, which run to their end.
 #[rattlefmt::skip]
 pub const TYPED: [&str; 45] = [
@@ -64,7 +62,7 @@ pub const TYPED: [&str; 45] = [
 
 /// Sources that are refused for their text, their forms, new names or reads, with their status and text.
 #[rattlefmt::skip]
-pub const REFUSED_NAMES_AND_READS: [(&str, u8, &str); 41] = [
+pub const REFUSED_NAMES_AND_READS: [(&str, u8, &str); 34] = [
     // the first fault of types
     ("{ let mut x = 1; x = box 2 }", 4, "refused type at 21: wrong type\n"),
     ("{ print box 1 }", 4, "refused type at 8: wrong type\n"),
@@ -78,14 +76,6 @@ pub const REFUSED_NAMES_AND_READS: [(&str, u8, &str); 41] = [
     ("{ nnnnnnnnnnnnnnnnnnnnnnnnnnnnnnnnn }", 3, "refused name at 2\n"),
     ("{ let mut x = *********y }", 3, "refused depth at 22\n"),
     ("} #", 3, "refused byte at 2\n"),
-    // the first form that is not accepted yet
-    ("{ let mut h = spawn () { 3 } }", 11, "refused form at 14\n"),
-    ("{ let mut x = 1; let mut r = &x; print (dup r + join h) }", 11, "refused form at 40\n"),
-    ("{ print (1 + join h); &mut x }", 11, "refused form at 13\n"),
-    ("{ { 1; box join h } ; dup m }", 11, "refused form at 11\n"),
-    ("{ x = mutex 1 }", 11, "refused form at 6\n"),
-    ("{ lock m as c { } }", 11, "refused form at 2\n"),
-    ("{ par () { } () { } }", 11, "refused form at 2\n"),
     // the first fault of types
     ("{ let mut x = 1; let mut x = 2 }", 4, "refused type at 17: name in scope\n"),
     // a new name
@@ -167,7 +157,7 @@ pub const REFUSED_BORROWS_AND_VALUES: [(&str, u8, &str); 36] = [
 
 /// Sources that are refused for assignments or blocks, and worked programs that are.
 #[rattlefmt::skip]
-pub const REFUSED_ASSIGNMENTS_AND_BLOCKS: [(&str, u8, &str); 34] = [
+pub const REFUSED_ASSIGNMENTS_AND_BLOCKS: [(&str, u8, &str); 31] = [
     // an assignment
     ("{ x = y }", 4, "refused type at 6: unknown name\n"),
     ("{ x = 1 }", 4, "refused type at 2: unknown name\n"),
@@ -206,10 +196,6 @@ pub const REFUSED_ASSIGNMENTS_AND_BLOCKS: [(&str, u8, &str); 34] = [
     ("{ let mut x = box 1; let mut r = &x; let mut y = *r }", 4, "refused type at 49: moved through a reference\n"),
     // run takes no order
     ("{ }%\n0.0 1\n", 3, "refused byte at 3\n"),
-    // run starts no thread
-    (JOINED, 11, "refused form at 14\n"),
-    (AT_ONCE, 11, "refused form at 13\n"),
-    (LET_GO, 11, "refused form at 2\n"),
 ];
 
 /// Sources, each with the status and the report of its run.

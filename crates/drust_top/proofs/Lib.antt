@@ -1,13 +1,4 @@
-pub mod Refusals
+pub mod Ranges
 pub mod Replies
-pub mod Checkable
-pub mod Stepping
-pub mod FewSteps
-pub mod Determined
-pub mod FormLemmas
-pub mod Following
-pub mod Marks
-pub mod Replaying
 pub mod OneAnswer
-pub mod OneThread
 pub mod FromCause

@@ -1,9 +1,3 @@
-pub mod Report
-pub mod Words
 pub mod Headline
-pub mod Runs
+pub mod Inputs
 pub mod OneAnswer
-pub mod Forms
-pub mod Refusals
-pub mod Typed
-pub mod Replay

@@ -1,17 +1,10 @@
-//! The top call: from the words of a command line and the bytes of a source to the text that is written and the status.
+//! The top call: from the words of a command line and the bytes of an input to the text that is written and the status.
 #![tactic(auto)]
 
-mod forms;
 mod laws;
-mod refused;
-mod replay;
-mod report;
-mod run;
+mod outcome;
 mod top;
-mod words;
 
 pub use laws::one_answer;
-pub use refused::Refused;
-pub use run::checked_source;
-pub use top::{Outcome, drust};
-pub use words::Command;
+pub use outcome::Outcome;
+pub use top::drust;

@@ -1,83 +1,227 @@
 //! The top call.
 
-ghost use Rattle.std.specs.Prelude.{◌≡◌, ◌≤◌, ℕ, List, Option, Some, None, ◌⊎◌, map, length, string_bytes, IfOk};
+ghost use Rattle.std.specs.Prelude.{◌≡◌, ◌≤◌, ℕ, List, Option, Some, None, true, false, ◌⊎◌, map, length, string_bytes, IfOk, IfSome};
+ghost use Rattle.heap_law.specs.Naming.{options_out};
+ghost use Rattle.source_front.specs.Typed.{limit};
 ghost use Rattle.drust_io.specs.Flow.{NothingLeft, Rose};
-ghost use Rattle.drust_top.specs.Words.{asked};
-ghost use Rattle.drust_top.specs.Headline.{Answers, Answered, Broken, RepliesTo, IsAnswer, IsCutShort, IsStatus, IsSilent, IsOfInput, limit};
-ghost use Rattle.drust_top.specs.Runs.{IsReply, IsInput};
+ghost use Rattle.drust_cli.specs.declared.asked.Asked.{Asked as AskedThere};
+ghost use Rattle.drust_cli.specs.Asked.{asked};
+ghost use Rattle.drust_run.specs.declared.ran.Ran.{Ran as RanThere};
+ghost use Rattle.drust_top.specs.Headline.{Answers, Answered, Broken, IsAnswer, IsCutShort, IsOfInput, IsOfRun, IsRightFor, IsRightOf, IsSameCause, IsSilent, IsStatus, Makes, RepliesTo, reads};
+ghost use Rattle.drust_top.specs.Inputs.{IsInput};
 
-use crate::replay::replay_reply;
-use crate::run::reply_to;
-use crate::words::{Command, asked};
+use crate::outcome::Outcome;
+use drust_cli::{Asked, Command, WordsError, read_words};
 use drust_io::{Gate, ReadError, Sink, Source, read_all, write_all};
+use drust_run::Ran;
 use fr_base::NoMemory;
+use gen_load::generate;
+use load_law::programs_are_sources;
+use replay_answers::replay_answer;
+use server_answers::{Answer, load_answer, run_answer};
 use std::alloc::Global;
 use std::sync::Wait;
 use std::thread::Threads;
 
-/// What the program ended with: 0, 1 or 2 where the text of a run is written, 3 to 11 where there is none (`drust` says when each
-/// comes).
-#[derive(Clone, Copy, Debug, PartialEq, Eq)]
-pub struct Outcome {
-    pub status: u8,
-}
-
 const LIMIT: usize = 1_048_576;
 
-/// Writes an answer whole, or its first bytes where the sink fails. No memory.
-fn reply<K: Sink>(sink: &mut K, status: u8, text: &[u8]) -> Outcome
+// Writes an answer whole, or its first bytes where the sink fails. No memory.
+fn reply<K: Sink>(sink: &mut K, ran: Option<Ran>, status: u8, text: &[u8]) -> Outcome
     requires { IsAnswer status }
     ensures status { (result.status ≡ status) ⊎ (result.status ≡ 7) }
-    ensures answered { (words : List (List ℕ)) (left : Option (List ℕ)) → Answers words left status text.now → IsAnswer result.status → Answered words left result.status (K.written sink.old) (K.written sink.new) }
-    ensures broken { (words : List (List ℕ)) (left : Option (List ℕ)) → Answers words left status text.now → result.status ≡ 7 → Broken words left (K.written sink.old) (K.written sink.new) }
+    ensures ran { result.ran ≡ ran }
+    ensures answered { (words : List (List ℕ)) (left : Option (List ℕ)) → Answers words left ran status text.now → IsAnswer result.status → Answered words left result.ran result.status (K.written sink.old) (K.written sink.new) }
+    ensures broken { (words : List (List ℕ)) (left : Option (List ℕ)) → Answers words left ran status text.now → result.status ≡ 7 → Broken words left result.ran (K.written sink.old) (K.written sink.new) }
     ensures fault { result.status ≡ 7 → Rose (K.fault_count sink.old) (K.fault_count sink.new) }
 {
     match write_all(sink, text) {
-        Ok(()) => Outcome { status },
-        Err(_) => Outcome { status: 7 },
+        Ok(()) => Outcome { status, ran },
+        Err(_) => Outcome { status: 7, ran },
     }
 }
 
-// The status and the text that a command answers to an input.
-fn reply_of(alloc: Global, command: Command, bytes: &[u8]) -> Result<(u8, String), NoMemory>
-    requires { length bytes.now ≤ limit }
-    ensures { IfOk result (λ r. RepliesTo command bytes.now r.0 (string_bytes r.1)) }
+// What is answered to an input.
+fn answer_to<G: Gate + Sync, R: Threads + Sync>(
+    rt: &R,
+    alloc: Global,
+    request: &Asked,
+    bytes: &[u8],
+    gate: &G,
+) -> Result<Answer, NoMemory>
+    requires size { length bytes.now ≤ limit }
+    requires within { options_out request.now.options ≡ 0 }
+    requires reads { reads request.now.command ≡ true }
+    ensures answers { IfOk result (λ a. RepliesTo request.now.command request.now.options bytes.now a.ran a.status (string_bytes a.text)) }
+    ensures right { IfOk result (λ a. IfSome a.ran (IsRightOf request.now.command (Some bytes.now) request.now.number request.now.size request.now.options)) }
+    ensures status { IfOk result (λ a. IsAnswer a.status) }
 {
-    match command {
-        Command::Run => reply_to(alloc, bytes),
-        Command::Replay => replay_reply(alloc, bytes),
+    match request.command {
+        Command::Run => run_answer(rt, alloc, bytes, &request.options, gate),
+        Command::Replay => {
+            let (status, text) = replay_answer(alloc, bytes)?;
+            Ok(Answer {
+                ran: None,
+                status,
+                text,
+            })
+        }
+        Command::Gen | Command::Load => unreachable!(),
     }
 }
 
 // The answer to an input that was read.
-fn answer<K: Sink>(alloc: Global, command: Command, bytes: &[u8], sink: &mut K) -> Outcome
-    requires { length bytes.now ≤ limit }
-    ensures status { IsReply result.status }
-    ensures answered { (words : List (List ℕ)) (left : Option (List ℕ)) → IsInput words command bytes.now left → IsAnswer result.status → Answered words left result.status (K.written sink.old) (K.written sink.new) }
-    ensures broken { (words : List (List ℕ)) (left : Option (List ℕ)) → IsInput words command bytes.now left → result.status ≡ 7 → Broken words left (K.written sink.old) (K.written sink.new) }
+fn answer<K: Sink, G: Gate + Sync, R: Threads + Sync>(
+    rt: &R,
+    alloc: Global,
+    request: &Asked,
+    bytes: &[u8],
+    sink: &mut K,
+    gate: &G,
+) -> Outcome
+    requires size { length bytes.now ≤ limit }
+    requires within { options_out request.now.options ≡ 0 }
+    requires reads { reads request.now.command ≡ true }
+    ensures status { IsStatus result.status }
+    ensures read { (result.status ≡ 6 → ⊥) }
+    ensures answered { (words : List (List ℕ)) (left : Option (List ℕ)) → asked words ≡ Some request.now → IsInput bytes.now left → IsAnswer result.status → Answered words left result.ran result.status (K.written sink.old) (K.written sink.new) }
+    ensures broken { (words : List (List ℕ)) (left : Option (List ℕ)) → asked words ≡ Some request.now → IsInput bytes.now left → result.status ≡ 7 → Broken words left result.ran (K.written sink.old) (K.written sink.new) }
+    ensures right { (words : List (List ℕ)) (left : Option (List ℕ)) → asked words ≡ Some request.now → IsInput bytes.now left → IfSome result.ran (IsRightFor words left) }
     ensures fault { result.status ≡ 7 → Rose (K.fault_count sink.old) (K.fault_count sink.new) }
-    ensures nothing { result.status ≡ 8 → K.written sink.new ≡ K.written sink.old }
+    ensures nothing { result.status ≡ 8 → (K.written sink.new ≡ K.written sink.old) × (result.ran ≡ None) }
 {
-    match reply_of(alloc, command, bytes) {
-        Ok((status, text)) => reply(sink, status, text.as_bytes()),
-        Err(NoMemory) => Outcome { status: 8 },
+    match answer_to(rt, alloc, request, bytes, gate) {
+        Ok(Answer { ran, status, text }) => reply(sink, ran, status, text.as_bytes()),
+        Err(NoMemory) => Outcome {
+            status: 8,
+            ran: None,
+        },
     }
 }
 
-/// THE TOP CALL: does what the words ask for with the source's input, and writes its text to the sink.
+// What is done with an input, which is read whole.
+fn input<S: Source, K: Sink, G: Gate + Sync, R: Threads + Sync>(
+    rt: &R,
+    alloc: Global,
+    request: &Asked,
+    source: &mut S,
+    sink: &mut K,
+    gate: &G,
+) -> Outcome
+    requires within { options_out request.now.options ≡ 0 }
+    requires reads { reads request.now.command ≡ true }
+    ensures status { IsStatus result.status }
+    ensures answered { (words : List (List ℕ)) → asked words ≡ Some request.now → IsAnswer result.status → Answered words (S.left source.old) result.ran result.status (K.written sink.old) (K.written sink.new) }
+    ensures broken { (words : List (List ℕ)) → asked words ≡ Some request.now → result.status ≡ 7 → Broken words (S.left source.old) result.ran (K.written sink.old) (K.written sink.new) }
+    ensures right { (words : List (List ℕ)) → asked words ≡ Some request.now → IfSome result.ran (IsRightFor words (S.left source.old)) }
+    ensures sink_fault { result.status ≡ 7 → Rose (K.fault_count sink.old) (K.fault_count sink.new) }
+    ensures source_fault { result.status ≡ 6 → Rose (S.fault_count source.old) (S.fault_count source.new) }
+    ensures nothing { IsSilent result.status → (K.written sink.new ≡ K.written sink.old) × (result.ran ≡ None) }
+    ensures nothing_left { IsOfInput result.status → NothingLeft (S.left source.new) }
+{
+    match read_all(alloc, source, LIMIT) {
+        Ok(bytes) => answer(rt, alloc, request, &bytes, sink, gate),
+        Err(ReadError::TooLong) => reply(sink, None, 9, b"refused size\n"),
+        Err(ReadError::ReadFault) => Outcome {
+            status: 6,
+            ran: None,
+        },
+        Err(ReadError::NoMemory) => Outcome {
+            status: 8,
+            ran: None,
+        },
+    }
+}
+
+// What is answered without an input.
+fn made<G: Gate + Sync, R: Threads + Sync>(
+    rt: &R,
+    alloc: Global,
+    request: &Asked,
+    gate: &G,
+) -> Result<Answer, NoMemory>
+    requires within { options_out request.now.options ≡ 0 }
+    requires least { 1 ≤ request.now.size }
+    requires most { request.now.size ≤ 4000 }
+    requires reads { reads request.now.command ≡ false }
+    ensures answers { IfOk result (λ a. Makes request.now.command request.now.options request.now.number request.now.size a.ran a.status (string_bytes a.text)) }
+    ensures right { (left : Option (List ℕ)) → IfOk result (λ a. IfSome a.ran (IsRightOf request.now.command left request.now.number request.now.size request.now.options)) }
+    ensures status { IfOk result (λ a. IsAnswer a.status) }
+{
+    match request.command {
+        Command::Gen => {
+            let text = generate(alloc, request.number, request.size)?;
+            Ok(Answer {
+                ran: None,
+                status: 0,
+                text,
+            })
+        }
+        Command::Load => load_answer(
+            rt,
+            alloc,
+            request.number,
+            request.size,
+            &request.options,
+            gate,
+        ),
+        Command::Run | Command::Replay => unreachable!(),
+    }
+}
+
+// A generated program is written, or run.
+fn generated<K: Sink, G: Gate + Sync, R: Threads + Sync>(
+    rt: &R,
+    alloc: Global,
+    request: &Asked,
+    sink: &mut K,
+    gate: &G,
+) -> Outcome
+    requires within { options_out request.now.options ≡ 0 }
+    requires least { 1 ≤ request.now.size }
+    requires most { request.now.size ≤ 4000 }
+    requires reads { reads request.now.command ≡ false }
+    ensures status { IsStatus result.status }
+    ensures read { result.status ≡ 6 → ⊥ }
+    ensures answered { (words : List (List ℕ)) (left : Option (List ℕ)) → asked words ≡ Some request.now → IsAnswer result.status → Answered words left result.ran result.status (K.written sink.old) (K.written sink.new) }
+    ensures broken { (words : List (List ℕ)) (left : Option (List ℕ)) → asked words ≡ Some request.now → result.status ≡ 7 → Broken words left result.ran (K.written sink.old) (K.written sink.new) }
+    ensures right { (words : List (List ℕ)) (left : Option (List ℕ)) → asked words ≡ Some request.now → IfSome result.ran (IsRightFor words left) }
+    ensures fault { result.status ≡ 7 → Rose (K.fault_count sink.old) (K.fault_count sink.new) }
+    ensures nothing { result.status ≡ 8 → (K.written sink.new ≡ K.written sink.old) × (result.ran ≡ None) }
+{
+    match made(rt, alloc, request, gate) {
+        Ok(Answer { ran, status, text }) => reply(sink, ran, status, text.as_bytes()),
+        Err(NoMemory) => Outcome {
+            status: 8,
+            ran: None,
+        },
+    }
+}
+
+// Whether a command has an input.
+fn reads(command: Command) -> bool
+    ensures { result ≡ reads command }
+{
+    match command {
+        Command::Run | Command::Replay => true,
+        Command::Gen | Command::Load => false,
+    }
+}
+
+/// THE TOP CALL: does what the words ask for, with the source's input, and writes its text to the sink.
 ///
-/// The one word that it takes is `run`, for a source's run to its end, or `replay`, for the run of a source under the order behind
-/// it. The whole input is read first (at most 1,048,576 bytes), and the whole text is made before the first write. It takes time
-/// in the input, in the steps of the run and in the text.
+/// `run` runs the program of a source on servers, in rounds under the options, and writes the report; `replay` runs it on one heap under the
+/// order behind it; `gen` writes a generated program and `load` runs one and writes the summary, and both read nothing. An input is read
+/// whole first (at most 1,048,576 bytes), and the whole text is made before the first write. It takes time in the input, in the events or
+/// steps of the run and in the text.
 ///
-/// The statuses: 0, the run has finished and its text is written; 1 and 2, after its order a replay is deadlocked or goes on, and
-/// its text is written; 3, the input is no source, with the place of the first byte, name, number or token that is refused; 4,
-/// its program has a fault of types; 5, the words are refused; 6, the source failed; 7, the sink failed; 8, there was no memory;
-/// 9, the input is too long; 10, the order is refused, with the place of the first line that isn't in the format or whose steps
-/// aren't all plain steps; 11, in a run: the program has a form that isn't run yet, with the place of the first. `Answers` has the
-/// causes of 0 to 5 and 9 to 11, each with its text: where the source tells what it has left, an input that a cause fits gets the
-/// status of that cause, or 6, 7 or 8; at 6 and 8 nothing is written, at 7 the first bytes of the text that would
-/// have been.
+/// The statuses: 0, the run has finished or the program was generated; 1, it is deadlocked; 2, it would go on after its last turn or the
+/// last step of its order; 3, the input is no source, with the place of the first byte, name, number or token that is refused; 4, its
+/// program has a fault of types; 5, the words are refused; 6, the source failed; 7, the sink failed; 8, there was no memory; 9, the input
+/// is too long; 10, the order is refused, with the place of the first line that isn't in the format or whose steps aren't all plain steps.
+/// `Answers` has the causes of 0 to 5, 9 and 10, each with its text and with the run that is handed back: an input that a cause fits gets
+/// the status of that cause, or 6, 7 or 8; that of a typed program that is to be run gets 0, 1 or 2, or one of these. At 6 and 8 nothing is written and no run
+/// is handed back, at 7 the first bytes of the text that would have been. The run that is handed back is right (`IsRight`): it is the
+/// program's own run on one heap under the order that is written.
 pub fn drust<S: Source, K: Sink, G: Gate + Sync, R: Threads + Wait + Sync>(
     rt: &R,
     alloc: Global,
@@ -87,23 +231,32 @@ pub fn drust<S: Source, K: Sink, G: Gate + Sync, R: Threads + Wait + Sync>(
     gate: &G,
 ) -> Outcome
     ensures status { IsStatus result.status }
-    ensures answered { IsAnswer result.status → Answered (map string_bytes words.now.items) (S.left source.old) result.status (K.written sink.old) (K.written sink.new) }
-    ensures from_cause { (bytes : List ℕ) (text : List ℕ) (status : ℕ) → S.left source.old ≡ Some bytes → Answers (map string_bytes words.now.items) (Some bytes) status text → (result.status ≡ status) ⊎ IsCutShort result.status }
-    ensures broken { result.status ≡ 7 → Broken (map string_bytes words.now.items) (S.left source.old) (K.written sink.old) (K.written sink.new) }
+    ensures answered { IsAnswer result.status → Answered (map string_bytes words.now.items) (S.left source.old) result.ran result.status (K.written sink.old) (K.written sink.new) }
+    ensures from_cause { (bytes : List ℕ) (text : List ℕ) (status : ℕ) (r : Option RanThere) → S.left source.old ≡ Some bytes → Answers (map string_bytes words.now.items) (Some bytes) r status text → IsSameCause r status result.status ⊎ IsCutShort result.status }
+    ensures loads { (a : AskedThere) → asked (map string_bytes words.now.items) ≡ Some a → a.command ≡ Command.Load → IsOfRun result.status ⊎ IsCutShort result.status }
+    ensures broken { result.status ≡ 7 → Broken (map string_bytes words.now.items) (S.left source.old) result.ran (K.written sink.old) (K.written sink.new) }
+    ensures right { IfSome result.ran (IsRightFor (map string_bytes words.now.items) (S.left source.old)) }
     ensures sink_fault { result.status ≡ 7 → Rose (K.fault_count sink.old) (K.fault_count sink.new) }
     ensures source_fault { result.status ≡ 6 → Rose (S.fault_count source.old) (S.fault_count source.new) }
     ensures nothing_written { IsSilent result.status → K.written sink.new ≡ K.written sink.old }
-    ensures nothing_left { IsOfInput result.status → NothingLeft (S.left source.new) }
-    ensures nothing_read { asked (map string_bytes words.now.items) ≡ None → S.left source.new ≡ S.left source.old }
-    ensures words { asked (map string_bytes words.now.items) ≡ None → (result.status ≡ 5) ⊎ (result.status ≡ 7) }
+    ensures nothing_ran { IsSilent result.status → result.ran ≡ None }
+    ensures nothing_left { (a : AskedThere) → asked (map string_bytes words.now.items) ≡ Some a → reads a.command ≡ true → IsOfInput result.status → NothingLeft (S.left source.new) }
+    ensures nothing_read { (a : AskedThere) → asked (map string_bytes words.now.items) ≡ Some a → reads a.command ≡ false → S.left source.new ≡ S.left source.old }
+    ensures words { asked (map string_bytes words.now.items) ≡ None → ((result.status ≡ 5) ⊎ (result.status ≡ 7) ⊎ (result.status ≡ 8)) × (S.left source.new ≡ S.left source.old) }
 {
-    let Some(command) = asked(words) else {
-        return reply(sink, 5, b"refused words\n");
-    };
-    match read_all(alloc, source, LIMIT) {
-        Ok(bytes) => answer(alloc, command, &bytes, sink),
-        Err(ReadError::TooLong) => reply(sink, 9, b"refused size\n"),
-        Err(ReadError::ReadFault) => Outcome { status: 6 },
-        Err(ReadError::NoMemory) => Outcome { status: 8 },
+    programs_are_sources();
+    match read_words(alloc, words) {
+        Ok(request) => {
+            if reads(request.command) {
+                input(rt, alloc, &request, source, sink, gate)
+            } else {
+                generated(rt, alloc, &request, sink, gate)
+            }
+        }
+        Err(WordsError::BadWords) => reply(sink, None, 5, b"refused words\n"),
+        Err(WordsError::NoMemory) => Outcome {
+            status: 8,
+            ran: None,
+        },
     }
 }

@@ -1,6 +1,0 @@
-use Rattle.std.proofs.Common.{◌≡◌, ◌++◌, drop, string_bytes}
-use Rattle.drust_top.specs.Report.{number_lines}
-use Rattle.drust_top.proofs.report.add_numbers.Given as goal
-
-abbrev pub invariant-numbers : goal.invariant-numbers
-invariant-numbers l = string_bytes l.text ++ number_lines (drop l.number-index l.printed) ≡ string_bytes l.initial.text ++ number_lines l.printed
