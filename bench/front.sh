@@ -3,7 +3,7 @@
 # the megabytes a second and how much longer twice the source takes. Needs the built program (./build).
 #   bench/front.sh            all shapes
 #   bench/front.sh lets       one of them; the shapes are those below
-# Some shapes are refused: hostile text, and forms that are not accepted yet. Each has the status that it must end with.
+# Each is run to its end; some are refused: hostile text, and names that nothing declares. Each has the status that it must end with.
 . "$(dirname "$0")/program.sh" drust_main ./build
 work=$(mktemp -d)
 trap 'rm -rf "$work"' EXIT
@@ -79,7 +79,7 @@ PY
 }
 
 printf '%-9s %10s %10s %10s %8s\n' shape bytes seconds MB/s growth
-for row in lets:0 prints:0 depth:0 names:0 list:0 sums:0 reborrows:0 mutably:0 chain:0 towers:0 moves:0 loans:0 blocks:0 turns:0 captures:11 threads:11 open:3 stars:3 parens:3 reads:3 long:3 digits:3; do
+for row in lets:0 prints:0 depth:0 names:0 list:0 sums:0 reborrows:0 mutably:0 chain:0 towers:0 moves:0 loans:0 blocks:0 turns:0 captures:4 threads:4 open:3 stars:3 parens:3 reads:3 long:3 digits:3; do
   shape=${row%:*} status=${row#*:}
   [ "${1:-$shape}" = "$shape" ] || continue
   before=
@@ -91,7 +91,7 @@ from timed import growth, timed
 program, path, shape, wanted, before = sys.argv[1:6]
 with open(path) as source:
     text = source.read()
-best, status, _, peak = timed([program, "run"], text)
+best, status, _, peak = timed([program, "run", "--turns", "1000000000"], text)
 if status != int(wanted):
     sys.exit(f"{shape}: status {status} and not {wanted}")
 size = len(text)

@@ -1,5 +1,5 @@
 #!/usr/bin/env bash
-# How long the plain machine's steps take: sources of a megabyte at most that run for some 250,000, 500,000 and 1,000,000 steps in
+# How long steps take, on one server and on the plain machine: sources of a megabyte at most that run for some 250,000, 500,000 and 1,000,000 steps in
 # blocks 50 levels deep, with boxes made, read and dropped among them. Beside each stands the time of the same source up to the end
 # of the checker, where its last term is refused, so that the difference is the run, and the time of its replay under an order that
 # is one line. Needs the built program (./build).
@@ -17,7 +17,8 @@ def source(rounds, last):
     return "{ let mut x = 1; " + tower * rounds + last + " }"
 
 def ended(text, word, wanted):
-    seconds, status, out, peak = timed([program, word], text)
+    turns = ["--turns", "1000000000"] if word == "run" else []
+    seconds, status, out, peak = timed([program, word, *turns], text)
     if status != wanted:
         sys.exit(f"status {status} of the {word}, and not {wanted}")
     return seconds, out, peak
@@ -27,7 +28,7 @@ before = None
 for rounds in (62, 125, 250):
     text = source(rounds, "print x")
     whole, out, peak = ended(text, "run", 0)
-    steps = int(out.split()[-1])
+    steps = int(out.split("\nsteps ")[1].split()[0])
     front, _, _ = ended(source(rounds, "print y"), "run", 4)
     run = whole - front
     again, _, _ = ended(text + f"%\n0.0 {steps}\n", "replay", 0)
