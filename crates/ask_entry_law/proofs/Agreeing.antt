@@ -1,38 +1,38 @@
 -- What a cluster answers after a step that gave objects words and sent a request: the words and the wish come, and all else stays.
 use Rattle.std.proofs.Common.{◌≡◌, ℕ, zero, suc, ◌+◌, ◌≤◌, ◌==◌, ◌||◌, not, false, List, [], ◌∷◌, Option, Some, None, is_some, is_none, option_map, refl, sym, ap, ap₂, ◌∙◌, arith}
 use Rattle.std.specs.Prelude.{unwrap_or}
-use Rattle.fresh_law.specs.Below.fr_base.Lists.{is_in}
-use Rattle.fresh_law.specs.Below.fr_base.declared.name.MutexNo.{MutexNo}
-use Rattle.fresh_law.specs.Below.fr_base.declared.name.ObjNo.{ObjNo}
-use Rattle.fresh_law.specs.Below.fr_base.declared.label.Plain.{Plain}
-use Rattle.fresh_law.specs.Below.fr_base.declared.instruction.Instr.{Instr}
-use Rattle.fresh_law.specs.Below.fr_base.declared.instruction.Instr.TheVariants as instr
-use Rattle.fresh_law.specs.Below.heap_partition.declared.value.Owned.{Owned}
-use Rattle.fresh_law.specs.Below.thread_state.View.{ThreadState, is_over}
-use Rattle.fresh_law.specs.Below.server_msgs.declared.message.Message.{Message}
-use Rattle.fresh_law.specs.Below.server_msgs.declared.message.Message.TheVariants as message
-use Rattle.fresh_law.specs.Below.server_model.Servers.{Cluster}
-use Rattle.entry_law.specs.Below.coloured_heap.Heap.{Place, Copied, Wish, ForCopy, ForObject, ForContent, ForShare, same_wish}
-use Rattle.fresh_law.specs.Below.heap_law.Names.{tot, one, some, if_so}
-use Rattle.fresh_law.specs.Below.heap_law.Things.{Thing, sent, stands, message_things, things_of}
-use Rattle.fresh_law.specs.Below.heap_law.Follow.{Standing, value_at}
-use Rattle.fresh_law.specs.Below.heap_law.Sight.{sight, word, issued}
-use Rattle.fresh_law.specs.Below.heap_law.Weights.{cells}
-use Rattle.fresh_law.specs.Below.heap_law.Walking.{instr_of}
-use Rattle.fresh_law.specs.Below.heap_law.Requests.{mutex_of, is_mutex, locked_mutex}
-use Rattle.fresh_law.specs.Below.heap_law.Sharing.{gift_content}
-use Rattle.fresh_law.specs.Below.heap_law.OneHeap.{first_shown}
-use Rattle.fresh_law.specs.Below.heap_law.Words.{HasWords}
-use Rattle.fresh_law.specs.Below.heap_law.Colours.{living_of, holder_of, running_of}
-use Rattle.fresh_law.specs.Below.heap_law.Coherent.{IsSound}
-use Rattle.fresh_law.proofs.Below.still_law.Tests.{numbers}
-use Rattle.fresh_law.proofs.Below.still_law.Told.{told, ones, tot_same}
-use Rattle.entry_law.proofs.Weighed.{Seen}
-use Rattle.entry_law.proofs.Answers.{answers_of, Agrees}
-use Rattle.entry_law.proofs.Shown.{if_some, placed_in, placings, same_placed, dropped_by, as_living, living_is, served_in, wished_in, holder_by, holder_is, shown_after, first_same, none_first}
-use Rattle.entry_law.proofs.HeldOnce.{holders_once}
-use Rattle.entry_law.proofs.Live.{word_told, placed_cells, placed_seen, dropped_seen, issued_by, issued_seen, issued_told}
-use Rattle.entry_law.proofs.After.{Follows, copy_still, served_still, wishes_after, there_still, started_still, made_still, running_still, ended_by}
+use Rattle.serve_law.specs.Below.fresh_law.Below.fr_base.Lists.{is_in}
+use Rattle.serve_law.specs.Below.fresh_law.Below.fr_base.declared.name.MutexNo.{MutexNo}
+use Rattle.serve_law.specs.Below.fresh_law.Below.fr_base.declared.name.ObjNo.{ObjNo}
+use Rattle.serve_law.specs.Below.fresh_law.Below.fr_base.declared.label.Plain.{Plain}
+use Rattle.serve_law.specs.Below.fresh_law.Below.fr_base.declared.instruction.Instr.{Instr}
+use Rattle.serve_law.specs.Below.fresh_law.Below.fr_base.declared.instruction.Instr.TheVariants as instr
+use Rattle.serve_law.specs.Below.fresh_law.Below.heap_partition.declared.value.Owned.{Owned}
+use Rattle.serve_law.specs.Below.fresh_law.Below.thread_state.View.{ThreadState, is_over}
+use Rattle.serve_law.specs.Below.fresh_law.Below.server_msgs.declared.message.Message.{Message}
+use Rattle.serve_law.specs.Below.fresh_law.Below.server_msgs.declared.message.Message.TheVariants as message
+use Rattle.serve_law.specs.Below.fresh_law.Below.server_model.Servers.{Cluster}
+use Rattle.serve_law.specs.Below.entry_law.Below.coloured_heap.Heap.{Place, Copied, Wish, ForCopy, ForObject, ForContent, ForShare, same_wish}
+use Rattle.serve_law.specs.Below.fresh_law.Below.heap_law.Names.{tot, one, some, if_so}
+use Rattle.serve_law.specs.Below.fresh_law.Below.heap_law.Things.{Thing, sent, stands, message_things, things_of}
+use Rattle.serve_law.specs.Below.fresh_law.Below.heap_law.Follow.{Standing, value_at}
+use Rattle.serve_law.specs.Below.fresh_law.Below.heap_law.Sight.{sight, word, issued}
+use Rattle.serve_law.specs.Below.fresh_law.Below.heap_law.Weights.{cells}
+use Rattle.serve_law.specs.Below.fresh_law.Below.heap_law.Walking.{instr_of}
+use Rattle.serve_law.specs.Below.fresh_law.Below.heap_law.Requests.{mutex_of, is_mutex, locked_mutex}
+use Rattle.serve_law.specs.Below.fresh_law.Below.heap_law.Sharing.{gift_content}
+use Rattle.serve_law.specs.Below.fresh_law.Below.heap_law.OneHeap.{first_shown}
+use Rattle.serve_law.specs.Below.fresh_law.Below.heap_law.Words.{HasWords}
+use Rattle.serve_law.specs.Below.fresh_law.Below.heap_law.Colours.{living_of, holder_of, running_of}
+use Rattle.serve_law.specs.Below.fresh_law.Below.heap_law.Coherent.{IsSound}
+use Rattle.serve_law.proofs.Below.fresh_law.Below.still_law.Tests.{numbers}
+use Rattle.serve_law.proofs.Below.fresh_law.Below.still_law.Told.{told, ones, tot_same}
+use Rattle.serve_law.proofs.Below.entry_law.Weighed.{Seen}
+use Rattle.serve_law.proofs.Below.entry_law.Answers.{answers_of, Agrees}
+use Rattle.serve_law.proofs.Below.entry_law.Shown.{if_some, placed_in, placings, same_placed, dropped_by, as_living, living_is, served_in, wished_in, holder_by, holder_is, shown_after, first_same, none_first}
+use Rattle.serve_law.proofs.Below.entry_law.HeldOnce.{holders_once}
+use Rattle.serve_law.proofs.Below.entry_law.Live.{word_told, placed_cells, placed_seen, dropped_seen, issued_by, issued_seen, issued_told}
+use Rattle.serve_law.proofs.Below.entry_law.After.{Follows, copy_still, served_still, wishes_after, there_still, started_still, made_still, running_still, ended_by}
 use Rattle.ask_entry_law.proofs.Recoloured.{NewWords, word_after, given_words, reworded_by, recoloured, wishing}
 use Rattle.ask_entry_law.proofs.Frames.{SameFrames, gifts_unchanged}
 
@@ -174,7 +174,7 @@ module _ (k c : Cluster) (sound : IsSound k) (n : ℕ) (y z : ThreadState) (wait
 
     -- ALL ANSWERS
 
-    started : (t : ℕ) → Rattle.fresh_law.specs.Below.heap_law.OneHeap.is_given_thread (sight k) t ≡ Rattle.fresh_law.specs.Below.heap_law.OneHeap.is_given_thread (sight c) t
+    started : (t : ℕ) → Rattle.serve_law.specs.Below.fresh_law.Below.heap_law.OneHeap.is_given_thread (sight k) t ≡ Rattle.serve_law.specs.Below.fresh_law.Below.heap_law.OneHeap.is_given_thread (sight c) t
     started = started_still k c olds news sound follows (λ r w. refl)
 
     running : (t : ℕ) → running_of (sight k) t ≡ running_of (sight c) t

@@ -2,66 +2,66 @@
 use Rattle.std.proofs.Common.{◌≡◌, ◌⊎◌, inl, inr, ⊎_elim, ℕ, zero, suc, ◌==◌, Bool, true, false, nat_lt, if◌then◌else◌, ◌++◌, Option, Some, None, refl, sym, ap, ap₂, subst}
 use Rattle.std.specs.Bool.{⊤}
 use Rattle.std.specs.Prelude.{slice_get}
-use Rattle.fresh_law.specs.Below.fr_base.declared.name.ObjNo.{ObjNo}
-use Rattle.fresh_law.specs.Below.fr_base.declared.place.Lval.{Lval}
-use Rattle.fresh_law.specs.Below.fr_base.declared.instruction.Instr.{Instr}
-use Rattle.fresh_law.specs.Below.fr_base.declared.instruction.Instr.TheVariants as instr
-use Rattle.fresh_law.specs.Below.fr_base.declared.step.Fresh.TheVariants as fresh
-use Rattle.fresh_law.specs.Below.global_addr.Words.{colour_of, server_of}
-use Rattle.fresh_law.specs.Below.heap_partition.declared.value.BoxPtr.{BoxPtr}
-use Rattle.fresh_law.specs.Below.heap_partition.declared.value.Owned.TheVariants as owned
-use Rattle.fresh_law.specs.Below.mut_borrow.Refs.{cleaned_answer}
-use Rattle.fresh_law.specs.Below.mut_borrow.declared.mutable.MutRef.{MutRef}
-use Rattle.fresh_law.specs.Below.mut_borrow.declared.mutable.Cleaned.{Cleaned}
-use Rattle.fresh_law.specs.Below.mut_borrow.declared.mutable.Cleaned.TheVariants as cleaned
-use Rattle.fresh_law.specs.Below.place_walk.declared.hop.Hop.{Hop}
-use Rattle.fresh_law.specs.Below.place_walk.declared.hop.Hop.TheVariants as hop
-use Rattle.fresh_law.specs.Below.place_walk.Hops.{write_hop}
-use Rattle.fresh_law.specs.Below.thread_state.View.{ThreadState}
-use Rattle.fresh_law.specs.Below.thread_state.declared.phase.Phase.{Phase}
-use Rattle.fresh_law.specs.Below.thread_state.declared.phase.Phase.TheVariants as phase
-use Rattle.fresh_law.specs.Below.thread_state.declared.value.Value.{Value}
-use Rattle.fresh_law.specs.Below.thread_state.declared.value.Value.TheVariants as value
-use Rattle.fresh_law.specs.Below.journal.View.{EntryView}
-use Rattle.fresh_law.specs.Below.server_model.declared.event.What.TheVariants.{Step}
-use Rattle.fresh_law.specs.Below.server_model.Servers.{Rest, Server, Cluster, server_at}
-use Rattle.fresh_law.specs.Below.server_model.Work.{Hand, thread_in, without_thread, then_some}
-use Rattle.fresh_law.specs.Below.server_model.NewWords.{issue_tint, issue_renewal}
-use Rattle.fresh_law.specs.Below.server_model.Places.{Spot, in_slot, value_at, load_at, pointer_of, put_word}
-use Rattle.fresh_law.specs.Below.server_model.Prepare.{Prepared, ready, requested, nothing, ReadTo, and_then, ready_at, ask_object, request_by, box_of, cleaned_by, clean_value, read_stars, read_pointer, is_taken, lend_by, lend_value, lend_pointer}
-use Rattle.fresh_law.specs.Below.server_model.Commit.{goes_on, go_on, settle, borrow, borrow_mut, commit}
-use Rattle.fresh_law.specs.Below.server_model.Events.{enabled, begin_work, Stepped, wait_step, done_step, committed, prepared, step}
-use Rattle.fresh_law.specs.Below.server_model.Clusters.{apply}
-use Rattle.entry_law.specs.Below.coloured_heap.Heap.{Coloured}
-use Rattle.fresh_law.specs.Below.heap_law.Things.{Location, servers_things}
-use Rattle.fresh_law.specs.Below.heap_law.Follow.{locate}
-use Rattle.fresh_law.specs.Below.heap_law.Sight.{sight}
-use Rattle.fresh_law.specs.Below.heap_law.Colours.{StandsColoured}
-use Rattle.fresh_law.specs.Below.type_law.ClusterTypes.{IsCoherent}
-use Rattle.fresh_law.proofs.Below.path_law.Sole.{some_is}
+use Rattle.serve_law.specs.Below.fresh_law.Below.fr_base.declared.name.ObjNo.{ObjNo}
+use Rattle.serve_law.specs.Below.fresh_law.Below.fr_base.declared.place.Lval.{Lval}
+use Rattle.serve_law.specs.Below.fresh_law.Below.fr_base.declared.instruction.Instr.{Instr}
+use Rattle.serve_law.specs.Below.fresh_law.Below.fr_base.declared.instruction.Instr.TheVariants as instr
+use Rattle.serve_law.specs.Below.fresh_law.Below.fr_base.declared.step.Fresh.TheVariants as fresh
+use Rattle.serve_law.specs.Below.fresh_law.Below.global_addr.Words.{colour_of, server_of}
+use Rattle.serve_law.specs.Below.fresh_law.Below.heap_partition.declared.value.BoxPtr.{BoxPtr}
+use Rattle.serve_law.specs.Below.fresh_law.Below.heap_partition.declared.value.Owned.TheVariants as owned
+use Rattle.serve_law.specs.Below.fresh_law.Below.mut_borrow.Refs.{cleaned_answer}
+use Rattle.serve_law.specs.Below.fresh_law.Below.mut_borrow.declared.mutable.MutRef.{MutRef}
+use Rattle.serve_law.specs.Below.fresh_law.Below.mut_borrow.declared.mutable.Cleaned.{Cleaned}
+use Rattle.serve_law.specs.Below.fresh_law.Below.mut_borrow.declared.mutable.Cleaned.TheVariants as cleaned
+use Rattle.serve_law.specs.Below.fresh_law.Below.place_walk.declared.hop.Hop.{Hop}
+use Rattle.serve_law.specs.Below.fresh_law.Below.place_walk.declared.hop.Hop.TheVariants as hop
+use Rattle.serve_law.specs.Below.fresh_law.Below.place_walk.Hops.{write_hop}
+use Rattle.serve_law.specs.Below.fresh_law.Below.thread_state.View.{ThreadState}
+use Rattle.serve_law.specs.Below.fresh_law.Below.thread_state.declared.phase.Phase.{Phase}
+use Rattle.serve_law.specs.Below.fresh_law.Below.thread_state.declared.phase.Phase.TheVariants as phase
+use Rattle.serve_law.specs.Below.fresh_law.Below.thread_state.declared.value.Value.{Value}
+use Rattle.serve_law.specs.Below.fresh_law.Below.thread_state.declared.value.Value.TheVariants as value
+use Rattle.serve_law.specs.Below.fresh_law.Below.journal.View.{EntryView}
+use Rattle.serve_law.specs.Below.fresh_law.Below.server_model.declared.event.What.TheVariants.{Step}
+use Rattle.serve_law.specs.Below.fresh_law.Below.server_model.Servers.{Rest, Server, Cluster, server_at}
+use Rattle.serve_law.specs.Below.fresh_law.Below.server_model.Work.{Hand, thread_in, without_thread, then_some}
+use Rattle.serve_law.specs.Below.fresh_law.Below.server_model.NewWords.{issue_tint, issue_renewal}
+use Rattle.serve_law.specs.Below.fresh_law.Below.server_model.Places.{Spot, in_slot, value_at, load_at, pointer_of, put_word}
+use Rattle.serve_law.specs.Below.fresh_law.Below.server_model.Prepare.{Prepared, ready, requested, nothing, ReadTo, and_then, ready_at, ask_object, request_by, box_of, cleaned_by, clean_value, read_stars, read_pointer, is_taken, lend_by, lend_value, lend_pointer}
+use Rattle.serve_law.specs.Below.fresh_law.Below.server_model.Commit.{goes_on, go_on, settle, borrow, borrow_mut, commit}
+use Rattle.serve_law.specs.Below.fresh_law.Below.server_model.Events.{enabled, begin_work, Stepped, wait_step, done_step, committed, prepared, step}
+use Rattle.serve_law.specs.Below.fresh_law.Below.server_model.Clusters.{apply}
+use Rattle.serve_law.specs.Below.entry_law.Below.coloured_heap.Heap.{Coloured}
+use Rattle.serve_law.specs.Below.fresh_law.Below.heap_law.Things.{Location, servers_things}
+use Rattle.serve_law.specs.Below.fresh_law.Below.heap_law.Follow.{locate}
+use Rattle.serve_law.specs.Below.fresh_law.Below.heap_law.Sight.{sight}
+use Rattle.serve_law.specs.Below.fresh_law.Below.heap_law.Colours.{StandsColoured}
+use Rattle.serve_law.specs.Below.fresh_law.Below.type_law.ClusterTypes.{IsCoherent}
+use Rattle.serve_law.proofs.Below.fresh_law.Below.path_law.Sole.{some_is}
 use Rattle.borrow_law.specs.Below.read_law.Reading.{Reads, shares, lends}
-use Rattle.fresh_law.specs.Below.event_law.Laws.{Gives, FewEvents}
-use Rattle.fresh_law.specs.Below.event_law.Kinds.{instr_kind}
-use Rattle.fresh_law.proofs.Below.event_law.Proved.{IsProvedKind}
-use Rattle.fresh_law.proofs.Below.event_law.Results.{map_gives}
-use Rattle.fresh_law.proofs.Below.event_law.RulesKeep.{sums_kept, sums_spend}
-use Rattle.fresh_law.proofs.Below.event_law.Bags.{all_standing}
-use Rattle.fresh_law.proofs.Below.event_law.Events.{others_of}
-use Rattle.fresh_law.proofs.Below.event_law.Steps.{step_keeps}
-use Rattle.fresh_law.proofs.Below.result_law.Known.{Steps}
-use Rattle.fresh_law.proofs.Below.result_law.Reading.{Reading}
-use Rattle.fresh_law.proofs.Below.result_law.Starred.{bound, At, Fine, loaded}
+use Rattle.serve_law.specs.Below.fresh_law.Below.event_law.Laws.{Gives, FewEvents}
+use Rattle.serve_law.specs.Below.fresh_law.Below.event_law.Kinds.{instr_kind}
+use Rattle.serve_law.proofs.Below.fresh_law.Below.event_law.Proved.{IsProvedKind}
+use Rattle.serve_law.proofs.Below.fresh_law.Below.event_law.Results.{map_gives}
+use Rattle.serve_law.proofs.Below.fresh_law.Below.event_law.RulesKeep.{sums_kept, sums_spend}
+use Rattle.serve_law.proofs.Below.fresh_law.Below.event_law.Bags.{all_standing}
+use Rattle.serve_law.proofs.Below.fresh_law.Below.event_law.Events.{others_of}
+use Rattle.serve_law.proofs.Below.fresh_law.Below.event_law.Steps.{step_keeps}
+use Rattle.serve_law.proofs.Below.fresh_law.Below.result_law.Known.{Steps}
+use Rattle.serve_law.proofs.Below.fresh_law.Below.result_law.Reading.{Reading}
+use Rattle.serve_law.proofs.Below.fresh_law.Below.result_law.Starred.{bound, At, Fine, loaded}
 use Rattle.borrow_law.proofs.Below.prepare_law.Asking.{found_number}
 use Rattle.borrow_law.proofs.Below.prepare_law.Untaken.{not_taken}
-use Rattle.fresh_law.proofs.Below.carry_law.Hands.{first_ok}
-use Rattle.fresh_law.proofs.Below.clean_law.ReadAsks.{Known}
+use Rattle.serve_law.proofs.Below.fresh_law.Below.carry_law.Hands.{first_ok}
+use Rattle.serve_law.proofs.Below.fresh_law.Below.clean_law.ReadAsks.{Known}
 use Rattle.borrow_law.proofs.Below.ask_law.Unasked.{Unasked}
 use Rattle.borrow_law.proofs.AtHand.{unasked}
 use Rattle.borrow_law.proofs.Sources as sources
-use Rattle.fresh_law.proofs.Below.local_law.Small.{Small, Made, prepare_makes}
-use Rattle.fresh_law.proofs.Below.local_law.Goes.{puts_by, Any, AnyWord}
-use Rattle.fresh_law.proofs.Following as following
-use Rattle.entry_law.specs.Entries.{LeadsOn}
+use Rattle.serve_law.proofs.Below.fresh_law.Below.local_law.Small.{Small, Made, prepare_makes}
+use Rattle.serve_law.proofs.Below.fresh_law.Below.local_law.Goes.{puts_by, Any, AnyWord}
+use Rattle.serve_law.proofs.Below.fresh_law.Following as following
+use Rattle.serve_law.specs.Below.entry_law.Entries.{LeadsOn}
 use Rattle.ask_entry_law.specs.Asking.{SharedBorrowsThatAskLegal, MutableBorrowsThatAskLegal}
 use Rattle.ask_entry_law.proofs.Pointed.{Pointed, pointed}
 use Rattle.ask_entry_law.proofs.ReadWalk.{OnlyHops, WantedSo, loaded_at, spot_value}

@@ -1,16 +1,16 @@
 -- A legal journal goes on with the legal entry of a step that asks.
 use Rattle.std.proofs.Common.{◌≡◌, List, [], ◌∷◌, ◌++◌, None, Some, refl, ap, ◌∙◌}
-use Rattle.fresh_law.specs.Below.journal.View.{EntryView}
-use Rattle.fresh_law.specs.Below.server_model.declared.event.Event.{Event}
-use Rattle.fresh_law.specs.Below.server_model.Servers.{Cluster, server_at}
-use Rattle.fresh_law.specs.Below.server_model.Clusters.{done_at, apply}
-use Rattle.entry_law.specs.Below.coloured_heap.Heap.{start}
-use Rattle.entry_law.specs.Below.coloured_heap.Legal.{onward, journal_from, journal_after}
-use Rattle.entry_law.proofs.Below.coloured_heap.Journals.{goes_on}
-use Rattle.fresh_law.specs.Below.heap_law.LeftBy.{LeavesColoured}
-use Rattle.fresh_law.specs.Below.event_law.Laws.{Gives}
-use Rattle.fresh_law.proofs.Below.event_law.Results.{then_gives, map_gives, both_give}
-use Rattle.entry_law.specs.Entries.{LeadsOn}
+use Rattle.serve_law.specs.Below.fresh_law.Below.journal.View.{EntryView}
+use Rattle.serve_law.specs.Below.fresh_law.Below.server_model.declared.event.Event.{Event}
+use Rattle.serve_law.specs.Below.fresh_law.Below.server_model.Servers.{Cluster, server_at}
+use Rattle.serve_law.specs.Below.fresh_law.Below.server_model.Clusters.{done_at, apply}
+use Rattle.serve_law.specs.Below.entry_law.Below.coloured_heap.Heap.{start}
+use Rattle.serve_law.specs.Below.entry_law.Below.coloured_heap.Legal.{onward, journal_from, journal_after}
+use Rattle.serve_law.proofs.Below.entry_law.Below.coloured_heap.Journals.{goes_on}
+use Rattle.serve_law.specs.Below.fresh_law.Below.heap_law.LeftBy.{LeavesColoured}
+use Rattle.serve_law.specs.Below.fresh_law.Below.event_law.Laws.{Gives}
+use Rattle.serve_law.proofs.Below.fresh_law.Below.event_law.Results.{then_gives, map_gives, both_give}
+use Rattle.serve_law.specs.Below.entry_law.Entries.{LeadsOn}
 use Rattle.ask_entry_law.specs.Asking.{AskingContinues}
 
 -- an event leaves the options

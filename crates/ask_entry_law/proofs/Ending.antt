@@ -1,27 +1,27 @@
 -- From what a step comes to, to its entry in the cluster afterwards: where it does no plain step, the entry leads on.
 use Rattle.std.proofs.Common.{◌≡◌, ◌⊎◌, inl, inr, ℕ, Bool, true, false, Option, Some, None, option_map, refl, sym, subst, ◌∙◌}
 use Rattle.std.specs.Prelude.{slice_get}
-use Rattle.fresh_law.specs.Below.fr_base.declared.instruction.Instr.{Instr}
-use Rattle.fresh_law.specs.Below.thread_state.View.{ThreadState}
-use Rattle.fresh_law.specs.Below.journal.View.{EntryView}
-use Rattle.fresh_law.specs.Below.server_model.declared.event.Event.{Event}
-use Rattle.fresh_law.specs.Below.server_model.declared.event.What.TheVariants.{Step}
-use Rattle.fresh_law.specs.Below.server_model.Servers.{Server, Cluster, server_at}
-use Rattle.fresh_law.specs.Below.server_model.Work.{Hand, thread_in, then_some}
-use Rattle.fresh_law.specs.Below.server_model.Events.{enabled, begin_work, Stepped, wait_step, step, step_in, stepped, does}
-use Rattle.fresh_law.specs.Below.server_model.Clusters.{apply}
-use Rattle.entry_law.specs.Below.coloured_heap.Heap.{Coloured}
-use Rattle.fresh_law.specs.Below.heap_law.Sight.{sight}
-use Rattle.fresh_law.specs.Below.heap_law.Words.{HasWords}
-use Rattle.fresh_law.specs.Below.type_law.ClusterTypes.{IsCoherent}
-use Rattle.fresh_law.proofs.Below.path_law.Sole.{some_is}
-use Rattle.fresh_law.specs.Below.event_law.Laws.{Gives, FewEvents}
-use Rattle.fresh_law.proofs.Below.event_law.Results.{over_gives, both_give}
-use Rattle.fresh_law.proofs.Below.carry_law.Hands.{ThereBy, Ok, put, places}
-use Rattle.fresh_law.proofs.Below.copy_law.Clean.{Leaves}
-use Rattle.fresh_law.proofs.Below.clean_law.WordedCopies.{then_holds}
-use Rattle.entry_law.specs.Entries.{LeadsOn}
-use Rattle.entry_law.proofs.Applied.{Afterwards, applied_by}
+use Rattle.serve_law.specs.Below.fresh_law.Below.fr_base.declared.instruction.Instr.{Instr}
+use Rattle.serve_law.specs.Below.fresh_law.Below.thread_state.View.{ThreadState}
+use Rattle.serve_law.specs.Below.fresh_law.Below.journal.View.{EntryView}
+use Rattle.serve_law.specs.Below.fresh_law.Below.server_model.declared.event.Event.{Event}
+use Rattle.serve_law.specs.Below.fresh_law.Below.server_model.declared.event.What.TheVariants.{Step}
+use Rattle.serve_law.specs.Below.fresh_law.Below.server_model.Servers.{Server, Cluster, server_at}
+use Rattle.serve_law.specs.Below.fresh_law.Below.server_model.Work.{Hand, thread_in, then_some}
+use Rattle.serve_law.specs.Below.fresh_law.Below.server_model.Events.{enabled, begin_work, Stepped, wait_step, step, step_in, stepped, does}
+use Rattle.serve_law.specs.Below.fresh_law.Below.server_model.Clusters.{apply}
+use Rattle.serve_law.specs.Below.entry_law.Below.coloured_heap.Heap.{Coloured}
+use Rattle.serve_law.specs.Below.fresh_law.Below.heap_law.Sight.{sight}
+use Rattle.serve_law.specs.Below.fresh_law.Below.heap_law.Words.{HasWords}
+use Rattle.serve_law.specs.Below.fresh_law.Below.type_law.ClusterTypes.{IsCoherent}
+use Rattle.serve_law.proofs.Below.fresh_law.Below.path_law.Sole.{some_is}
+use Rattle.serve_law.specs.Below.fresh_law.Below.event_law.Laws.{Gives, FewEvents}
+use Rattle.serve_law.proofs.Below.fresh_law.Below.event_law.Results.{over_gives, both_give}
+use Rattle.serve_law.proofs.Below.fresh_law.Below.carry_law.Hands.{ThereBy, Ok, put, places}
+use Rattle.serve_law.proofs.Below.fresh_law.Below.copy_law.Clean.{Leaves}
+use Rattle.serve_law.proofs.Below.fresh_law.Below.clean_law.WordedCopies.{then_holds}
+use Rattle.serve_law.specs.Below.entry_law.Entries.{LeadsOn}
+use Rattle.serve_law.proofs.Below.entry_law.Applied.{Afterwards, applied_by}
 use Rattle.ask_entry_law.proofs.Recoloured.{NewWords}
 use Rattle.ask_entry_law.proofs.Agreeing.{Rewords}
 

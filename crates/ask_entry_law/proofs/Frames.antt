@@ -1,31 +1,31 @@
 -- A thread of which only words, marks and pins in slots change: what the coloured heap sees of it, and that gifts are the contents that they were.
 use Rattle.std.proofs.Common.{◌≡◌, ℕ, ◌+◌, ◌==◌, Bool, false, List, [], ◌∷◌, ◌++◌, Option, Some, None, refl, ap, ap₂, ◌∙◌, arith}
 use Rattle.std.specs.Prelude.{map}
-use Rattle.fresh_law.specs.Below.fr_base.declared.name.MutexNo.{MutexNo}
-use Rattle.fresh_law.specs.Below.fr_base.declared.name.ObjNo.{ObjNo}
-use Rattle.fresh_law.specs.Below.fr_base.declared.label.Plain.{Plain}
-use Rattle.fresh_law.specs.Below.thread_state.View.{ThreadState}
-use Rattle.fresh_law.specs.Below.thread_state.declared.value.Value.{Value}
-use Rattle.fresh_law.specs.Below.thread_state.declared.value.Value.TheVariants as value
-use Rattle.fresh_law.specs.Below.journal.declared.act.Act.{Act}
-use Rattle.fresh_law.specs.Below.server_model.Servers.{Cluster}
-use Rattle.fresh_law.specs.Below.server_model.Work.{Work, Site, thread_in, set_thread}
-use Rattle.entry_law.specs.Below.coloured_heap.Heap.{Place}
-use Rattle.fresh_law.specs.Below.heap_law.Names.{tot, one, if_so}
-use Rattle.fresh_law.specs.Below.heap_law.Things.{in_slot, at_slot, Thing, locks, stands, things_at, slot_things}
-use Rattle.fresh_law.specs.Below.heap_law.Follow.{Standing}
-use Rattle.fresh_law.specs.Below.heap_law.Sight.{sight}
-use Rattle.fresh_law.specs.Below.heap_law.Weights.{is_thread}
-use Rattle.fresh_law.specs.Below.heap_law.Sharing.{gift_content}
-use Rattle.fresh_law.specs.Below.heap_law.Coherent.{IsSound}
-use Rattle.fresh_law.proofs.Below.event_law.Trades.{tot-append}
-use Rattle.fresh_law.proofs.Below.event_law.Bags.{all_standing, rest_things, thread_number, tot-without, tot-set}
-use Rattle.entry_law.specs.Below.still_law.Shows.{Frame, marking, ShownThread, frame_of}
-use Rattle.fresh_law.proofs.Below.still_law.Told.{told, at_thread}
-use Rattle.entry_law.proofs.Weighed.{Seen, WorkTurns, SiteTurns, marks_of, thread_seen, pins_unseen}
-use Rattle.entry_law.proofs.Shown.{placed_in}
-use Rattle.entry_law.proofs.Live.{placed_seen}
-use Rattle.entry_law.proofs.After.{Follows}
+use Rattle.serve_law.specs.Below.fresh_law.Below.fr_base.declared.name.MutexNo.{MutexNo}
+use Rattle.serve_law.specs.Below.fresh_law.Below.fr_base.declared.name.ObjNo.{ObjNo}
+use Rattle.serve_law.specs.Below.fresh_law.Below.fr_base.declared.label.Plain.{Plain}
+use Rattle.serve_law.specs.Below.fresh_law.Below.thread_state.View.{ThreadState}
+use Rattle.serve_law.specs.Below.fresh_law.Below.thread_state.declared.value.Value.{Value}
+use Rattle.serve_law.specs.Below.fresh_law.Below.thread_state.declared.value.Value.TheVariants as value
+use Rattle.serve_law.specs.Below.fresh_law.Below.journal.declared.act.Act.{Act}
+use Rattle.serve_law.specs.Below.fresh_law.Below.server_model.Servers.{Cluster}
+use Rattle.serve_law.specs.Below.fresh_law.Below.server_model.Work.{Work, Site, thread_in, set_thread}
+use Rattle.serve_law.specs.Below.entry_law.Below.coloured_heap.Heap.{Place}
+use Rattle.serve_law.specs.Below.fresh_law.Below.heap_law.Names.{tot, one, if_so}
+use Rattle.serve_law.specs.Below.fresh_law.Below.heap_law.Things.{in_slot, at_slot, Thing, locks, stands, things_at, slot_things}
+use Rattle.serve_law.specs.Below.fresh_law.Below.heap_law.Follow.{Standing}
+use Rattle.serve_law.specs.Below.fresh_law.Below.heap_law.Sight.{sight}
+use Rattle.serve_law.specs.Below.fresh_law.Below.heap_law.Weights.{is_thread}
+use Rattle.serve_law.specs.Below.fresh_law.Below.heap_law.Sharing.{gift_content}
+use Rattle.serve_law.specs.Below.fresh_law.Below.heap_law.Coherent.{IsSound}
+use Rattle.serve_law.proofs.Below.fresh_law.Below.event_law.Trades.{tot-append}
+use Rattle.serve_law.proofs.Below.fresh_law.Below.event_law.Bags.{all_standing, rest_things, thread_number, tot-without, tot-set}
+use Rattle.serve_law.specs.Below.entry_law.Below.still_law.Shows.{Frame, marking, ShownThread, frame_of}
+use Rattle.serve_law.proofs.Below.fresh_law.Below.still_law.Told.{told, at_thread}
+use Rattle.serve_law.proofs.Below.entry_law.Weighed.{Seen, WorkTurns, SiteTurns, marks_of, thread_seen, pins_unseen}
+use Rattle.serve_law.proofs.Below.entry_law.Shown.{placed_in}
+use Rattle.serve_law.proofs.Below.entry_law.Live.{placed_seen}
+use Rattle.serve_law.proofs.Below.entry_law.After.{Follows}
 use Rattle.step_entry_law.proofs.Kept.{masked_of, cells_placed, numbered_seen, slots_seen, gifts_placed}
 
 -- values that show the same but for words, marks and pins

@@ -1,18 +1,18 @@
 -- A mutex whose value stands where a place leads was made.
 use Rattle.std.proofs.Common.{◌≡◌, inl, ℕ, ◌+◌, ◌≤◌, ◌==◌, ◌&&◌, not, Bool, true, false, Option, Some, None, refl, ap, arith}
-use Rattle.fresh_law.specs.Below.fr_base.declared.name.MutexNo.{MutexNo}
-use Rattle.fresh_law.specs.Below.heap_partition.declared.value.Cell.{Cell}
-use Rattle.fresh_law.specs.Below.heap_partition.declared.value.Owned.TheVariants as owned
-use Rattle.fresh_law.specs.Below.thread_state.declared.value.Value.TheVariants as value
-use Rattle.fresh_law.specs.Below.server_model.Servers.{Cluster}
-use Rattle.fresh_law.specs.Below.heap_law.Names.{tot, one, other, some}
-use Rattle.fresh_law.specs.Below.heap_law.Things.{in_slot, in_temp, Location, at_slot, at_temp, in_cell, Thing, holds, lies, flies, things_of}
-use Rattle.fresh_law.specs.Below.heap_law.Follow.{value_in, value_of, cell_of}
-use Rattle.fresh_law.specs.Below.heap_law.Sight.{sight}
-use Rattle.fresh_law.specs.Below.heap_law.Naming.{threads, named_mutexes, made_at, zeroth_thread, zeroth_mutex, uncounted_thread, uncounted_mutex}
-use Rattle.fresh_law.specs.Below.heap_law.OneHeap.{is_given_mutex}
-use Rattle.fresh_law.specs.Below.heap_law.Coherent.{IsSound}
-use Rattle.fresh_law.proofs.Below.word_law.Standing.{slot_among, temp_among, CellOf, lying, flying, cell_among}
+use Rattle.serve_law.specs.Below.fresh_law.Below.fr_base.declared.name.MutexNo.{MutexNo}
+use Rattle.serve_law.specs.Below.fresh_law.Below.heap_partition.declared.value.Cell.{Cell}
+use Rattle.serve_law.specs.Below.fresh_law.Below.heap_partition.declared.value.Owned.TheVariants as owned
+use Rattle.serve_law.specs.Below.fresh_law.Below.thread_state.declared.value.Value.TheVariants as value
+use Rattle.serve_law.specs.Below.fresh_law.Below.server_model.Servers.{Cluster}
+use Rattle.serve_law.specs.Below.fresh_law.Below.heap_law.Names.{tot, one, other, some}
+use Rattle.serve_law.specs.Below.fresh_law.Below.heap_law.Things.{in_slot, in_temp, Location, at_slot, at_temp, in_cell, Thing, holds, lies, flies, things_of}
+use Rattle.serve_law.specs.Below.fresh_law.Below.heap_law.Follow.{value_in, value_of, cell_of}
+use Rattle.serve_law.specs.Below.fresh_law.Below.heap_law.Sight.{sight}
+use Rattle.serve_law.specs.Below.fresh_law.Below.heap_law.Naming.{threads, named_mutexes, made_at, zeroth_thread, zeroth_mutex, uncounted_thread, uncounted_mutex}
+use Rattle.serve_law.specs.Below.fresh_law.Below.heap_law.OneHeap.{is_given_mutex}
+use Rattle.serve_law.specs.Below.fresh_law.Below.heap_law.Coherent.{IsSound}
+use Rattle.serve_law.proofs.Below.fresh_law.Below.word_law.Standing.{slot_among, temp_among, CellOf, lying, flying, cell_among}
 use Rattle.ask_entry_law.proofs.NextColour.{weighs}
 
 module _ (k : Cluster) (m : MutexNo) where

@@ -2,23 +2,23 @@
 use Rattle.std.proofs.Common.{◌≡◌, ℕ, zero, suc, ◌+◌, List, [], ◌∷◌, Option, Some, refl, sym, ap, ◌∙◌, arith}
 use Rattle.std.specs.Bool.{⊤}
 use Rattle.std.specs.Prelude.{slice_get, slice_set, map}
-use Rattle.fresh_law.specs.Below.owner_box.Partition.{stored}
-use Rattle.fresh_law.specs.Below.migration.Packing.{unpinned}
-use Rattle.fresh_law.specs.Below.read_cache.Cache.{users, pin}
-use Rattle.fresh_law.specs.Below.thread_state.View.{ThreadState}
-use Rattle.fresh_law.specs.Below.thread_state.declared.value.Value.{Value}
-use Rattle.fresh_law.specs.Below.thread_state.declared.value.Value.TheVariants as value
-use Rattle.fresh_law.specs.Below.server_model.Servers.{Rest}
-use Rattle.fresh_law.specs.Below.server_model.Work.{Hand}
-use Rattle.fresh_law.specs.Below.server_model.Prepare.{Access, prepare}
-use Rattle.fresh_law.specs.Below.heap_law.Names.{tot}
-use Rattle.fresh_law.specs.Below.heap_law.Things.{Thing, things_at, copy_things}
-use Rattle.fresh_law.proofs.Below.event_law.Trades.{trade_whole}
-use Rattle.fresh_law.proofs.Below.event_law.Bags.{rest_things, of_cache}
-use Rattle.fresh_law.proofs.Below.local_law.Small.{Of, Small, Passes, Made, prepare_makes}
-use Rattle.fresh_law.proofs.Below.local_law.Goes.{puts_by, Any, AnyWord}
-use Rattle.entry_law.specs.Below.still_law.Shows.{frame_of}
-use Rattle.entry_law.proofs.Weighed.{Seen}
+use Rattle.serve_law.specs.Below.fresh_law.Below.owner_box.Partition.{stored}
+use Rattle.serve_law.specs.Below.fresh_law.Below.migration.Packing.{unpinned}
+use Rattle.serve_law.specs.Below.fresh_law.Below.read_cache.Cache.{users, pin}
+use Rattle.serve_law.specs.Below.fresh_law.Below.thread_state.View.{ThreadState}
+use Rattle.serve_law.specs.Below.fresh_law.Below.thread_state.declared.value.Value.{Value}
+use Rattle.serve_law.specs.Below.fresh_law.Below.thread_state.declared.value.Value.TheVariants as value
+use Rattle.serve_law.specs.Below.fresh_law.Below.server_model.Servers.{Rest}
+use Rattle.serve_law.specs.Below.fresh_law.Below.server_model.Work.{Hand}
+use Rattle.serve_law.specs.Below.fresh_law.Below.server_model.Prepare.{Access, prepare}
+use Rattle.serve_law.specs.Below.fresh_law.Below.heap_law.Names.{tot}
+use Rattle.serve_law.specs.Below.fresh_law.Below.heap_law.Things.{Thing, things_at, copy_things}
+use Rattle.serve_law.proofs.Below.fresh_law.Below.event_law.Trades.{trade_whole}
+use Rattle.serve_law.proofs.Below.fresh_law.Below.event_law.Bags.{rest_things, of_cache}
+use Rattle.serve_law.proofs.Below.fresh_law.Below.local_law.Small.{Of, Small, Passes, Made, prepare_makes}
+use Rattle.serve_law.proofs.Below.fresh_law.Below.local_law.Goes.{puts_by, Any, AnyWord}
+use Rattle.serve_law.specs.Below.entry_law.Below.still_law.Shows.{frame_of}
+use Rattle.serve_law.proofs.Below.entry_law.Weighed.{Seen}
 use Rattle.step_entry_law.proofs.Settled.{users_unseen}
 use Rattle.ask_entry_law.proofs.Frames.{SameFrames, heads}
 
@@ -46,7 +46,7 @@ module _ (r0 : Rest) (y : ThreadState) where
       points = λ v p a e. tt;
     };
     tints = λ p h a g e. tt;
-    renews = λ p h a g e. (tt, record { rest = ap (λ (z : Rest). record z { partition = Rattle.fresh_law.specs.Below.owner_box.Partition.renewed h.work.rest.partition p.word }) g.rest; copies = g.copies; pc = g.pc });
+    renews = λ p h a g e. (tt, record { rest = ap (λ (z : Rest). record z { partition = Rattle.serve_law.specs.Below.fresh_law.Below.owner_box.Partition.renewed h.work.rest.partition p.word }) g.rest; copies = g.copies; pc = g.pc });
     pinned = λ r a. tt;
     pins = λ w h e g. pinned w h.work.rest h.thread g;
     uses = λ w h e g. (let q = pinned w h.work.rest h.thread g in record { rest = q.rest; copies = q.copies; pc = q.pc });

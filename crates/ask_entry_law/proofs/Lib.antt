@@ -1,3 +1,4 @@
+pub mod Below
 pub mod Recoloured
 pub mod NextColour
 pub mod Uncached

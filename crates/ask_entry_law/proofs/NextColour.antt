@@ -2,17 +2,17 @@
 use Rattle.std.proofs.Common.{◌≡◌, ◌⊎◌, inl, inr, ⊎_elim, ℕ, zero, suc, ◌+◌, ◌≤◌, ◌==◌, ◌&&◌, ◌||◌, Bool, true, false, nat_le, List, [], ◌∷◌, Some, refl, sym, ap, ap₂, subst, ◌∙◌, arith}
 use Rattle.std.proofs.lemmas.Bool.{eq-eqb}
 use Rattle.std.proofs.lemmas.Bool.Decides.{nat_tests}
-use Rattle.fresh_law.specs.Below.fr_base.declared.name.ObjNo.{ObjNo}
-use Rattle.fresh_law.specs.Below.global_addr.Words.{colour_of, server_of, address_of, next_word}
-use Rattle.fresh_law.specs.Below.heap_partition.declared.value.Cell.{Cell}
-use Rattle.fresh_law.specs.Below.heap_law.Names.{Among, tot, one, some}
-use Rattle.fresh_law.specs.Below.heap_law.Things.{Thing, lies, vacant, retired}
-use Rattle.fresh_law.specs.Below.heap_law.Sight.{is_spot, colour_up_to}
-use Rattle.fresh_law.specs.Below.heap_law.Words.{LeadsTo}
-use Rattle.fresh_law.proofs.Below.heap_law.Names.{and_left, and_right, same_number}
+use Rattle.serve_law.specs.Below.fresh_law.Below.fr_base.declared.name.ObjNo.{ObjNo}
+use Rattle.serve_law.specs.Below.fresh_law.Below.global_addr.Words.{colour_of, server_of, address_of, next_word}
+use Rattle.serve_law.specs.Below.fresh_law.Below.heap_partition.declared.value.Cell.{Cell}
+use Rattle.serve_law.specs.Below.fresh_law.Below.heap_law.Names.{Among, tot, one, some}
+use Rattle.serve_law.specs.Below.fresh_law.Below.heap_law.Things.{Thing, lies, vacant, retired}
+use Rattle.serve_law.specs.Below.fresh_law.Below.heap_law.Sight.{is_spot, colour_up_to}
+use Rattle.serve_law.specs.Below.fresh_law.Below.heap_law.Words.{LeadsTo}
+use Rattle.serve_law.proofs.Below.fresh_law.Below.heap_law.Names.{and_left, and_right, same_number}
 use Rattle.borrow_law.proofs.Below.read_law.Flights.{found, truly}
-use Rattle.fresh_law.proofs.Below.word_law.Tints.{next_leads}
-use Rattle.entry_law.proofs.Live.{issued_by}
+use Rattle.serve_law.proofs.Below.fresh_law.Below.word_law.Tints.{next_leads}
+use Rattle.serve_law.proofs.Below.entry_law.Live.{issued_by}
 
 -- words with the same parts are the same
 pub same_word : (v w : ℕ) → server_of v ≡ server_of w → address_of v ≡ address_of w → colour_of v ≡ colour_of w → v ≡ w

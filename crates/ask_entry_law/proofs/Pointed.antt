@@ -1,36 +1,36 @@
 -- What the coloured heap has of the object of a pointer that a thread follows.
 use Rattle.std.proofs.Common.{◌≡◌, ◌⊎◌, inl, inr, ℕ, ◌≤◌, ◌==◌, ◌||◌, Bool, true, false, if◌then◌else◌, [], ◌∷◌, Some, option_map, refl, sym, ap, ap₂, ◌∙◌, arith}
-use Rattle.fresh_law.specs.Below.fr_base.Lists.{is_in}
-use Rattle.fresh_law.specs.Below.fr_base.Names.{same_object}
-use Rattle.fresh_law.specs.Below.fr_base.declared.name.ObjNo.{ObjNo}
-use Rattle.fresh_law.specs.Below.global_addr.Words.{server_of, next_word}
-use Rattle.fresh_law.specs.Below.heap_partition.Plain.{plain_of}
-use Rattle.fresh_law.specs.Below.heap_partition.declared.value.BoxPtr.{BoxPtr}
-use Rattle.fresh_law.specs.Below.heap_partition.declared.value.Cell.{Cell}
-use Rattle.fresh_law.specs.Below.thread_state.declared.value.Value.{Value}
-use Rattle.fresh_law.specs.Below.server_model.Servers.{Cluster}
-use Rattle.fresh_law.specs.Below.server_model.Places.{pointer_of}
-use Rattle.entry_law.specs.Below.coloured_heap.Heap.{Lies, Living, lies_at}
-use Rattle.entry_law.proofs.Below.coloured_heap.ShownNames.{number_itself}
-use Rattle.fresh_law.specs.Below.heap_law.Names.{tot, one, some}
-use Rattle.fresh_law.specs.Below.heap_law.Things.{Location, Thing, lies, things_of}
-use Rattle.fresh_law.specs.Below.heap_law.Follow.{value_in, leads}
-use Rattle.fresh_law.specs.Below.heap_law.Sight.{sight, issued, word}
-use Rattle.fresh_law.specs.Below.heap_law.Weights.{cells}
-use Rattle.fresh_law.specs.Below.heap_law.Words.{IsStale, HasWords, LeadsTo}
-use Rattle.fresh_law.specs.Below.heap_law.OneHeap.{first_shown}
-use Rattle.fresh_law.specs.Below.heap_law.Colours.{living_of}
-use Rattle.fresh_law.proofs.Below.heap_law.Words.{named, itself}
-use Rattle.fresh_law.specs.Below.type_law.ClusterTypes.{IsCoherent}
-use Rattle.fresh_law.specs.Below.word_law.Reworded.{LiesThere}
-use Rattle.fresh_law.proofs.Below.word_law.NewWord.{is_new}
+use Rattle.serve_law.specs.Below.fresh_law.Below.fr_base.Lists.{is_in}
+use Rattle.serve_law.specs.Below.fresh_law.Below.fr_base.Names.{same_object}
+use Rattle.serve_law.specs.Below.fresh_law.Below.fr_base.declared.name.ObjNo.{ObjNo}
+use Rattle.serve_law.specs.Below.fresh_law.Below.global_addr.Words.{server_of, next_word}
+use Rattle.serve_law.specs.Below.fresh_law.Below.heap_partition.Plain.{plain_of}
+use Rattle.serve_law.specs.Below.fresh_law.Below.heap_partition.declared.value.BoxPtr.{BoxPtr}
+use Rattle.serve_law.specs.Below.fresh_law.Below.heap_partition.declared.value.Cell.{Cell}
+use Rattle.serve_law.specs.Below.fresh_law.Below.thread_state.declared.value.Value.{Value}
+use Rattle.serve_law.specs.Below.fresh_law.Below.server_model.Servers.{Cluster}
+use Rattle.serve_law.specs.Below.fresh_law.Below.server_model.Places.{pointer_of}
+use Rattle.serve_law.specs.Below.entry_law.Below.coloured_heap.Heap.{Lies, Living, lies_at}
+use Rattle.serve_law.proofs.Below.entry_law.Below.coloured_heap.ShownNames.{number_itself}
+use Rattle.serve_law.specs.Below.fresh_law.Below.heap_law.Names.{tot, one, some}
+use Rattle.serve_law.specs.Below.fresh_law.Below.heap_law.Things.{Location, Thing, lies, things_of}
+use Rattle.serve_law.specs.Below.fresh_law.Below.heap_law.Follow.{value_in, leads}
+use Rattle.serve_law.specs.Below.fresh_law.Below.heap_law.Sight.{sight, issued, word}
+use Rattle.serve_law.specs.Below.fresh_law.Below.heap_law.Weights.{cells}
+use Rattle.serve_law.specs.Below.fresh_law.Below.heap_law.Words.{IsStale, HasWords, LeadsTo}
+use Rattle.serve_law.specs.Below.fresh_law.Below.heap_law.OneHeap.{first_shown}
+use Rattle.serve_law.specs.Below.fresh_law.Below.heap_law.Colours.{living_of}
+use Rattle.serve_law.proofs.Below.fresh_law.Below.heap_law.Words.{named, itself}
+use Rattle.serve_law.specs.Below.fresh_law.Below.type_law.ClusterTypes.{IsCoherent}
+use Rattle.serve_law.specs.Below.fresh_law.Below.word_law.Reworded.{LiesThere}
+use Rattle.serve_law.proofs.Below.fresh_law.Below.word_law.NewWord.{is_new}
 use Rattle.borrow_law.specs.Below.read_law.Reading.{LiesUnder}
 use Rattle.borrow_law.proofs.Below.read_law.Homes.{pointer_leads, fresh_word}
 use Rattle.borrow_law.proofs.Below.read_law.Lookups.{one_state}
-use Rattle.fresh_law.proofs.Below.still_law.Told.{told}
-use Rattle.entry_law.proofs.Answers.{answers_of}
-use Rattle.entry_law.proofs.Shown.{if_some, placed_in, same_placed, placings, dropped_by, as_living, living_is}
-use Rattle.entry_law.proofs.Live.{word_told, placed_cells, issued_by, issued_told}
+use Rattle.serve_law.proofs.Below.fresh_law.Below.still_law.Told.{told}
+use Rattle.serve_law.proofs.Below.entry_law.Answers.{answers_of}
+use Rattle.serve_law.proofs.Below.entry_law.Shown.{if_some, placed_in, same_placed, placings, dropped_by, as_living, living_is}
+use Rattle.serve_law.proofs.Below.entry_law.Live.{word_told, placed_cells, issued_by, issued_told}
 use Rattle.serve_law.proofs.Kept.{led_kept}
 use Rattle.serve_law.proofs.Lying.{found_there}
 use Rattle.ask_entry_law.proofs.Recoloured.{word_after, given_words, reworded_by, recoloured, Named}

@@ -1,55 +1,55 @@
 -- A step at a copy, a dup or a lock that ends in a request: its entry is legal.
 use Rattle.std.proofs.Common.{◌≡◌, inl, inr, ℕ, true, false, [], ◌∷◌, Option, Some, None, option_map, refl, sym, ap, subst, ◌∙◌}
 use Rattle.std.specs.Prelude.{slice_get}
-use Rattle.fresh_law.specs.Below.fr_base.declared.name.MutexNo.{MutexNo}
-use Rattle.fresh_law.specs.Below.fr_base.declared.place.Lval.{Lval}
-use Rattle.fresh_law.specs.Below.fr_base.declared.instruction.Instr.{Instr}
-use Rattle.fresh_law.specs.Below.fr_base.declared.step.Fresh.TheVariants as fresh
-use Rattle.fresh_law.specs.Below.heap_partition.declared.value.Owned.{Owned}
-use Rattle.fresh_law.specs.Below.heap_partition.declared.value.Owned.TheVariants as owned
-use Rattle.fresh_law.specs.Below.thread_state.View.{ThreadState}
-use Rattle.fresh_law.specs.Below.thread_state.declared.phase.Phase.TheVariants as phase
-use Rattle.fresh_law.specs.Below.thread_state.declared.value.Value.{Value}
-use Rattle.fresh_law.specs.Below.thread_state.declared.value.Value.TheVariants as value
-use Rattle.fresh_law.specs.Below.server_msgs.declared.message.Message.{Message}
-use Rattle.fresh_law.specs.Below.server_msgs.declared.message.Message.TheVariants as message
-use Rattle.fresh_law.specs.Below.journal.View.{EntryView}
-use Rattle.fresh_law.specs.Below.journal.declared.act.Act.TheVariants as act
-use Rattle.fresh_law.specs.Below.server_model.declared.event.What.TheVariants.{Step}
-use Rattle.fresh_law.specs.Below.server_model.Servers.{Server, Cluster, server_at}
-use Rattle.fresh_law.specs.Below.server_model.Work.{Hand, thread_in, mutex_of, push_temp, then_some}
-use Rattle.fresh_law.specs.Below.server_model.Places.{Spot, in_slot, value_at, load_at}
-use Rattle.fresh_law.specs.Below.server_model.Prepare.{Prepared, ready, requested, nothing, read_stars}
-use Rattle.fresh_law.specs.Below.server_model.Commit.{waiting, goes_on, go_on, settle, read, take_gift, mutex_at, ask_dup, dup, ask_lock, push_content, lock, commit}
-use Rattle.fresh_law.specs.Below.server_model.Events.{enabled, begin_work, Stepped, wait_step, done_step, committed, prepared, step}
-use Rattle.fresh_law.specs.Below.server_model.Clusters.{apply}
-use Rattle.entry_law.specs.Below.coloured_heap.Heap.{Coloured, ForContent, ForShare}
-use Rattle.fresh_law.specs.Below.heap_law.Things.{Location}
-use Rattle.fresh_law.specs.Below.heap_law.Follow.{value_in}
-use Rattle.fresh_law.specs.Below.heap_law.Sight.{sight}
-use Rattle.fresh_law.specs.Below.heap_law.Words.{HasWords}
-use Rattle.fresh_law.specs.Below.heap_law.OneHeap.{is_given_mutex}
-use Rattle.fresh_law.specs.Below.heap_law.Colours.{StandsColoured}
-use Rattle.fresh_law.specs.Below.type_law.ClusterTypes.{IsCoherent}
-use Rattle.fresh_law.proofs.Below.path_law.Sole.{some_is}
+use Rattle.serve_law.specs.Below.fresh_law.Below.fr_base.declared.name.MutexNo.{MutexNo}
+use Rattle.serve_law.specs.Below.fresh_law.Below.fr_base.declared.place.Lval.{Lval}
+use Rattle.serve_law.specs.Below.fresh_law.Below.fr_base.declared.instruction.Instr.{Instr}
+use Rattle.serve_law.specs.Below.fresh_law.Below.fr_base.declared.step.Fresh.TheVariants as fresh
+use Rattle.serve_law.specs.Below.fresh_law.Below.heap_partition.declared.value.Owned.{Owned}
+use Rattle.serve_law.specs.Below.fresh_law.Below.heap_partition.declared.value.Owned.TheVariants as owned
+use Rattle.serve_law.specs.Below.fresh_law.Below.thread_state.View.{ThreadState}
+use Rattle.serve_law.specs.Below.fresh_law.Below.thread_state.declared.phase.Phase.TheVariants as phase
+use Rattle.serve_law.specs.Below.fresh_law.Below.thread_state.declared.value.Value.{Value}
+use Rattle.serve_law.specs.Below.fresh_law.Below.thread_state.declared.value.Value.TheVariants as value
+use Rattle.serve_law.specs.Below.fresh_law.Below.server_msgs.declared.message.Message.{Message}
+use Rattle.serve_law.specs.Below.fresh_law.Below.server_msgs.declared.message.Message.TheVariants as message
+use Rattle.serve_law.specs.Below.fresh_law.Below.journal.View.{EntryView}
+use Rattle.serve_law.specs.Below.fresh_law.Below.journal.declared.act.Act.TheVariants as act
+use Rattle.serve_law.specs.Below.fresh_law.Below.server_model.declared.event.What.TheVariants.{Step}
+use Rattle.serve_law.specs.Below.fresh_law.Below.server_model.Servers.{Server, Cluster, server_at}
+use Rattle.serve_law.specs.Below.fresh_law.Below.server_model.Work.{Hand, thread_in, mutex_of, push_temp, then_some}
+use Rattle.serve_law.specs.Below.fresh_law.Below.server_model.Places.{Spot, in_slot, value_at, load_at}
+use Rattle.serve_law.specs.Below.fresh_law.Below.server_model.Prepare.{Prepared, ready, requested, nothing, read_stars}
+use Rattle.serve_law.specs.Below.fresh_law.Below.server_model.Commit.{waiting, goes_on, go_on, settle, read, take_gift, mutex_at, ask_dup, dup, ask_lock, push_content, lock, commit}
+use Rattle.serve_law.specs.Below.fresh_law.Below.server_model.Events.{enabled, begin_work, Stepped, wait_step, done_step, committed, prepared, step}
+use Rattle.serve_law.specs.Below.fresh_law.Below.server_model.Clusters.{apply}
+use Rattle.serve_law.specs.Below.entry_law.Below.coloured_heap.Heap.{Coloured, ForContent, ForShare}
+use Rattle.serve_law.specs.Below.fresh_law.Below.heap_law.Things.{Location}
+use Rattle.serve_law.specs.Below.fresh_law.Below.heap_law.Follow.{value_in}
+use Rattle.serve_law.specs.Below.fresh_law.Below.heap_law.Sight.{sight}
+use Rattle.serve_law.specs.Below.fresh_law.Below.heap_law.Words.{HasWords}
+use Rattle.serve_law.specs.Below.fresh_law.Below.heap_law.OneHeap.{is_given_mutex}
+use Rattle.serve_law.specs.Below.fresh_law.Below.heap_law.Colours.{StandsColoured}
+use Rattle.serve_law.specs.Below.fresh_law.Below.type_law.ClusterTypes.{IsCoherent}
+use Rattle.serve_law.proofs.Below.fresh_law.Below.path_law.Sole.{some_is}
 use Rattle.borrow_law.specs.Below.read_law.Reading.{Reads}
-use Rattle.fresh_law.specs.Below.event_law.Laws.{Gives, FewEvents}
-use Rattle.fresh_law.proofs.Below.event_law.Results.{map_gives}
-use Rattle.fresh_law.proofs.Below.event_law.Bags.{sent_number}
-use Rattle.fresh_law.proofs.Below.result_law.Known.{Steps}
-use Rattle.fresh_law.proofs.Below.result_law.Reading.{Alike, equal, both_shared, Reading}
-use Rattle.fresh_law.proofs.Below.result_law.Starred.{bound, At, Fine, seen}
-use Rattle.fresh_law.proofs.Below.stay_law.Sites.{HandAlike}
-use Rattle.fresh_law.proofs.Below.stay_law.Steps.{hand_chain}
+use Rattle.serve_law.specs.Below.fresh_law.Below.event_law.Laws.{Gives, FewEvents}
+use Rattle.serve_law.proofs.Below.fresh_law.Below.event_law.Results.{map_gives}
+use Rattle.serve_law.proofs.Below.fresh_law.Below.event_law.Bags.{sent_number}
+use Rattle.serve_law.proofs.Below.fresh_law.Below.result_law.Known.{Steps}
+use Rattle.serve_law.proofs.Below.fresh_law.Below.result_law.Reading.{Alike, equal, both_shared, Reading}
+use Rattle.serve_law.proofs.Below.fresh_law.Below.result_law.Starred.{bound, At, Fine, seen}
+use Rattle.serve_law.proofs.Below.fresh_law.Below.stay_law.Sites.{HandAlike}
+use Rattle.serve_law.proofs.Below.fresh_law.Below.stay_law.Steps.{hand_chain}
 use Rattle.borrow_law.proofs.Below.prepare_law.Asking.{found_number}
 use Rattle.borrow_law.proofs.Below.prepare_law.Untaken.{not_taken}
-use Rattle.fresh_law.specs.Below.clean_law.Clean.{ReadsAll, a_copy, a_dup, a_lock}
-use Rattle.fresh_law.proofs.Below.clean_law.ReadAsks.{Known}
-use Rattle.fresh_law.proofs.Below.clean_law.ReadCommits.{asks_so}
-use Rattle.fresh_law.proofs.Below.clean_law.ReadSteps.{reads_of, access_is, ok_steps}
-use Rattle.fresh_law.proofs.Following as following
-use Rattle.entry_law.proofs.Answers.{answers_of, fits}
-use Rattle.entry_law.proofs.Runs.{silent, runs_one}
+use Rattle.serve_law.specs.Below.fresh_law.Below.clean_law.Clean.{ReadsAll, a_copy, a_dup, a_lock}
+use Rattle.serve_law.proofs.Below.fresh_law.Below.clean_law.ReadAsks.{Known}
+use Rattle.serve_law.proofs.Below.fresh_law.Below.clean_law.ReadCommits.{asks_so}
+use Rattle.serve_law.proofs.Below.fresh_law.Below.clean_law.ReadSteps.{reads_of, access_is, ok_steps}
+use Rattle.serve_law.proofs.Below.fresh_law.Following as following
+use Rattle.serve_law.proofs.Below.entry_law.Answers.{answers_of, fits}
+use Rattle.serve_law.proofs.Below.entry_law.Runs.{silent, runs_one}
 use Rattle.ask_entry_law.specs.Asking.{ReadsThatAskLegal}
 use Rattle.ask_entry_law.proofs.Recoloured.{recoloured, wishing, none_given, ask_lock_allowed, ask_dup_allowed}
 use Rattle.ask_entry_law.proofs.Agreeing.{Asks, a_content, a_share}
@@ -246,7 +246,7 @@ none_taken k number t s y w _ coherent here at code a_lock = not_taken k coheren
 
 pub reads_legal : ReadsThatAskLegal
 reads_legal k number t s y w i coherent few here at code reading c0 is_coloured =
-    subst (λ n. server_at k.servers n ≡ Some s → Gives (λ (d : Cluster × EntryView). d.1.done ≡ None → Rattle.entry_law.specs.Entries.LeadsOn k.options d.1 c0 d.0) (apply k (record { server = n; what = Step t }))) (found_number number k.servers s here)
+    subst (λ n. server_at k.servers n ≡ Some s → Gives (λ (d : Cluster × EntryView). d.1.done ≡ None → Rattle.serve_law.specs.Below.entry_law.Entries.LeadsOn k.options d.1 c0 d.0) (apply k (record { server = n; what = Step t }))) (found_number number k.servers s here)
     (λ h.
     let free = none_taken k s.rest.number t s y w i coherent h at code reading in
     ends_with k coherent s h t y at c0 few i code (λ on. ok_steps k coherent few s h t y at on w i reading code free) (λ on. outcome k coherent few s h t y at on w i reading code free c0 is_coloured)) here

@@ -2,79 +2,79 @@
 use Rattle.std.proofs.Common.{◌≡◌, ℕ, ◌+◌, ◌<◌, ◌≤◌, ◌==◌, ◌&&◌, nat_lt, Bool, true, false, if◌then◌else◌, List, [], ◌∷◌, ◌++◌, Some, None, is_some, refl, sym, ap, ap₂, subst, ◌∙◌, arith, append_assoc}
 use Rattle.std.specs.Bool.{⊤}
 use Rattle.std.specs.Prelude.{slice_get, map, length}
-use Rattle.fresh_law.specs.Below.fr_base.Names.{same_object}
-use Rattle.fresh_law.specs.Below.fr_base.declared.name.ObjNo.{ObjNo}
-use Rattle.fresh_law.specs.Below.fr_base.declared.place.Lval.{Lval}
-use Rattle.fresh_law.specs.Below.fr_base.declared.instruction.Instr.{Instr}
-use Rattle.fresh_law.specs.Below.fr_base.declared.instruction.Instr.TheVariants as instr
-use Rattle.fresh_law.specs.Below.fr_base.declared.instruction.Operand.{Operand}
+use Rattle.serve_law.specs.Below.fresh_law.Below.fr_base.Names.{same_object}
+use Rattle.serve_law.specs.Below.fresh_law.Below.fr_base.declared.name.ObjNo.{ObjNo}
+use Rattle.serve_law.specs.Below.fresh_law.Below.fr_base.declared.place.Lval.{Lval}
+use Rattle.serve_law.specs.Below.fresh_law.Below.fr_base.declared.instruction.Instr.{Instr}
+use Rattle.serve_law.specs.Below.fresh_law.Below.fr_base.declared.instruction.Instr.TheVariants as instr
+use Rattle.serve_law.specs.Below.fresh_law.Below.fr_base.declared.instruction.Operand.{Operand}
 use Rattle.borrow_law.specs.Below.fr_code.CodeTypes.{Entry, Table, InstrTypes, i_copy, i_dup, i_lock, i_borrow, i_borrow_mut}
-use Rattle.fresh_law.specs.Below.global_addr.Words.{colour_of, server_of, next_word}
-use Rattle.fresh_law.specs.Below.heap_partition.declared.value.BoxPtr.{BoxPtr}
-use Rattle.fresh_law.specs.Below.owner_box.View.{PartitionState}
-use Rattle.fresh_law.specs.Below.mut_borrow.declared.mutable.MutRef.{MutRef}
-use Rattle.fresh_law.specs.Below.read_cache.Cache.{is_cached}
-use Rattle.fresh_law.specs.Below.thread_state.View.{ThreadState, is_over}
-use Rattle.fresh_law.specs.Below.thread_state.declared.phase.Phase.TheVariants as phase
-use Rattle.fresh_law.specs.Below.thread_state.declared.value.Value.TheVariants as value
-use Rattle.fresh_law.specs.Below.server_msgs.declared.message.Message.{Message}
-use Rattle.fresh_law.specs.Below.server_msgs.declared.message.Message.TheVariants as message
-use Rattle.fresh_law.specs.Below.journal.declared.act.Act.{Act}
-use Rattle.fresh_law.specs.Below.journal.declared.act.Act.TheVariants as act
-use Rattle.fresh_law.specs.Below.server_model.declared.event.What.TheVariants.{Step}
-use Rattle.fresh_law.specs.Below.server_model.Servers.{Rest, Server, Cluster, server_at}
-use Rattle.fresh_law.specs.Below.server_model.Work.{Hand, thread_in, without_thread, without_hops}
-use Rattle.fresh_law.specs.Below.server_model.NewWords.{issue_tint}
-use Rattle.fresh_law.specs.Below.server_model.Places.{in_slot, took, with_word, put_word}
-use Rattle.fresh_law.specs.Below.server_model.Prepare.{Prepared, ready, requested, nothing, ReadTo, box_of, ask_copy, ask_object, prepare, read_stars}
-use Rattle.fresh_law.specs.Below.server_model.Events.{can_step, has_phase, enabled, begin_work, wait_step, stepped}
-use Rattle.entry_law.specs.Below.coloured_heap.Heap.{Coloured, Wish, ForCopy, ForObject}
-use Rattle.fresh_law.specs.Below.heap_law.Names.{tot, one, some}
-use Rattle.fresh_law.specs.Below.heap_law.Things.{Location, Thing, lies, at_slot, servers_things, things_of}
-use Rattle.fresh_law.specs.Below.heap_law.Follow.{Standing, locate, value_in}
-use Rattle.fresh_law.specs.Below.heap_law.Sight.{is_spot, colour_up_to, sight, issued}
-use Rattle.fresh_law.specs.Below.heap_law.Words.{IsStale, HasWords}
-use Rattle.fresh_law.specs.Below.heap_law.Colours.{copy_of, StandsColoured}
-use Rattle.fresh_law.proofs.Below.heap_law.Words.{named, itself}
-use Rattle.fresh_law.specs.Below.type_law.ClusterTypes.{IsCoherent}
-use Rattle.fresh_law.proofs.Below.path_law.Sole.{some_is}
-use Rattle.fresh_law.proofs.Below.word_law.Tints.{SlotPut}
+use Rattle.serve_law.specs.Below.fresh_law.Below.global_addr.Words.{colour_of, server_of, next_word}
+use Rattle.serve_law.specs.Below.fresh_law.Below.heap_partition.declared.value.BoxPtr.{BoxPtr}
+use Rattle.serve_law.specs.Below.fresh_law.Below.owner_box.View.{PartitionState}
+use Rattle.serve_law.specs.Below.fresh_law.Below.mut_borrow.declared.mutable.MutRef.{MutRef}
+use Rattle.serve_law.specs.Below.fresh_law.Below.read_cache.Cache.{is_cached}
+use Rattle.serve_law.specs.Below.fresh_law.Below.thread_state.View.{ThreadState, is_over}
+use Rattle.serve_law.specs.Below.fresh_law.Below.thread_state.declared.phase.Phase.TheVariants as phase
+use Rattle.serve_law.specs.Below.fresh_law.Below.thread_state.declared.value.Value.TheVariants as value
+use Rattle.serve_law.specs.Below.fresh_law.Below.server_msgs.declared.message.Message.{Message}
+use Rattle.serve_law.specs.Below.fresh_law.Below.server_msgs.declared.message.Message.TheVariants as message
+use Rattle.serve_law.specs.Below.fresh_law.Below.journal.declared.act.Act.{Act}
+use Rattle.serve_law.specs.Below.fresh_law.Below.journal.declared.act.Act.TheVariants as act
+use Rattle.serve_law.specs.Below.fresh_law.Below.server_model.declared.event.What.TheVariants.{Step}
+use Rattle.serve_law.specs.Below.fresh_law.Below.server_model.Servers.{Rest, Server, Cluster, server_at}
+use Rattle.serve_law.specs.Below.fresh_law.Below.server_model.Work.{Hand, thread_in, without_thread, without_hops}
+use Rattle.serve_law.specs.Below.fresh_law.Below.server_model.NewWords.{issue_tint}
+use Rattle.serve_law.specs.Below.fresh_law.Below.server_model.Places.{in_slot, took, with_word, put_word}
+use Rattle.serve_law.specs.Below.fresh_law.Below.server_model.Prepare.{Prepared, ready, requested, nothing, ReadTo, box_of, ask_copy, ask_object, prepare, read_stars}
+use Rattle.serve_law.specs.Below.fresh_law.Below.server_model.Events.{can_step, has_phase, enabled, begin_work, wait_step, stepped}
+use Rattle.serve_law.specs.Below.entry_law.Below.coloured_heap.Heap.{Coloured, Wish, ForCopy, ForObject}
+use Rattle.serve_law.specs.Below.fresh_law.Below.heap_law.Names.{tot, one, some}
+use Rattle.serve_law.specs.Below.fresh_law.Below.heap_law.Things.{Location, Thing, lies, at_slot, servers_things, things_of}
+use Rattle.serve_law.specs.Below.fresh_law.Below.heap_law.Follow.{Standing, locate, value_in}
+use Rattle.serve_law.specs.Below.fresh_law.Below.heap_law.Sight.{is_spot, colour_up_to, sight, issued}
+use Rattle.serve_law.specs.Below.fresh_law.Below.heap_law.Words.{IsStale, HasWords}
+use Rattle.serve_law.specs.Below.fresh_law.Below.heap_law.Colours.{copy_of, StandsColoured}
+use Rattle.serve_law.proofs.Below.fresh_law.Below.heap_law.Words.{named, itself}
+use Rattle.serve_law.specs.Below.fresh_law.Below.type_law.ClusterTypes.{IsCoherent}
+use Rattle.serve_law.proofs.Below.fresh_law.Below.path_law.Sole.{some_is}
+use Rattle.serve_law.proofs.Below.fresh_law.Below.word_law.Tints.{SlotPut}
 use Rattle.borrow_law.specs.Below.read_law.Reading.{MayRead, Reads, copies, shares, lends, dups, locks, LiesUnder}
 use Rattle.borrow_law.proofs.Below.read_law.ReadPlaces.{may_read_so}
 use Rattle.borrow_law.proofs.Below.read_law.FreshReads.{read_are_fresh}
 use Rattle.borrow_law.proofs.Below.read_law.Homes.{read_lie_there}
-use Rattle.fresh_law.specs.Below.event_law.Laws.{Gives, FewEvents}
-use Rattle.fresh_law.proofs.Below.event_law.Results.{then_gives, test_gives, given_by}
-use Rattle.fresh_law.proofs.Below.event_law.RulesKeep.{sums_kept}
-use Rattle.fresh_law.proofs.Below.event_law.Bags.{all_standing, rest_things, sent_number}
-use Rattle.fresh_law.proofs.Below.event_law.Events.{others_of}
-use Rattle.fresh_law.proofs.Below.event_law.Prepares.{PreparedOk, prepares}
-use Rattle.fresh_law.proofs.Below.local_law.Small.{Made}
-use Rattle.fresh_law.proofs.Below.result_law.Known.{Steps, standing, paths, goes, entry, typed, types}
-use Rattle.fresh_law.proofs.Below.result_law.Followed.{Place}
-use Rattle.fresh_law.proofs.Below.result_law.Reading.{Reading, cached_hit}
-use Rattle.fresh_law.proofs.Below.result_law.Starred.{bound}
-use Rattle.fresh_law.proofs.Below.result_law.Readers.{IsFree, to_entry}
-use Rattle.fresh_law.proofs.Below.result_law.Pointing.{its_partition}
-use Rattle.fresh_law.proofs.Below.stay_law.Sites.{HandAlike}
-use Rattle.fresh_law.proofs.Below.stay_law.Steps.{TakesNoneHere}
+use Rattle.serve_law.specs.Below.fresh_law.Below.event_law.Laws.{Gives, FewEvents}
+use Rattle.serve_law.proofs.Below.fresh_law.Below.event_law.Results.{then_gives, test_gives, given_by}
+use Rattle.serve_law.proofs.Below.fresh_law.Below.event_law.RulesKeep.{sums_kept}
+use Rattle.serve_law.proofs.Below.fresh_law.Below.event_law.Bags.{all_standing, rest_things, sent_number}
+use Rattle.serve_law.proofs.Below.fresh_law.Below.event_law.Events.{others_of}
+use Rattle.serve_law.proofs.Below.fresh_law.Below.event_law.Prepares.{PreparedOk, prepares}
+use Rattle.serve_law.proofs.Below.fresh_law.Below.local_law.Small.{Made}
+use Rattle.serve_law.proofs.Below.fresh_law.Below.result_law.Known.{Steps, standing, paths, goes, entry, typed, types}
+use Rattle.serve_law.proofs.Below.fresh_law.Below.result_law.Followed.{Place}
+use Rattle.serve_law.proofs.Below.fresh_law.Below.result_law.Reading.{Reading, cached_hit}
+use Rattle.serve_law.proofs.Below.fresh_law.Below.result_law.Starred.{bound}
+use Rattle.serve_law.proofs.Below.fresh_law.Below.result_law.Readers.{IsFree, to_entry}
+use Rattle.serve_law.proofs.Below.fresh_law.Below.result_law.Pointing.{its_partition}
+use Rattle.serve_law.proofs.Below.fresh_law.Below.stay_law.Sites.{HandAlike}
+use Rattle.serve_law.proofs.Below.fresh_law.Below.stay_law.Steps.{TakesNoneHere}
 use Rattle.borrow_law.proofs.Below.prepare_law.Hands.{Walks, calm_goes, calm_waits}
-use Rattle.fresh_law.proofs.Below.carry_law.Hands.{places, first_ok, each_together, puts_alike}
-use Rattle.fresh_law.proofs.Below.copy_law.Clean.{Leaves, all_goes}
-use Rattle.fresh_law.proofs.Below.clean_law.ReadHands.{IsCalm, calm_start, calm_ready}
-use Rattle.fresh_law.proofs.Below.clean_law.ReadAsks.{Followed, Known}
-use Rattle.fresh_law.proofs.Below.clean_law.ReadCommits.{asks_so}
-use Rattle.fresh_law.proofs.Below.clean_law.Worded.{Worded, worded_on}
-use Rattle.fresh_law.proofs.Askers.{reads_within}
-use Rattle.fresh_law.proofs.SlotWords.{tint_ok, tint_wrote, tint_worded}
-use Rattle.fresh_law.proofs.Following as following
-use Rattle.entry_law.proofs.Answers.{Answers, answers_of, fits}
-use Rattle.entry_law.proofs.Weighed.{Seen}
-use Rattle.entry_law.proofs.Runs.{silent, runs_act, runs_one}
-use Rattle.entry_law.proofs.Live.{issued_by, issued_told}
-use Rattle.entry_law.proofs.Applied.{Afterwards}
-use Rattle.fresh_law.proofs.Below.still_law.Told.{tot_same}
-use Rattle.entry_law.specs.Below.still_law.Shows.{frame_of}
+use Rattle.serve_law.proofs.Below.fresh_law.Below.carry_law.Hands.{places, first_ok, each_together, puts_alike}
+use Rattle.serve_law.proofs.Below.fresh_law.Below.copy_law.Clean.{Leaves, all_goes}
+use Rattle.serve_law.proofs.Below.fresh_law.Below.clean_law.ReadHands.{IsCalm, calm_start, calm_ready}
+use Rattle.serve_law.proofs.Below.fresh_law.Below.clean_law.ReadAsks.{Followed, Known}
+use Rattle.serve_law.proofs.Below.fresh_law.Below.clean_law.ReadCommits.{asks_so}
+use Rattle.serve_law.proofs.Below.fresh_law.Below.clean_law.Worded.{Worded, worded_on}
+use Rattle.serve_law.proofs.Below.fresh_law.Askers.{reads_within}
+use Rattle.serve_law.proofs.Below.fresh_law.SlotWords.{tint_ok, tint_wrote, tint_worded}
+use Rattle.serve_law.proofs.Below.fresh_law.Following as following
+use Rattle.serve_law.proofs.Below.entry_law.Answers.{Answers, answers_of, fits}
+use Rattle.serve_law.proofs.Below.entry_law.Weighed.{Seen}
+use Rattle.serve_law.proofs.Below.entry_law.Runs.{silent, runs_act, runs_one}
+use Rattle.serve_law.proofs.Below.entry_law.Live.{issued_by, issued_told}
+use Rattle.serve_law.proofs.Below.entry_law.Applied.{Afterwards}
+use Rattle.serve_law.proofs.Below.fresh_law.Below.still_law.Told.{tot_same}
+use Rattle.serve_law.specs.Below.entry_law.Below.still_law.Shows.{frame_of}
 use Rattle.ask_entry_law.proofs.Recoloured.{recoloured, wishing, none_given, tint_allowed, ask_allowed, pull_allowed}
 use Rattle.ask_entry_law.proofs.Frames.{SameFrames}
 use Rattle.ask_entry_law.proofs.KeptRest.{Kept, kept_start, kept_ready, seen_as_was, unpinned_frames, set_frames}

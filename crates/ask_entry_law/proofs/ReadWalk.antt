@@ -2,48 +2,48 @@
 use Rattle.std.proofs.Common.{◌≡◌, ℕ, zero, suc, ◌+◌, ◌<◌, ◌≤◌, ◌==◌, Bool, true, false, if◌then◌else◌, List, [], ◌∷◌, ◌++◌, Option, Some, None, refl, sym, ap, subst, ◌∙◌, arith}
 use Rattle.std.specs.Bool.{⊤}
 use Rattle.std.specs.Prelude.{slice_get, nat_lt, map, length}
-use Rattle.fresh_law.specs.Below.fr_base.Lists.{is_in}
-use Rattle.fresh_law.specs.Below.fr_base.declared.place.Lval.{Lval}
-use Rattle.fresh_law.specs.Below.fr_base.declared.instruction.Instr.{Instr}
-use Rattle.fresh_law.specs.Below.global_addr.Words.{colour_of, server_of, next_word}
-use Rattle.fresh_law.specs.Below.heap_partition.declared.value.BoxPtr.{BoxPtr}
-use Rattle.fresh_law.specs.Below.heap_partition.declared.value.Owned.{Owned}
-use Rattle.fresh_law.specs.Below.heap_partition.declared.value.Owned.TheVariants as owned
-use Rattle.fresh_law.specs.Below.read_cache.Cache.{Copy, is_cached, can_pin, pin}
-use Rattle.fresh_law.specs.Below.mut_borrow.Refs.{cleaned_answer}
-use Rattle.fresh_law.specs.Below.mut_borrow.declared.mutable.MutRef.{MutRef}
-use Rattle.fresh_law.specs.Below.mut_borrow.declared.shared.SharedRef.{SharedRef}
-use Rattle.fresh_law.specs.Below.mut_borrow.declared.mutable.Cleaned.{Cleaned}
-use Rattle.fresh_law.specs.Below.mut_borrow.declared.mutable.Cleaned.TheVariants as cleaned
-use Rattle.fresh_law.specs.Below.journal.declared.act.Act.{Act}
-use Rattle.fresh_law.specs.Below.journal.declared.act.Act.TheVariants as act
-use Rattle.fresh_law.specs.Below.place_walk.declared.hop.Hop.{Hop}
-use Rattle.fresh_law.specs.Below.place_walk.declared.hop.Hop.TheVariants as hop
-use Rattle.fresh_law.specs.Below.place_walk.Hops.{clean_hop, dirty_hop, read_hop}
-use Rattle.fresh_law.specs.Below.thread_state.View.{ThreadState}
-use Rattle.fresh_law.specs.Below.thread_state.declared.value.Value.{Value}
-use Rattle.fresh_law.specs.Below.thread_state.declared.value.Value.TheVariants as value
-use Rattle.fresh_law.specs.Below.migration.Packing.{unpinned}
-use Rattle.fresh_law.specs.Below.server_model.Servers.{Server, Cluster}
-use Rattle.fresh_law.specs.Below.server_model.Work.{Hand, note, with_cache, working, is_hop, without_hops, look, then_some, used_once, use_word}
-use Rattle.fresh_law.specs.Below.server_model.NewWords.{issue_tint, issue_renewal}
-use Rattle.fresh_law.specs.Below.server_model.Places.{Spot, in_slot, in_cell, in_copy, on_top, nowhere, value_at, value_in as cell_value, load_at, put_at, pointer_of, took, put_word}
-use Rattle.fresh_law.specs.Below.server_model.Prepare.{Prepared, ready, requested, nothing, and_then, ready_at, ask_copy, ask_object, request_by, box_of, cleaned_by, clean_value, pinned_once, use_copy, hopped, local, hit_by, read_by, read_value, read_clean, tinted_first, read_star, read_stars}
-use Rattle.fresh_law.specs.Below.heap_law.Things.{Location, at_slot}
-use Rattle.fresh_law.specs.Below.heap_law.Follow.{Standing, Ground, value_in, value_of, slot_of, locate}
-use Rattle.fresh_law.specs.Below.heap_law.Sight.{sight}
-use Rattle.fresh_law.specs.Below.event_law.Laws.{Gives}
-use Rattle.fresh_law.proofs.Below.event_law.Results.{test_gives, weaker}
-use Rattle.fresh_law.proofs.Below.path_law.Shown.{stands_there}
-use Rattle.fresh_law.proofs.Below.path_law.Sole.{some_is}
-use Rattle.fresh_law.proofs.Below.word_law.Slots.{set_same}
-use Rattle.fresh_law.proofs.Below.word_law.Tints.{slot_put}
-use Rattle.fresh_law.proofs.Below.result_law.Known.{Steps, goes, paths, standing, hand}
-use Rattle.fresh_law.proofs.Below.result_law.Followed.{Place}
-use Rattle.fresh_law.proofs.Below.result_law.Reading.{Alike, equal, both_shared, alike_at}
-use Rattle.fresh_law.proofs.Below.result_law.Starred.{a_slot, a_cell, a_copy, Fine, loaded}
-use Rattle.fresh_law.proofs.Below.result_law.Readers.{IsFree, stars_fine}
-use Rattle.fresh_law.proofs.Below.clean_law.ReadAsks.{Reads, Stands, Followed, Known}
+use Rattle.serve_law.specs.Below.fresh_law.Below.fr_base.Lists.{is_in}
+use Rattle.serve_law.specs.Below.fresh_law.Below.fr_base.declared.place.Lval.{Lval}
+use Rattle.serve_law.specs.Below.fresh_law.Below.fr_base.declared.instruction.Instr.{Instr}
+use Rattle.serve_law.specs.Below.fresh_law.Below.global_addr.Words.{colour_of, server_of, next_word}
+use Rattle.serve_law.specs.Below.fresh_law.Below.heap_partition.declared.value.BoxPtr.{BoxPtr}
+use Rattle.serve_law.specs.Below.fresh_law.Below.heap_partition.declared.value.Owned.{Owned}
+use Rattle.serve_law.specs.Below.fresh_law.Below.heap_partition.declared.value.Owned.TheVariants as owned
+use Rattle.serve_law.specs.Below.fresh_law.Below.read_cache.Cache.{Copy, is_cached, can_pin, pin}
+use Rattle.serve_law.specs.Below.fresh_law.Below.mut_borrow.Refs.{cleaned_answer}
+use Rattle.serve_law.specs.Below.fresh_law.Below.mut_borrow.declared.mutable.MutRef.{MutRef}
+use Rattle.serve_law.specs.Below.fresh_law.Below.mut_borrow.declared.shared.SharedRef.{SharedRef}
+use Rattle.serve_law.specs.Below.fresh_law.Below.mut_borrow.declared.mutable.Cleaned.{Cleaned}
+use Rattle.serve_law.specs.Below.fresh_law.Below.mut_borrow.declared.mutable.Cleaned.TheVariants as cleaned
+use Rattle.serve_law.specs.Below.fresh_law.Below.journal.declared.act.Act.{Act}
+use Rattle.serve_law.specs.Below.fresh_law.Below.journal.declared.act.Act.TheVariants as act
+use Rattle.serve_law.specs.Below.fresh_law.Below.place_walk.declared.hop.Hop.{Hop}
+use Rattle.serve_law.specs.Below.fresh_law.Below.place_walk.declared.hop.Hop.TheVariants as hop
+use Rattle.serve_law.specs.Below.fresh_law.Below.place_walk.Hops.{clean_hop, dirty_hop, read_hop}
+use Rattle.serve_law.specs.Below.fresh_law.Below.thread_state.View.{ThreadState}
+use Rattle.serve_law.specs.Below.fresh_law.Below.thread_state.declared.value.Value.{Value}
+use Rattle.serve_law.specs.Below.fresh_law.Below.thread_state.declared.value.Value.TheVariants as value
+use Rattle.serve_law.specs.Below.fresh_law.Below.migration.Packing.{unpinned}
+use Rattle.serve_law.specs.Below.fresh_law.Below.server_model.Servers.{Server, Cluster}
+use Rattle.serve_law.specs.Below.fresh_law.Below.server_model.Work.{Hand, note, with_cache, working, is_hop, without_hops, look, then_some, used_once, use_word}
+use Rattle.serve_law.specs.Below.fresh_law.Below.server_model.NewWords.{issue_tint, issue_renewal}
+use Rattle.serve_law.specs.Below.fresh_law.Below.server_model.Places.{Spot, in_slot, in_cell, in_copy, on_top, nowhere, value_at, value_in as cell_value, load_at, put_at, pointer_of, took, put_word}
+use Rattle.serve_law.specs.Below.fresh_law.Below.server_model.Prepare.{Prepared, ready, requested, nothing, and_then, ready_at, ask_copy, ask_object, request_by, box_of, cleaned_by, clean_value, pinned_once, use_copy, hopped, local, hit_by, read_by, read_value, read_clean, tinted_first, read_star, read_stars}
+use Rattle.serve_law.specs.Below.fresh_law.Below.heap_law.Things.{Location, at_slot}
+use Rattle.serve_law.specs.Below.fresh_law.Below.heap_law.Follow.{Standing, Ground, value_in, value_of, slot_of, locate}
+use Rattle.serve_law.specs.Below.fresh_law.Below.heap_law.Sight.{sight}
+use Rattle.serve_law.specs.Below.fresh_law.Below.event_law.Laws.{Gives}
+use Rattle.serve_law.proofs.Below.fresh_law.Below.event_law.Results.{test_gives, weaker}
+use Rattle.serve_law.proofs.Below.fresh_law.Below.path_law.Shown.{stands_there}
+use Rattle.serve_law.proofs.Below.fresh_law.Below.path_law.Sole.{some_is}
+use Rattle.serve_law.proofs.Below.fresh_law.Below.word_law.Slots.{set_same}
+use Rattle.serve_law.proofs.Below.fresh_law.Below.word_law.Tints.{slot_put}
+use Rattle.serve_law.proofs.Below.fresh_law.Below.result_law.Known.{Steps, goes, paths, standing, hand}
+use Rattle.serve_law.proofs.Below.fresh_law.Below.result_law.Followed.{Place}
+use Rattle.serve_law.proofs.Below.fresh_law.Below.result_law.Reading.{Alike, equal, both_shared, alike_at}
+use Rattle.serve_law.proofs.Below.fresh_law.Below.result_law.Starred.{a_slot, a_cell, a_copy, Fine, loaded}
+use Rattle.serve_law.proofs.Below.fresh_law.Below.result_law.Readers.{IsFree, stars_fine}
+use Rattle.serve_law.proofs.Below.fresh_law.Below.clean_law.ReadAsks.{Reads, Stands, Followed, Known}
 
 -- HOPS
 

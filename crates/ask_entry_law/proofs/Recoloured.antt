@@ -1,20 +1,20 @@
 -- Objects of the coloured heap get other words, one after another: what is asked of the state then, and which acts give them. And wishes that come.
 use Rattle.std.proofs.Common.{◌≡◌, ℕ, ◌+◌, ◌==◌, ◌&&◌, ◌||◌, not, nat_lt, Bool, true, false, if◌then◌else◌, List, [], ◌∷◌, Option, Some, None, is_some, option_map, refl, sym, ap, ap₂, subst, ◌∙◌}
-use Rattle.fresh_law.specs.Below.fr_base.Lists.{one, is_in}
-use Rattle.fresh_law.specs.Below.fr_base.Names.{same_object}
-use Rattle.fresh_law.specs.Below.fr_base.declared.name.MutexNo.{MutexNo}
-use Rattle.fresh_law.specs.Below.fr_base.declared.name.ObjNo.{ObjNo}
-use Rattle.fresh_law.specs.Below.fr_base.declared.settings.Options.{Options}
-use Rattle.fresh_law.specs.Below.global_addr.Words.{colour_of, server_of, next_word}
-use Rattle.fresh_law.specs.Below.journal.View.{EntryView}
-use Rattle.fresh_law.specs.Below.journal.declared.act.Act.TheVariants as act
-use Rattle.entry_law.specs.Below.coloured_heap.Lists.{first, has, holds, with_each}
-use Rattle.entry_law.specs.Below.coloured_heap.Heap.{Living, Wish, ForCopy, ForObject, ForContent, ForShare, Coloured, is_object, object_at, is_lying, lies_at, copy_at, same_wish}
-use Rattle.entry_law.specs.Below.coloured_heap.Changes.{after_act}
-use Rattle.entry_law.specs.Below.coloured_heap.Heap as heap
-use Rattle.entry_law.specs.Below.coloured_heap.Rules as rules
-use Rattle.entry_law.proofs.Below.coloured_heap.Found.{found_each}
-use Rattle.entry_law.proofs.Answers.{Answers, Fits, Allowed}
+use Rattle.serve_law.specs.Below.fresh_law.Below.fr_base.Lists.{one, is_in}
+use Rattle.serve_law.specs.Below.fresh_law.Below.fr_base.Names.{same_object}
+use Rattle.serve_law.specs.Below.fresh_law.Below.fr_base.declared.name.MutexNo.{MutexNo}
+use Rattle.serve_law.specs.Below.fresh_law.Below.fr_base.declared.name.ObjNo.{ObjNo}
+use Rattle.serve_law.specs.Below.fresh_law.Below.fr_base.declared.settings.Options.{Options}
+use Rattle.serve_law.specs.Below.fresh_law.Below.global_addr.Words.{colour_of, server_of, next_word}
+use Rattle.serve_law.specs.Below.fresh_law.Below.journal.View.{EntryView}
+use Rattle.serve_law.specs.Below.fresh_law.Below.journal.declared.act.Act.TheVariants as act
+use Rattle.serve_law.specs.Below.entry_law.Below.coloured_heap.Lists.{first, has, holds, with_each}
+use Rattle.serve_law.specs.Below.entry_law.Below.coloured_heap.Heap.{Living, Wish, ForCopy, ForObject, ForContent, ForShare, Coloured, is_object, object_at, is_lying, lies_at, copy_at, same_wish}
+use Rattle.serve_law.specs.Below.entry_law.Below.coloured_heap.Changes.{after_act}
+use Rattle.serve_law.specs.Below.entry_law.Below.coloured_heap.Heap as heap
+use Rattle.serve_law.specs.Below.entry_law.Below.coloured_heap.Rules as rules
+use Rattle.serve_law.proofs.Below.entry_law.Below.coloured_heap.Found.{found_each}
+use Rattle.serve_law.proofs.Below.entry_law.Answers.{Answers, Fits, Allowed}
 
 -- OTHER WORDS
 
@@ -139,7 +139,7 @@ tint_allowed o e c q l p old h n lying low new = record {
 }
   where
     itself : (next_word old == next_word old) ≡ true
-    itself = Rattle.entry_law.proofs.Below.coloured_heap.ShownNames.number_itself (next_word old)
+    itself = Rattle.serve_law.proofs.Below.entry_law.Below.coloured_heap.ShownNames.number_itself (next_word old)
 
 -- ANOTHER ADDRESS, at the last colour
 

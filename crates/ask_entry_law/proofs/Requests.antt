@@ -1,28 +1,28 @@
 -- A step that ends in a request, from what its hand is: its entry leads on.
 use Rattle.std.proofs.Common.{◌≡◌, ℕ, ◌+◌, ◌||◌, false, List, [], ◌∷◌, Some, None, refl, sym, ap, ap₂, subst, ◌∙◌, arith}
-use Rattle.fresh_law.specs.Below.fr_base.Lists.{is_in}
-use Rattle.fresh_law.specs.Below.thread_state.View.{ThreadState, is_over}
-use Rattle.fresh_law.specs.Below.server_msgs.declared.message.Message.{Message}
-use Rattle.fresh_law.specs.Below.journal.View.{EntryView}
-use Rattle.fresh_law.specs.Below.journal.declared.act.Act.{Act}
-use Rattle.fresh_law.specs.Below.server_model.Servers.{Rest, Server, Cluster, server_at}
-use Rattle.fresh_law.specs.Below.server_model.Work.{Work, Hand, without_hops, sent_from, thread_in, put_back}
-use Rattle.fresh_law.specs.Below.server_model.Events.{begin_work, begin_at, wait_step, stepped}
-use Rattle.entry_law.specs.Below.coloured_heap.Heap.{Coloured, Wish}
-use Rattle.fresh_law.specs.Below.heap_law.Names.{tot}
-use Rattle.fresh_law.specs.Below.heap_law.Things.{Thing, sent, stands, message_things}
-use Rattle.fresh_law.specs.Below.heap_law.Sight.{sight, issued}
-use Rattle.fresh_law.specs.Below.heap_law.Words.{HasWords}
-use Rattle.fresh_law.specs.Below.heap_law.Colours.{StandsColoured}
-use Rattle.fresh_law.specs.Below.heap_law.Coherent.{IsSound}
-use Rattle.fresh_law.proofs.Below.event_law.Bags.{rest_things, of_sending}
-use Rattle.fresh_law.proofs.Below.still_law.Tests.{numbers}
-use Rattle.entry_law.specs.Entries.{LeadsOn}
-use Rattle.entry_law.proofs.Answers.{answers_of, fits}
-use Rattle.entry_law.proofs.Weighed.{Seen, WorkTurns, SiteTurns, server_turns}
-use Rattle.entry_law.proofs.After.{Follows}
-use Rattle.entry_law.proofs.Runs.{Runs, silent, leads_on}
-use Rattle.entry_law.proofs.Applied.{Afterwards, server_there}
+use Rattle.serve_law.specs.Below.fresh_law.Below.fr_base.Lists.{is_in}
+use Rattle.serve_law.specs.Below.fresh_law.Below.thread_state.View.{ThreadState, is_over}
+use Rattle.serve_law.specs.Below.fresh_law.Below.server_msgs.declared.message.Message.{Message}
+use Rattle.serve_law.specs.Below.fresh_law.Below.journal.View.{EntryView}
+use Rattle.serve_law.specs.Below.fresh_law.Below.journal.declared.act.Act.{Act}
+use Rattle.serve_law.specs.Below.fresh_law.Below.server_model.Servers.{Rest, Server, Cluster, server_at}
+use Rattle.serve_law.specs.Below.fresh_law.Below.server_model.Work.{Work, Hand, without_hops, sent_from, thread_in, put_back}
+use Rattle.serve_law.specs.Below.fresh_law.Below.server_model.Events.{begin_work, begin_at, wait_step, stepped}
+use Rattle.serve_law.specs.Below.entry_law.Below.coloured_heap.Heap.{Coloured, Wish}
+use Rattle.serve_law.specs.Below.fresh_law.Below.heap_law.Names.{tot}
+use Rattle.serve_law.specs.Below.fresh_law.Below.heap_law.Things.{Thing, sent, stands, message_things}
+use Rattle.serve_law.specs.Below.fresh_law.Below.heap_law.Sight.{sight, issued}
+use Rattle.serve_law.specs.Below.fresh_law.Below.heap_law.Words.{HasWords}
+use Rattle.serve_law.specs.Below.fresh_law.Below.heap_law.Colours.{StandsColoured}
+use Rattle.serve_law.specs.Below.fresh_law.Below.heap_law.Coherent.{IsSound}
+use Rattle.serve_law.proofs.Below.fresh_law.Below.event_law.Bags.{rest_things, of_sending}
+use Rattle.serve_law.proofs.Below.fresh_law.Below.still_law.Tests.{numbers}
+use Rattle.serve_law.specs.Below.entry_law.Entries.{LeadsOn}
+use Rattle.serve_law.proofs.Below.entry_law.Answers.{answers_of, fits}
+use Rattle.serve_law.proofs.Below.entry_law.Weighed.{Seen, WorkTurns, SiteTurns, server_turns}
+use Rattle.serve_law.proofs.Below.entry_law.After.{Follows}
+use Rattle.serve_law.proofs.Below.entry_law.Runs.{Runs, silent, leads_on}
+use Rattle.serve_law.proofs.Below.entry_law.Applied.{Afterwards, server_there}
 use Rattle.step_entry_law.proofs.Settled.{runs_here}
 use Rattle.ask_entry_law.proofs.Recoloured.{NewWords, given_words, recoloured, wishing}
 use Rattle.ask_entry_law.proofs.Frames.{frames_turn}

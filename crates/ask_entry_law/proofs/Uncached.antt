@@ -1,29 +1,29 @@
 -- Where a server's cache has no copy under a word, the coloured heap has none there.
 use Rattle.std.proofs.Common.{◌≡◌, ℕ, ◌+◌, ◌==◌, ◌&&◌, Bool, true, false, if◌then◌else◌, List, [], ◌∷◌, Option, Some, None, is_some, refl, ap, ◌∙◌, arith}
-use Rattle.fresh_law.specs.Below.heap_partition.Plain.{plain_of}
-use Rattle.fresh_law.specs.Below.heap_partition.declared.value.Cell.{Cell}
+use Rattle.serve_law.specs.Below.fresh_law.Below.heap_partition.Plain.{plain_of}
+use Rattle.serve_law.specs.Below.fresh_law.Below.heap_partition.declared.value.Cell.{Cell}
 use Rattle.join_home.specs.Tasks.{Task, TaskState, kept}
 use Rattle.mutex_home.specs.Mutexes.{Mutex}
-use Rattle.fresh_law.specs.Below.read_cache.Cache.{Copy, copy_of as cached_copy, is_cached}
-use Rattle.fresh_law.specs.Below.thread_state.View.{ThreadState}
-use Rattle.fresh_law.specs.Below.thread_state.declared.value.Value.{Value}
-use Rattle.fresh_law.specs.Below.thread_state.declared.value.Value.TheVariants as value
-use Rattle.fresh_law.specs.Below.server_msgs.declared.message.Message.{Message}
-use Rattle.fresh_law.specs.Below.server_msgs.declared.message.Message.TheVariants as message
-use Rattle.fresh_law.specs.Below.server_model.Servers.{Server, Cluster, server_at}
-use Rattle.entry_law.specs.Below.coloured_heap.Heap.{Copied}
-use Rattle.fresh_law.specs.Below.heap_law.Names.{tot}
-use Rattle.fresh_law.specs.Below.heap_law.Things.{Thing, copied, retired, is_free, things_at, slot_things, thread_things, message_things, cell_things, free_things, copy_things, queue_things, mutex_things, result_things, task_things, standing_things, waiting_things, leaving_things, server_things, things_of}
-use Rattle.fresh_law.specs.Below.heap_law.Sight.{sight}
-use Rattle.fresh_law.specs.Below.heap_law.Colours.{copy_of}
-use Rattle.fresh_law.specs.Below.heap_law.Coherent.{IsSound}
-use Rattle.fresh_law.proofs.Below.heap_law.Sums.{tot-append, server_parts}
-use Rattle.fresh_law.proofs.Below.event_law.Elsewhere.{here_alone}
-use Rattle.fresh_law.proofs.Below.still_law.Told.{told, ones}
-use Rattle.entry_law.proofs.Weighed.{Seen, pins_unseen, thread_seen}
-use Rattle.entry_law.proofs.Changed.{mutex_seen}
-use Rattle.entry_law.proofs.Shown.{if_some, copy_in, copy_is, none_first}
-use Rattle.entry_law.proofs.After.{copy_seen}
+use Rattle.serve_law.specs.Below.fresh_law.Below.read_cache.Cache.{Copy, copy_of as cached_copy, is_cached}
+use Rattle.serve_law.specs.Below.fresh_law.Below.thread_state.View.{ThreadState}
+use Rattle.serve_law.specs.Below.fresh_law.Below.thread_state.declared.value.Value.{Value}
+use Rattle.serve_law.specs.Below.fresh_law.Below.thread_state.declared.value.Value.TheVariants as value
+use Rattle.serve_law.specs.Below.fresh_law.Below.server_msgs.declared.message.Message.{Message}
+use Rattle.serve_law.specs.Below.fresh_law.Below.server_msgs.declared.message.Message.TheVariants as message
+use Rattle.serve_law.specs.Below.fresh_law.Below.server_model.Servers.{Server, Cluster, server_at}
+use Rattle.serve_law.specs.Below.entry_law.Below.coloured_heap.Heap.{Copied}
+use Rattle.serve_law.specs.Below.fresh_law.Below.heap_law.Names.{tot}
+use Rattle.serve_law.specs.Below.fresh_law.Below.heap_law.Things.{Thing, copied, retired, is_free, things_at, slot_things, thread_things, message_things, cell_things, free_things, copy_things, queue_things, mutex_things, result_things, task_things, standing_things, waiting_things, leaving_things, server_things, things_of}
+use Rattle.serve_law.specs.Below.fresh_law.Below.heap_law.Sight.{sight}
+use Rattle.serve_law.specs.Below.fresh_law.Below.heap_law.Colours.{copy_of}
+use Rattle.serve_law.specs.Below.fresh_law.Below.heap_law.Coherent.{IsSound}
+use Rattle.serve_law.proofs.Below.fresh_law.Below.heap_law.Sums.{tot-append, server_parts}
+use Rattle.serve_law.proofs.Below.fresh_law.Below.event_law.Elsewhere.{here_alone}
+use Rattle.serve_law.proofs.Below.fresh_law.Below.still_law.Told.{told, ones}
+use Rattle.serve_law.proofs.Below.entry_law.Weighed.{Seen, pins_unseen, thread_seen}
+use Rattle.serve_law.proofs.Below.entry_law.Changed.{mutex_seen}
+use Rattle.serve_law.proofs.Below.entry_law.Shown.{if_some, copy_in, copy_is, none_first}
+use Rattle.serve_law.proofs.Below.entry_law.After.{copy_seen}
 
 module _ (r w : ℕ) where
   -- a copy under the word at the server

@@ -1,23 +1,23 @@
 -- ENTRIES OF STEPS THAT ASK ARE LEGAL: a step that follows its place star by star, and ends in a request, is an entry with the words that it gave and what it asks for (in the manner
 -- of DRust; the state is this project's).
 use Rattle.std.specs.Prelude.{◌≡◌, ℕ, List, [], ◌∷◌, ◌++◌, None, Some, slice_get}
-use Rattle.fresh_law.specs.Below.fr_base.declared.place.Lval.{Lval}
-use Rattle.fresh_law.specs.Below.fr_base.declared.instruction.Instr.{Instr}
-use Rattle.fresh_law.specs.Below.fr_base.declared.instruction.Instr.TheVariants as instr
-use Rattle.fresh_law.specs.Below.journal.View.{EntryView}
-use Rattle.fresh_law.specs.Below.thread_state.View.{ThreadState}
-use Rattle.fresh_law.specs.Below.server_model.declared.event.Event.{Event}
-use Rattle.fresh_law.specs.Below.server_model.declared.event.What.TheVariants.{Step}
-use Rattle.fresh_law.specs.Below.server_model.Servers.{Server, Cluster, server_at}
-use Rattle.fresh_law.specs.Below.server_model.Work.{thread_in}
-use Rattle.fresh_law.specs.Below.server_model.Clusters.{apply}
-use Rattle.entry_law.specs.Below.coloured_heap.Heap.{Coloured}
-use Rattle.fresh_law.specs.Below.heap_law.Colours.{StandsColoured}
-use Rattle.fresh_law.specs.Below.heap_law.LeftBy.{LeavesColoured}
-use Rattle.fresh_law.specs.Below.type_law.ClusterTypes.{IsCoherent}
-use Rattle.fresh_law.specs.Below.event_law.Laws.{Gives, FewEvents}
-use Rattle.fresh_law.specs.Below.clean_law.Clean.{ReadsAll}
-use Rattle.entry_law.specs.Entries.{LeadsOn}
+use Rattle.serve_law.specs.Below.fresh_law.Below.fr_base.declared.place.Lval.{Lval}
+use Rattle.serve_law.specs.Below.fresh_law.Below.fr_base.declared.instruction.Instr.{Instr}
+use Rattle.serve_law.specs.Below.fresh_law.Below.fr_base.declared.instruction.Instr.TheVariants as instr
+use Rattle.serve_law.specs.Below.fresh_law.Below.journal.View.{EntryView}
+use Rattle.serve_law.specs.Below.fresh_law.Below.thread_state.View.{ThreadState}
+use Rattle.serve_law.specs.Below.fresh_law.Below.server_model.declared.event.Event.{Event}
+use Rattle.serve_law.specs.Below.fresh_law.Below.server_model.declared.event.What.TheVariants.{Step}
+use Rattle.serve_law.specs.Below.fresh_law.Below.server_model.Servers.{Server, Cluster, server_at}
+use Rattle.serve_law.specs.Below.fresh_law.Below.server_model.Work.{thread_in}
+use Rattle.serve_law.specs.Below.fresh_law.Below.server_model.Clusters.{apply}
+use Rattle.serve_law.specs.Below.entry_law.Below.coloured_heap.Heap.{Coloured}
+use Rattle.serve_law.specs.Below.fresh_law.Below.heap_law.Colours.{StandsColoured}
+use Rattle.serve_law.specs.Below.fresh_law.Below.heap_law.LeftBy.{LeavesColoured}
+use Rattle.serve_law.specs.Below.fresh_law.Below.type_law.ClusterTypes.{IsCoherent}
+use Rattle.serve_law.specs.Below.fresh_law.Below.event_law.Laws.{Gives, FewEvents}
+use Rattle.serve_law.specs.Below.fresh_law.Below.clean_law.Clean.{ReadsAll}
+use Rattle.serve_law.specs.Below.entry_law.Entries.{LeadsOn}
 
 -- where the event does no plain step, its entry leads on from each coloured heap that the cluster stands for
 abbrev pub AskingLegal : Cluster → Event → Type 0

@@ -1,22 +1,22 @@
 -- Each cluster of a run from the start of a code is coherent, so that its driven journal is short.
 use Rattle.std.proofs.Common.{◌≡◌, ◌≤◌, ◌<◌, ℕ, ◌+◌, ◌*◌, ◌^◌, true, List, [], ◌∷◌, length, Option, Some, None, arith}
 use Rattle.std.specs.Prelude.{option_map}
-use Rattle.coherence_law.specs.Below.journal.View.{EntryView}
-use Rattle.coherence_law.specs.Below.coloured_heap.Driven.{is_driven}
-use Rattle.coherence_law.specs.Below.server_model.declared.event.Event.{Event}
-use Rattle.coherence_law.specs.Below.server_model.Servers.{Cluster, start_of}
-use Rattle.coherence_law.specs.Below.server_model.Work.{then_some}
-use Rattle.coherence_law.specs.Below.server_model.Clusters.{apply}
-use Rattle.coherence_law.specs.Below.heap_law.Sight.{sight}
-use Rattle.coherence_law.specs.Below.heap_law.Naming.{events_of}
-use Rattle.local_law.specs.Below.type_law.ClusterTypes.{IsCoherent}
+use Rattle.whole_law.specs.Below.journal.View.{EntryView}
+use Rattle.whole_law.specs.Below.coloured_heap.Driven.{is_driven}
+use Rattle.whole_law.specs.Below.server_model.declared.event.Event.{Event}
+use Rattle.whole_law.specs.Below.server_model.Servers.{Cluster, start_of}
+use Rattle.whole_law.specs.Below.server_model.Work.{then_some}
+use Rattle.whole_law.specs.Below.server_model.Clusters.{apply}
+use Rattle.whole_law.specs.Below.heap_law.Sight.{sight}
+use Rattle.whole_law.specs.Below.heap_law.Naming.{events_of}
+use Rattle.whole_law.specs.Below.local_law.Below.type_law.ClusterTypes.{IsCoherent}
 use Rattle.start_law.specs.Starts.{StartsAreCoherent}
-use Rattle.coherence_law.specs.Below.event_law.Laws.{Gives, FewEvents}
-use Rattle.coherence_law.proofs.Below.event_law.Results.{both_give, over_gives}
-use Rattle.coherence_law.proofs.Below.event_law.KnownSound.{servers_between}
-use Rattle.run_law.proofs.Below.code_meaning.StartLeft.{starts_left}
-use Rattle.run_law.specs.Runs.{run_of, EachKeepsCoherence}
-use Rattle.run_law.proofs.Counting.{one_more}
+use Rattle.whole_law.specs.Below.event_law.Laws.{Gives, FewEvents}
+use Rattle.whole_law.proofs.Below.event_law.Results.{both_give, over_gives}
+use Rattle.whole_law.proofs.Below.event_law.KnownSound.{servers_between}
+use Rattle.whole_law.proofs.Below.run_law.Below.code_meaning.StartLeft.{starts_left}
+use Rattle.whole_law.specs.Below.run_law.Runs.{run_of, EachKeepsCoherence}
+use Rattle.whole_law.proofs.Below.run_law.Counting.{one_more}
 use Rattle.length_law.specs.Spending.{cost, After, after_all}
 use Rattle.length_law.specs.Spending as spending
 use Rattle.length_law.specs.Driving.{plain_steps}

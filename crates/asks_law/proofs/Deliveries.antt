@@ -1,51 +1,51 @@
 -- No event but a plain step starts a thread.
 use Rattle.std.proofs.Common.{◌≡◌, ◌≤◌, ℕ, zero, suc, ◌+◌, ◌*◌, ◌-◌, ◌==◌, Bool, true, false, if◌then◌else◌, List, Option, Some, None, refl, ◌∙◌, arith}
 use Rattle.std.specs.Prelude.{slice_get, option_map, length, take, drop, is_some}
-use Rattle.local_law.specs.Below.fr_base.Lists.{one, is_in}
-use Rattle.local_law.specs.Below.fr_base.declared.name.MutexNo.{MutexNo}
-use Rattle.local_law.specs.Below.fr_base.declared.place.Lval.{Lval}
-use Rattle.local_law.specs.Below.fr_base.declared.instruction.Instr.{Instr}
-use Rattle.local_law.specs.Below.fr_base.declared.release.Released.{Released}
-use Rattle.local_law.specs.Below.fr_base.declared.release.Released.TheVariants as released
-use Rattle.local_law.specs.Below.fr_base.declared.settings.Options.{Options}
-use Rattle.local_law.specs.Below.heap_partition.declared.value.Cell.{Cell}
-use Rattle.local_law.specs.Below.heap_partition.declared.value.Owned.{Owned}
-use Rattle.local_law.specs.Below.read_cache.Cache.{Copy, can_fill, can_pin, can_evict}
-use Rattle.local_law.specs.Below.migration.Packing.{used_words, packed, unpin_all}
-use Rattle.local_law.specs.Below.mutex_home.Mutexes.{ask, give_back, more, less}
-use Rattle.local_law.specs.Below.mutex_home.declared.answers.Asked.{Asked}
-use Rattle.local_law.specs.Below.mutex_home.declared.answers.Asked.TheVariants as asked
-use Rattle.local_law.specs.Below.mutex_home.declared.answers.Back.{Back}
-use Rattle.local_law.specs.Below.mutex_home.declared.answers.Back.TheVariants as back
-use Rattle.local_law.specs.Below.join_home.Tasks.{ended, let_go_of}
-use Rattle.local_law.specs.Below.join_home.Tasks as tasks
-use Rattle.local_law.specs.Below.join_home.declared.answers.EndedAs.{EndedAs}
-use Rattle.local_law.specs.Below.join_home.declared.answers.EndedAs.TheVariants as over
-use Rattle.local_law.specs.Below.thread_state.View.{ThreadState}
-use Rattle.local_law.specs.Below.thread_state.declared.phase.Phase.TheVariants as phase
-use Rattle.local_law.specs.Below.thread_state.declared.value.Value.{Value}
-use Rattle.local_law.specs.Below.thread_state.declared.value.Value.TheVariants as value
-use Rattle.local_law.specs.Below.server_msgs.declared.message.Message.{Message}
-use Rattle.local_law.specs.Below.server_msgs.declared.message.Message.TheVariants as message
-use Rattle.coherence_law.specs.Below.journal.View.{EntryView}
-use Rattle.coherence_law.specs.Below.journal.declared.act.Act.TheVariants as act
-use Rattle.coherence_law.specs.Below.server_model.declared.event.What.{What}
-use Rattle.coherence_law.specs.Below.server_model.declared.event.What.TheVariants.{Step, Deliver, Evict, Migrate}
-use Rattle.coherence_law.specs.Below.server_model.Servers.{Sent, Server, Cluster, server_at}
-use Rattle.coherence_law.specs.Below.server_model.Work.{Work, Hand, Site, put_back, then_some, thread_in, at_thread, beside_threads, look_object, with_phase, with_mutexes, with_tasks, used_once}
-use Rattle.coherence_law.specs.Below.server_model.NewWords.{NewWord, can_grow, issue_placed}
-use Rattle.coherence_law.specs.Below.server_model.Places.{Spot, in_slot, value_at, set_pointer}
-use Rattle.coherence_law.specs.Below.server_model.Prepare.{Access, ReadTo, ReadPointer, WriteTo, LendTo, EndRef, passing, write_stars}
-use Rattle.coherence_law.specs.Below.server_model.Objects.{deliver_fetch, waits_for_cell, filled, deliver_fetched, deliver_move, chased, waits_under, arrived_at, arrived_slot, passed_spot, arrived_write, arrived_lend, arrived_end, arrived, instr_access, deliver_moved, deliver_drop}
-use Rattle.coherence_law.specs.Below.server_model.Sharing.{given, answer_lock, deliver_lock, waits_for_lock, answer_back, deliver_unlock, deliver_dup, waits_for_dup, give_up_left}
-use Rattle.coherence_law.specs.Below.server_model.Joining.{answer_join, deliver_join, waits_for_join, got_par, pair_over, end_answer, deliver_finished}
-use Rattle.coherence_law.specs.Below.server_model.Moving.{depart}
-use Rattle.coherence_law.specs.Below.server_model.Events.{begin_work, enabled, left_by, release, deliver_message, received, evict_copy, step, step_in, stepped, Stepped, does}
-use Rattle.coherence_law.specs.Below.server_model.Clusters.{done_at, hand_over_newer, with_server, with_outbox}
-use Rattle.coherence_law.specs.Below.event_law.Laws.{Gives}
-use Rattle.coherence_law.proofs.Below.event_law.Quiet.{sent_started}
-use Rattle.coherence_law.proofs.Below.event_law.Results.{then_gives, map_gives, over_gives, bind_gives, test_gives, stand_gives}
-use Rattle.local_law.proofs.Small.{Of, pointer_put}
+use Rattle.whole_law.specs.Below.local_law.Below.fr_base.Lists.{one, is_in}
+use Rattle.whole_law.specs.Below.local_law.Below.fr_base.declared.name.MutexNo.{MutexNo}
+use Rattle.whole_law.specs.Below.local_law.Below.fr_base.declared.place.Lval.{Lval}
+use Rattle.whole_law.specs.Below.local_law.Below.fr_base.declared.instruction.Instr.{Instr}
+use Rattle.whole_law.specs.Below.local_law.Below.fr_base.declared.release.Released.{Released}
+use Rattle.whole_law.specs.Below.local_law.Below.fr_base.declared.release.Released.TheVariants as released
+use Rattle.whole_law.specs.Below.local_law.Below.fr_base.declared.settings.Options.{Options}
+use Rattle.whole_law.specs.Below.local_law.Below.heap_partition.declared.value.Cell.{Cell}
+use Rattle.whole_law.specs.Below.local_law.Below.heap_partition.declared.value.Owned.{Owned}
+use Rattle.whole_law.specs.Below.local_law.Below.read_cache.Cache.{Copy, can_fill, can_pin, can_evict}
+use Rattle.whole_law.specs.Below.local_law.Below.migration.Packing.{used_words, packed, unpin_all}
+use Rattle.whole_law.specs.Below.local_law.Below.mutex_home.Mutexes.{ask, give_back, more, less}
+use Rattle.whole_law.specs.Below.local_law.Below.mutex_home.declared.answers.Asked.{Asked}
+use Rattle.whole_law.specs.Below.local_law.Below.mutex_home.declared.answers.Asked.TheVariants as asked
+use Rattle.whole_law.specs.Below.local_law.Below.mutex_home.declared.answers.Back.{Back}
+use Rattle.whole_law.specs.Below.local_law.Below.mutex_home.declared.answers.Back.TheVariants as back
+use Rattle.whole_law.specs.Below.local_law.Below.join_home.Tasks.{ended, let_go_of}
+use Rattle.whole_law.specs.Below.local_law.Below.join_home.Tasks as tasks
+use Rattle.whole_law.specs.Below.local_law.Below.join_home.declared.answers.EndedAs.{EndedAs}
+use Rattle.whole_law.specs.Below.local_law.Below.join_home.declared.answers.EndedAs.TheVariants as over
+use Rattle.whole_law.specs.Below.local_law.Below.thread_state.View.{ThreadState}
+use Rattle.whole_law.specs.Below.local_law.Below.thread_state.declared.phase.Phase.TheVariants as phase
+use Rattle.whole_law.specs.Below.local_law.Below.thread_state.declared.value.Value.{Value}
+use Rattle.whole_law.specs.Below.local_law.Below.thread_state.declared.value.Value.TheVariants as value
+use Rattle.whole_law.specs.Below.local_law.Below.server_msgs.declared.message.Message.{Message}
+use Rattle.whole_law.specs.Below.local_law.Below.server_msgs.declared.message.Message.TheVariants as message
+use Rattle.whole_law.specs.Below.journal.View.{EntryView}
+use Rattle.whole_law.specs.Below.journal.declared.act.Act.TheVariants as act
+use Rattle.whole_law.specs.Below.server_model.declared.event.What.{What}
+use Rattle.whole_law.specs.Below.server_model.declared.event.What.TheVariants.{Step, Deliver, Evict, Migrate}
+use Rattle.whole_law.specs.Below.server_model.Servers.{Sent, Server, Cluster, server_at}
+use Rattle.whole_law.specs.Below.server_model.Work.{Work, Hand, Site, put_back, then_some, thread_in, at_thread, beside_threads, look_object, with_phase, with_mutexes, with_tasks, used_once}
+use Rattle.whole_law.specs.Below.server_model.NewWords.{NewWord, can_grow, issue_placed}
+use Rattle.whole_law.specs.Below.server_model.Places.{Spot, in_slot, value_at, set_pointer}
+use Rattle.whole_law.specs.Below.server_model.Prepare.{Access, ReadTo, ReadPointer, WriteTo, LendTo, EndRef, passing, write_stars}
+use Rattle.whole_law.specs.Below.server_model.Objects.{deliver_fetch, waits_for_cell, filled, deliver_fetched, deliver_move, chased, waits_under, arrived_at, arrived_slot, passed_spot, arrived_write, arrived_lend, arrived_end, arrived, instr_access, deliver_moved, deliver_drop}
+use Rattle.whole_law.specs.Below.server_model.Sharing.{given, answer_lock, deliver_lock, waits_for_lock, answer_back, deliver_unlock, deliver_dup, waits_for_dup, give_up_left}
+use Rattle.whole_law.specs.Below.server_model.Joining.{answer_join, deliver_join, waits_for_join, got_par, pair_over, end_answer, deliver_finished}
+use Rattle.whole_law.specs.Below.server_model.Moving.{depart}
+use Rattle.whole_law.specs.Below.server_model.Events.{begin_work, enabled, left_by, release, deliver_message, received, evict_copy, step, step_in, stepped, Stepped, does}
+use Rattle.whole_law.specs.Below.server_model.Clusters.{done_at, hand_over_newer, with_server, with_outbox}
+use Rattle.whole_law.specs.Below.event_law.Laws.{Gives}
+use Rattle.whole_law.proofs.Below.event_law.Quiet.{sent_started}
+use Rattle.whole_law.proofs.Below.event_law.Results.{then_gives, map_gives, over_gives, bind_gives, test_gives, stand_gives}
+use Rattle.whole_law.proofs.Below.local_law.Small.{Of, pointer_put}
 use Rattle.length_law.specs.Credit.{begun}
 use Rattle.length_law.proofs.Events.{server_set, begun_all}
 use Rattle.asks_law.specs.Starting.{PlainStepsStartTwo}
@@ -218,7 +218,7 @@ module _ (code : List Instr) (o : Options) (s : Server) where
   evicting : (w : ℕ) → Gives Few (does code o s (Evict w))
   evicting w = by (can_evict s.rest.cache w)
     where
-      by : (q : Bool) → Gives Few (option_map (left_by s.events None None) (option_map (λ x. record (Rattle.coherence_law.specs.Below.server_model.Events.begin_at s) { work = x }) (if q then Some (Rattle.coherence_law.specs.Below.server_model.Work.note (act.Evict w) (Rattle.coherence_law.specs.Below.server_model.Work.with_cache (Rattle.local_law.specs.Below.read_cache.Cache.evict s.rest.cache w) (begin_work s.rest))) else None)))
+      by : (q : Bool) → Gives Few (option_map (left_by s.events None None) (option_map (λ x. record (Rattle.whole_law.specs.Below.server_model.Events.begin_at s) { work = x }) (if q then Some (Rattle.whole_law.specs.Below.server_model.Work.note (act.Evict w) (Rattle.whole_law.specs.Below.server_model.Work.with_cache (Rattle.whole_law.specs.Below.local_law.Below.read_cache.Cache.evict s.rest.cache w) (begin_work s.rest))) else None)))
       by true = omega arith
       by false = tt
 
@@ -226,14 +226,14 @@ module _ (code : List Instr) (o : Options) (s : Server) where
   leaving t target = by (thread_in s.threads t)
     where
       packs : (y : ThreadState) (l : Option (List Copy))
-          → Gives Few (option_map (left_by s.events (Some t) None) (option_map (λ p. record { work = depart target (begin_work s.rest) p; threads = Rattle.coherence_law.specs.Below.server_model.Work.without_thread s.threads t }) (option_map (λ left. (packed (record y { moved_since_step = true }), left)) l)))
+          → Gives Few (option_map (left_by s.events (Some t) None) (option_map (λ p. record { work = depart target (begin_work s.rest) p; threads = Rattle.whole_law.specs.Below.server_model.Work.without_thread s.threads t }) (option_map (λ left. (packed (record y { moved_since_step = true }), left)) l)))
       packs y None = tt
       packs y (Some cs) = let q = sent_started (record s.rest { cache = cs }) target (message.Migrate (packed (record y { moved_since_step = true }))) in omega (arith, q)
 
       by : (x : Option ThreadState)
           → Gives Few
           (option_map (left_by s.events (Some t) None)
-          (then_some x (λ y. option_map (λ p. record { work = depart target (begin_work s.rest) p; threads = Rattle.coherence_law.specs.Below.server_model.Work.without_thread s.threads t }) (option_map (λ left. (packed (record y { moved_since_step = true }), left)) (unpin_all (used_words y) s.rest.cache)))))
+          (then_some x (λ y. option_map (λ p. record { work = depart target (begin_work s.rest) p; threads = Rattle.whole_law.specs.Below.server_model.Work.without_thread s.threads t }) (option_map (λ left. (packed (record y { moved_since_step = true }), left)) (unpin_all (used_words y) s.rest.cache)))))
       by None = tt
       by (Some y) = packs y (unpin_all (used_words y) s.rest.cache)
 

@@ -2,22 +2,22 @@
 use Rattle.std.proofs.Common.{◌≡◌, ◌≤◌, ℕ, ◌+◌, ◌==◌, ◌&&◌, not, Bool, true, false, if◌then◌else◌, List, [], ◌∷◌, ◌++◌, length, Option, Some, None, refl, sym, ap, subst, ◌∙◌, arith}
 use Rattle.std.proofs.lemmas.Bool.Decides.{nat_tests}
 use Rattle.std.specs.Prelude.{is_some, is_none, map}
-use Rattle.local_law.specs.Below.fr_base.Lists.{tot, one}
-use Rattle.local_law.specs.Below.fr_base.Names.{home_of}
-use Rattle.local_law.specs.Below.fr_base.declared.label.Label.{Label}
-use Rattle.local_law.specs.Below.fr_base.declared.label.Label.TheVariants as label
-use Rattle.local_law.specs.Below.fr_base.declared.settings.Options.{Options}
-use Rattle.local_law.specs.Below.fr_base.declared.step.Fresh.{Fresh}
-use Rattle.local_law.specs.Below.fr_base.declared.step.Fresh.TheVariants as fresh
-use Rattle.coherence_law.specs.Below.journal.declared.act.Act.{Act}
-use Rattle.coherence_law.specs.Below.journal.declared.act.Act.TheVariants as act
-use Rattle.coherence_law.specs.Below.journal.View.{EntryView}
-use Rattle.coherence_law.specs.Below.coloured_heap.Lists.{first, holds, with_each}
-use Rattle.coherence_law.specs.Below.coloured_heap.Heap.{Running, Coloured, is_thread, thread_at}
-use Rattle.coherence_law.specs.Below.coloured_heap.Rules.{allows, rule, is_by, of_run, is_new, issued_by, starting_server}
-use Rattle.coherence_law.specs.Below.coloured_heap.Changes.{after_act, stored, with_new_mutex}
-use Rattle.coherence_law.specs.Below.coloured_heap.Legal.{is_placed, acts_after, is_new_name, with_mutex, settled, entry_after}
-use Rattle.coherence_law.specs.Below.coloured_heap.Driven.{departing}
+use Rattle.whole_law.specs.Below.local_law.Below.fr_base.Lists.{tot, one}
+use Rattle.whole_law.specs.Below.local_law.Below.fr_base.Names.{home_of}
+use Rattle.whole_law.specs.Below.local_law.Below.fr_base.declared.label.Label.{Label}
+use Rattle.whole_law.specs.Below.local_law.Below.fr_base.declared.label.Label.TheVariants as label
+use Rattle.whole_law.specs.Below.local_law.Below.fr_base.declared.settings.Options.{Options}
+use Rattle.whole_law.specs.Below.local_law.Below.fr_base.declared.step.Fresh.{Fresh}
+use Rattle.whole_law.specs.Below.local_law.Below.fr_base.declared.step.Fresh.TheVariants as fresh
+use Rattle.whole_law.specs.Below.journal.declared.act.Act.{Act}
+use Rattle.whole_law.specs.Below.journal.declared.act.Act.TheVariants as act
+use Rattle.whole_law.specs.Below.journal.View.{EntryView}
+use Rattle.whole_law.specs.Below.coloured_heap.Lists.{first, holds, with_each}
+use Rattle.whole_law.specs.Below.coloured_heap.Heap.{Running, Coloured, is_thread, thread_at}
+use Rattle.whole_law.specs.Below.coloured_heap.Rules.{allows, rule, is_by, of_run, is_new, issued_by, starting_server}
+use Rattle.whole_law.specs.Below.coloured_heap.Changes.{after_act, stored, with_new_mutex}
+use Rattle.whole_law.specs.Below.coloured_heap.Legal.{is_placed, acts_after, is_new_name, with_mutex, settled, entry_after}
+use Rattle.whole_law.specs.Below.coloured_heap.Driven.{departing}
 use Rattle.length_law.proofs.Driven.{among, Once, right_true, one_more_rests}
 use Rattle.asks_law.specs.Resting.{is_start}
 

@@ -1,6 +1,6 @@
 -- A driven run of a program is one of its code, which has a table.
 use Rattle.table_law.specs.Tables.{HasTable, ProgramsHaveTables}
-use Rattle.run_law.specs.Runs.{EachKeepsCoherence}
+use Rattle.whole_law.specs.Below.run_law.Runs.{EachKeepsCoherence}
 use Rattle.asks_law.specs.Code.{DrivenRunsOfCodeAreShort}
 use Rattle.asks_law.specs.Short.{DrivenRunsOfProgramsAreShort}
 

@@ -1,13 +1,13 @@
 -- Who rests at the end of a driven journal was started, each once.
 use Rattle.std.proofs.Common.{◌≡◌, ◌≤◌, ℕ, zero, suc, ◌+◌, ◌==◌, ◌&&◌, Bool, true, false, if◌then◌else◌, List, [], ◌∷◌, length, Option, Some, None, refl, subst, arith}
 use Rattle.std.proofs.lemmas.Bool.Decides.{nat_tests}
-use Rattle.local_law.specs.Below.fr_base.Lists.{one}
-use Rattle.local_law.specs.Below.fr_base.declared.settings.Options.{Options}
-use Rattle.coherence_law.specs.Below.journal.View.{EntryView}
-use Rattle.coherence_law.specs.Below.coloured_heap.Lists.{holds}
-use Rattle.coherence_law.specs.Below.coloured_heap.Heap.{Coloured, start}
-use Rattle.coherence_law.specs.Below.coloured_heap.Legal.{entry_after}
-use Rattle.coherence_law.specs.Below.coloured_heap.Driven.{are_due, departing, may_depart, resting, driven_from}
+use Rattle.whole_law.specs.Below.local_law.Below.fr_base.Lists.{one}
+use Rattle.whole_law.specs.Below.local_law.Below.fr_base.declared.settings.Options.{Options}
+use Rattle.whole_law.specs.Below.journal.View.{EntryView}
+use Rattle.whole_law.specs.Below.coloured_heap.Lists.{holds}
+use Rattle.whole_law.specs.Below.coloured_heap.Heap.{Coloured, start}
+use Rattle.whole_law.specs.Below.coloured_heap.Legal.{entry_after}
+use Rattle.whole_law.specs.Below.coloured_heap.Driven.{are_due, departing, may_depart, resting, driven_from}
 use Rattle.length_law.specs.Driving.{resting_after}
 use Rattle.length_law.proofs.Driven.{among, Once, left_true, right_true, movers_rest, entry_rests}
 use Rattle.asks_law.specs.Resting.{starts_in, FewRest}

@@ -2,28 +2,28 @@
 use Rattle.std.proofs.Common.{◌≡◌, ◌≤◌, ℕ, zero, suc, ◌+◌, ◌*◌, ◌==◌, ◌&&◌, Bool, true, false, List, [], ◌∷◌, length, Option, Some, None, refl, sym, ap, subst, ◌∙◌, arith}
 use Rattle.std.proofs.lemmas.Bool.Decides.{nat_tests}
 use Rattle.std.specs.Prelude.{is_some, slice_get, option_map}
-use Rattle.local_law.specs.Below.fr_base.Lists.{tot, one}
-use Rattle.local_law.specs.Below.fr_base.declared.instruction.Instr.{Instr}
-use Rattle.local_law.specs.Below.fr_base.declared.settings.Options.{Options}
-use Rattle.local_law.specs.Below.fr_base.declared.step.Fresh.{Fresh}
-use Rattle.local_law.specs.Below.thread_state.View.{ThreadState}
-use Rattle.coherence_law.specs.Below.journal.View.{EntryView}
-use Rattle.coherence_law.specs.Below.coloured_heap.Lists.{holds}
-use Rattle.coherence_law.specs.Below.coloured_heap.Heap.{Coloured, start}
-use Rattle.coherence_law.specs.Below.coloured_heap.Legal.{entry_after}
-use Rattle.coherence_law.specs.Below.coloured_heap.Driven.{are_due, departing, may_depart, resting, driven_from, is_driven}
-use Rattle.coherence_law.specs.Below.server_model.declared.event.Event.{Event}
-use Rattle.coherence_law.specs.Below.server_model.declared.event.What.{What}
-use Rattle.coherence_law.specs.Below.server_model.declared.event.What.TheVariants.{Step, Deliver, Evict, Migrate}
-use Rattle.coherence_law.specs.Below.server_model.Servers.{Server, Cluster, server_at, start_of}
-use Rattle.coherence_law.specs.Below.server_model.Work.{Hand, thread_in, then_some}
-use Rattle.coherence_law.specs.Below.server_model.Events.{Stepped, begin_work, enabled, step, step_in, stepped, does}
-use Rattle.coherence_law.specs.Below.server_model.Clusters.{apply, done_at}
-use Rattle.coherence_law.specs.Below.event_law.Laws.{Gives, FewEvents}
-use Rattle.local_law.specs.Below.type_law.ClusterTypes.{IsCoherent}
-use Rattle.coherence_law.proofs.Below.event_law.Results.{then_gives, over_gives, bind_gives, test_gives, both_give, weaker, given_by}
-use Rattle.coherence_law.proofs.Below.event_law.Bags.{thread_number}
-use Rattle.local_law.proofs.Plainly.{EndsStep}
+use Rattle.whole_law.specs.Below.local_law.Below.fr_base.Lists.{tot, one}
+use Rattle.whole_law.specs.Below.local_law.Below.fr_base.declared.instruction.Instr.{Instr}
+use Rattle.whole_law.specs.Below.local_law.Below.fr_base.declared.settings.Options.{Options}
+use Rattle.whole_law.specs.Below.local_law.Below.fr_base.declared.step.Fresh.{Fresh}
+use Rattle.whole_law.specs.Below.local_law.Below.thread_state.View.{ThreadState}
+use Rattle.whole_law.specs.Below.journal.View.{EntryView}
+use Rattle.whole_law.specs.Below.coloured_heap.Lists.{holds}
+use Rattle.whole_law.specs.Below.coloured_heap.Heap.{Coloured, start}
+use Rattle.whole_law.specs.Below.coloured_heap.Legal.{entry_after}
+use Rattle.whole_law.specs.Below.coloured_heap.Driven.{are_due, departing, may_depart, resting, driven_from, is_driven}
+use Rattle.whole_law.specs.Below.server_model.declared.event.Event.{Event}
+use Rattle.whole_law.specs.Below.server_model.declared.event.What.{What}
+use Rattle.whole_law.specs.Below.server_model.declared.event.What.TheVariants.{Step, Deliver, Evict, Migrate}
+use Rattle.whole_law.specs.Below.server_model.Servers.{Server, Cluster, server_at, start_of}
+use Rattle.whole_law.specs.Below.server_model.Work.{Hand, thread_in, then_some}
+use Rattle.whole_law.specs.Below.server_model.Events.{Stepped, begin_work, enabled, step, step_in, stepped, does}
+use Rattle.whole_law.specs.Below.server_model.Clusters.{apply, done_at}
+use Rattle.whole_law.specs.Below.event_law.Laws.{Gives, FewEvents}
+use Rattle.whole_law.specs.Below.local_law.Below.type_law.ClusterTypes.{IsCoherent}
+use Rattle.whole_law.proofs.Below.event_law.Results.{then_gives, over_gives, bind_gives, test_gives, both_give, weaker, given_by}
+use Rattle.whole_law.proofs.Below.event_law.Bags.{thread_number}
+use Rattle.whole_law.proofs.Below.local_law.Plainly.{EndsStep}
 use Rattle.length_law.specs.Credit.{begun, rest_worth}
 use Rattle.length_law.specs.Spending.{cost, After, one_more, after_all}
 use Rattle.length_law.specs.Driving.{is_step, steps_in, plain_steps, resting_after}

@@ -2,37 +2,37 @@
 use Rattle.std.proofs.Common.{◌≡◌, ◌≤◌, ℕ, ◌+◌, ◌*◌, Bool, true, false, List, Option, Some, None, refl, subst, ◌∙◌, arith}
 use Rattle.std.specs.Prelude.{option_map, is_some}
 use Rattle.std.specs.Bool.{⊤}
-use Rattle.local_law.specs.Below.fr_base.Lists.{one}
-use Rattle.local_law.specs.Below.fr_base.declared.step.Fresh.{Fresh}
-use Rattle.local_law.specs.Below.fr_base.declared.instruction.Instr.{Instr}
-use Rattle.local_law.specs.Below.fr_base.declared.instruction.Instr.TheVariants as instr
-use Rattle.local_law.specs.Below.heap_partition.declared.value.Owned.{Owned}
-use Rattle.local_law.specs.Below.heap_partition.declared.value.Owned.TheVariants as owned
-use Rattle.local_law.specs.Below.mutex_home.Mutexes.{can_make}
-use Rattle.local_law.specs.Below.join_home.Tasks.{can_begin, can_begin_pair}
-use Rattle.local_law.specs.Below.thread_state.View.{ThreadState}
-use Rattle.local_law.specs.Below.thread_state.declared.phase.Phase.{Phase}
-use Rattle.local_law.specs.Below.thread_state.declared.phase.Phase.TheVariants as phase
-use Rattle.local_law.specs.Below.thread_state.declared.value.Value.{Value}
-use Rattle.local_law.specs.Below.thread_state.declared.value.Value.TheVariants as value
-use Rattle.local_law.specs.Below.server_msgs.declared.message.Message.TheVariants as message
-use Rattle.coherence_law.specs.Below.journal.declared.act.Act.TheVariants as act
-use Rattle.local_law.specs.Below.global_addr.Words.{server_of}
-use Rattle.coherence_law.specs.Below.server_model.Servers.{Rest}
-use Rattle.coherence_law.specs.Below.server_model.Work.{Work, Hand, with_phase}
-use Rattle.coherence_law.specs.Below.server_model.NewWords.{NewWord, can_grow, issue_placed}
-use Rattle.coherence_law.specs.Below.server_model.Start.{next_thread, start_thread, capture}
-use Rattle.coherence_law.specs.Below.server_model.Drop.{give_up}
-use Rattle.coherence_law.specs.Below.server_model.Places.{Spot}
-use Rattle.coherence_law.specs.Below.server_model.Prepare.{Prepared, ready, requested, nothing, access_of, prepare}
-use Rattle.coherence_law.specs.Below.server_model.Commit.{Committed, done, waits, refused, label_dropped, done_where, go_on, next_object, push_box, begun, pair_begun, spawn_with, end_with, waiting, ask_join, ask_dup, ask_lock, mutex_at, join, dup, lock, commit}
-use Rattle.coherence_law.specs.Below.server_model.Events.{Stepped, done_step, committed, prepared, step}
-use Rattle.coherence_law.specs.Below.event_law.Laws.{Gives}
-use Rattle.coherence_law.proofs.Below.event_law.Quiet.{sent_started}
-use Rattle.coherence_law.proofs.Below.event_law.Results.{then_gives, over_gives, test_gives, both_give}
-use Rattle.local_law.proofs.Small.{Of, Places, Small, Made, prepare_makes}
-use Rattle.local_law.proofs.Plainly.{Settles, moves_by, Acts, EndsStep, steps}
-use Rattle.local_law.proofs.Goes.{Any, AnyWord, puts_by}
+use Rattle.whole_law.specs.Below.local_law.Below.fr_base.Lists.{one}
+use Rattle.whole_law.specs.Below.local_law.Below.fr_base.declared.step.Fresh.{Fresh}
+use Rattle.whole_law.specs.Below.local_law.Below.fr_base.declared.instruction.Instr.{Instr}
+use Rattle.whole_law.specs.Below.local_law.Below.fr_base.declared.instruction.Instr.TheVariants as instr
+use Rattle.whole_law.specs.Below.local_law.Below.heap_partition.declared.value.Owned.{Owned}
+use Rattle.whole_law.specs.Below.local_law.Below.heap_partition.declared.value.Owned.TheVariants as owned
+use Rattle.whole_law.specs.Below.local_law.Below.mutex_home.Mutexes.{can_make}
+use Rattle.whole_law.specs.Below.local_law.Below.join_home.Tasks.{can_begin, can_begin_pair}
+use Rattle.whole_law.specs.Below.local_law.Below.thread_state.View.{ThreadState}
+use Rattle.whole_law.specs.Below.local_law.Below.thread_state.declared.phase.Phase.{Phase}
+use Rattle.whole_law.specs.Below.local_law.Below.thread_state.declared.phase.Phase.TheVariants as phase
+use Rattle.whole_law.specs.Below.local_law.Below.thread_state.declared.value.Value.{Value}
+use Rattle.whole_law.specs.Below.local_law.Below.thread_state.declared.value.Value.TheVariants as value
+use Rattle.whole_law.specs.Below.local_law.Below.server_msgs.declared.message.Message.TheVariants as message
+use Rattle.whole_law.specs.Below.journal.declared.act.Act.TheVariants as act
+use Rattle.whole_law.specs.Below.local_law.Below.global_addr.Words.{server_of}
+use Rattle.whole_law.specs.Below.server_model.Servers.{Rest}
+use Rattle.whole_law.specs.Below.server_model.Work.{Work, Hand, with_phase}
+use Rattle.whole_law.specs.Below.server_model.NewWords.{NewWord, can_grow, issue_placed}
+use Rattle.whole_law.specs.Below.server_model.Start.{next_thread, start_thread, capture}
+use Rattle.whole_law.specs.Below.server_model.Drop.{give_up}
+use Rattle.whole_law.specs.Below.server_model.Places.{Spot}
+use Rattle.whole_law.specs.Below.server_model.Prepare.{Prepared, ready, requested, nothing, access_of, prepare}
+use Rattle.whole_law.specs.Below.server_model.Commit.{Committed, done, waits, refused, label_dropped, done_where, go_on, next_object, push_box, begun, pair_begun, spawn_with, end_with, waiting, ask_join, ask_dup, ask_lock, mutex_at, join, dup, lock, commit}
+use Rattle.whole_law.specs.Below.server_model.Events.{Stepped, done_step, committed, prepared, step}
+use Rattle.whole_law.specs.Below.event_law.Laws.{Gives}
+use Rattle.whole_law.proofs.Below.event_law.Quiet.{sent_started}
+use Rattle.whole_law.proofs.Below.event_law.Results.{then_gives, over_gives, test_gives, both_give}
+use Rattle.whole_law.proofs.Below.local_law.Small.{Of, Places, Small, Made, prepare_makes}
+use Rattle.whole_law.proofs.Below.local_law.Plainly.{Settles, moves_by, Acts, EndsStep, steps}
+use Rattle.whole_law.proofs.Below.local_law.Goes.{Any, AnyWord, puts_by}
 
 -- a thread that has asked
 abbrev pub HasAsked : Phase → Type 0

@@ -1,15 +1,15 @@
 -- HOW OFTEN THREADS ASK, AND SO HOW LONG A RUN GETS (this project's rules): what single events do to the number of asks that a thread has left bounds whole runs.
 use Rattle.std.specs.Prelude.{◌≡◌, ◌≤◌, ℕ, ◌+◌, ◌*◌, true, List, [], ◌∷◌, length, None}
-use Rattle.local_law.specs.Below.fr_base.declared.instruction.Instr.{Instr}
-use Rattle.local_law.specs.Below.fr_base.declared.settings.Options.{Options}
-use Rattle.coherence_law.specs.Below.journal.View.{EntryView}
-use Rattle.coherence_law.specs.Below.coloured_heap.Driven.{is_driven}
-use Rattle.coherence_law.specs.Below.server_model.declared.event.Event.{Event}
-use Rattle.coherence_law.specs.Below.server_model.declared.event.What.TheVariants.{Step}
-use Rattle.coherence_law.specs.Below.server_model.Servers.{Cluster, start_of}
-use Rattle.coherence_law.specs.Below.server_model.Clusters.{apply}
-use Rattle.coherence_law.specs.Below.event_law.Laws.{Gives, FewEvents}
-use Rattle.local_law.specs.Below.type_law.ClusterTypes.{IsCoherent}
+use Rattle.whole_law.specs.Below.local_law.Below.fr_base.declared.instruction.Instr.{Instr}
+use Rattle.whole_law.specs.Below.local_law.Below.fr_base.declared.settings.Options.{Options}
+use Rattle.whole_law.specs.Below.journal.View.{EntryView}
+use Rattle.whole_law.specs.Below.coloured_heap.Driven.{is_driven}
+use Rattle.whole_law.specs.Below.server_model.declared.event.Event.{Event}
+use Rattle.whole_law.specs.Below.server_model.declared.event.What.TheVariants.{Step}
+use Rattle.whole_law.specs.Below.server_model.Servers.{Cluster, start_of}
+use Rattle.whole_law.specs.Below.server_model.Clusters.{apply}
+use Rattle.whole_law.specs.Below.event_law.Laws.{Gives, FewEvents}
+use Rattle.whole_law.specs.Below.local_law.Below.type_law.ClusterTypes.{IsCoherent}
 use Rattle.length_law.specs.Spending.{After, after_all}
 use Rattle.length_law.specs.Driving.{steps_in, plain_steps}
 use Rattle.asks_law.specs.Resting.{threads_in}

@@ -1,16 +1,16 @@
 -- HOW LONG A DRIVEN RUN OF CODE GETS (this project's rule): a hundred entries at most for each plain step and each thread.
 use Rattle.std.specs.Prelude.{◌≡◌, ◌≤◌, ◌<◌, ◌+◌, ◌*◌, ◌^◌, true, List, length}
-use Rattle.local_law.specs.Below.fr_base.declared.instruction.Instr.{Instr}
-use Rattle.local_law.specs.Below.fr_base.declared.settings.Options.{Options}
-use Rattle.local_law.specs.Below.fr_code.CodeTypes.{Table}
-use Rattle.local_law.specs.Below.fr_code.CodeTable.{IsTable}
-use Rattle.coherence_law.specs.Below.journal.View.{EntryView}
-use Rattle.coherence_law.specs.Below.coloured_heap.Driven.{is_driven}
-use Rattle.coherence_law.specs.Below.server_model.declared.event.Event.{Event}
-use Rattle.coherence_law.specs.Below.server_model.Servers.{Cluster, start_of}
-use Rattle.coherence_law.specs.Below.heap_law.Naming.{options_out}
-use Rattle.coherence_law.specs.Below.event_law.Laws.{Gives}
-use Rattle.run_law.specs.Runs.{run_of, EachKeepsCoherence}
+use Rattle.whole_law.specs.Below.local_law.Below.fr_base.declared.instruction.Instr.{Instr}
+use Rattle.whole_law.specs.Below.local_law.Below.fr_base.declared.settings.Options.{Options}
+use Rattle.whole_law.specs.Below.local_law.Below.fr_code.CodeTypes.{Table}
+use Rattle.whole_law.specs.Below.local_law.Below.fr_code.CodeTable.{IsTable}
+use Rattle.whole_law.specs.Below.journal.View.{EntryView}
+use Rattle.whole_law.specs.Below.coloured_heap.Driven.{is_driven}
+use Rattle.whole_law.specs.Below.server_model.declared.event.Event.{Event}
+use Rattle.whole_law.specs.Below.server_model.Servers.{Cluster, start_of}
+use Rattle.whole_law.specs.Below.heap_law.Naming.{options_out}
+use Rattle.whole_law.specs.Below.event_law.Laws.{Gives}
+use Rattle.whole_law.specs.Below.run_law.Runs.{run_of, EachKeepsCoherence}
 use Rattle.length_law.specs.Driving.{plain_steps}
 use Rattle.asks_law.specs.Resting.{threads_in}
 use Rattle.asks_law.specs.Asking.{AsksLeft}

@@ -1,3 +1,4 @@
+pub mod Below
 pub mod Resting
 pub mod Asking
 pub mod Starting

@@ -1,11 +1,11 @@
 -- WHO RESTS AT THE END OF A DRIVEN JOURNAL (this project's rule): threads that stand on the coloured heap, each once.
 use Rattle.std.specs.Prelude.{◌≡◌, ◌≤◌, ℕ, ◌+◌, Bool, true, false, List, [], length}
-use Rattle.local_law.specs.Below.fr_base.declared.settings.Options.{Options}
-use Rattle.coherence_law.specs.Below.journal.declared.act.Act.{Act}
-use Rattle.coherence_law.specs.Below.journal.declared.act.Act.TheVariants as act
-use Rattle.coherence_law.specs.Below.journal.View.{EntryView}
-use Rattle.coherence_law.specs.Below.coloured_heap.Driven.{is_driven}
-use Rattle.coherence_law.specs.Below.coloured_heap.Figures.{acts_that}
+use Rattle.whole_law.specs.Below.local_law.Below.fr_base.declared.settings.Options.{Options}
+use Rattle.whole_law.specs.Below.journal.declared.act.Act.{Act}
+use Rattle.whole_law.specs.Below.journal.declared.act.Act.TheVariants as act
+use Rattle.whole_law.specs.Below.journal.View.{EntryView}
+use Rattle.whole_law.specs.Below.coloured_heap.Driven.{is_driven}
+use Rattle.whole_law.specs.Below.coloured_heap.Figures.{acts_that}
 use Rattle.length_law.specs.Driving.{resting_after}
 
 -- a thread starts

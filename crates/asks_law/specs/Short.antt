@@ -1,12 +1,12 @@
 -- HOW LONG A DRIVEN RUN OF A PROGRAM GETS (this project's rule): a hundred entries at most for each plain step and each thread.
 use Rattle.std.specs.Prelude.{◌≡◌, ◌≤◌, ◌<◌, ◌+◌, ◌*◌, ◌^◌, true, List, length}
-use Rattle.coherence_law.specs.Below.journal.View.{EntryView}
-use Rattle.coherence_law.specs.Below.coloured_heap.Driven.{is_driven}
-use Rattle.coherence_law.specs.Below.server_model.declared.event.Event.{Event}
-use Rattle.coherence_law.specs.Below.server_model.Servers.{Cluster, start_of}
-use Rattle.coherence_law.specs.Below.event_law.Laws.{Gives}
+use Rattle.whole_law.specs.Below.journal.View.{EntryView}
+use Rattle.whole_law.specs.Below.coloured_heap.Driven.{is_driven}
+use Rattle.whole_law.specs.Below.server_model.declared.event.Event.{Event}
+use Rattle.whole_law.specs.Below.server_model.Servers.{Cluster, start_of}
+use Rattle.whole_law.specs.Below.event_law.Laws.{Gives}
 use Rattle.whole_law.specs.Programs.{Given}
-use Rattle.run_law.specs.Runs.{run_of}
+use Rattle.whole_law.specs.Below.run_law.Runs.{run_of}
 use Rattle.length_law.specs.Driving.{plain_steps}
 use Rattle.asks_law.specs.Resting.{threads_in}
 use Rattle.asks_law.specs.Asking.{AsksLeft}

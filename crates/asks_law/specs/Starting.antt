@@ -1,13 +1,13 @@
 -- HOW MANY THREADS A RUN STARTS (this project's rule): at most two with each plain step, and none else.
 use Rattle.std.specs.Prelude.{◌≤◌, ◌+◌, ◌*◌, is_some, List}
-use Rattle.local_law.specs.Below.fr_base.Lists.{one}
-use Rattle.local_law.specs.Below.fr_base.declared.instruction.Instr.{Instr}
-use Rattle.local_law.specs.Below.fr_base.declared.settings.Options.{Options}
-use Rattle.coherence_law.specs.Below.journal.View.{EntryView}
-use Rattle.coherence_law.specs.Below.server_model.declared.event.Event.{Event}
-use Rattle.coherence_law.specs.Below.server_model.Servers.{Cluster, start_of}
-use Rattle.coherence_law.specs.Below.server_model.Clusters.{apply}
-use Rattle.coherence_law.specs.Below.event_law.Laws.{Gives}
+use Rattle.whole_law.specs.Below.local_law.Below.fr_base.Lists.{one}
+use Rattle.whole_law.specs.Below.local_law.Below.fr_base.declared.instruction.Instr.{Instr}
+use Rattle.whole_law.specs.Below.local_law.Below.fr_base.declared.settings.Options.{Options}
+use Rattle.whole_law.specs.Below.journal.View.{EntryView}
+use Rattle.whole_law.specs.Below.server_model.declared.event.Event.{Event}
+use Rattle.whole_law.specs.Below.server_model.Servers.{Cluster, start_of}
+use Rattle.whole_law.specs.Below.server_model.Clusters.{apply}
+use Rattle.whole_law.specs.Below.event_law.Laws.{Gives}
 use Rattle.length_law.specs.Credit.{begun}
 use Rattle.length_law.specs.Spending.{After, after_all}
 use Rattle.length_law.specs.Driving.{plain_steps}

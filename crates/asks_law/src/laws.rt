@@ -6,9 +6,9 @@ ghost use Rattle.asks_law.specs.Starting.{PlainStepsStartTwo, RunsStartFew};
 ghost use Rattle.asks_law.specs.Code.{DrivenRunsOfCodeAreShort};
 ghost use Rattle.asks_law.specs.Short.{DrivenRunsOfProgramsAreShort};
 
-use coherence_law::events_keep_coherence;
 use start_law::starts_are_coherent;
 use table_law::typed_code_has_table;
+use whole_law::events_keep_coherence;
 
 /// At the end of a driven journal no more threads rest than there are: those that its acts start, and main.
 pub fn few_rest()

@@ -6,3 +6,4 @@ mod laws;
 pub use laws::{
     driven_runs_of_code_are_short, driven_runs_of_programs_are_short, few_rest, few_start, runs_end,
 };
+pub use whole_law::events_keep_coherence;

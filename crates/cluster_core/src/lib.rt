@@ -10,4 +10,6 @@ mod standing;
 mod waiting;
 
 pub use cluster::Cluster;
+// each event that a cluster does keeps it coherent
+pub use coherence_law::events_keep_coherence;
 pub use refused::Refused;

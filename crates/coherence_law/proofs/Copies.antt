@@ -23,7 +23,7 @@ use Rattle.heap_law.specs.Below.server_model.declared.event.Event.{Event}
 use Rattle.end_law.specs.Below.word_law.Unmoved.{Delivers}
 use Rattle.ever_issued_law.specs.Below.carry_law.Steps.{a_let, a_mutex, a_join, an_end}
 use Rattle.bare_law.specs.Below.refs_law.Starts.{a_thread, a_pair}
-use Rattle.regain_law.proofs.Arrivals.{none_done}
+use Rattle.landed_law.proofs.Below.regain_law.Arrivals.{none_done}
 use Rattle.ever_issued_law.specs.Below.copy_law.Copies.{CopiesAreRight, KeepCopies, puts_back}
 use Rattle.ever_issued_law.proofs.Below.copy_law.KeptCopies.{keep_copies, carried_copies, dropped_copies}
 use Rattle.bare_law.specs.Below.clean_law.Clean.{a_copy, a_dup, a_lock}

@@ -24,8 +24,8 @@ use Rattle.end_law.proofs.Passed.{passed_follows}
 use Rattle.local_law.specs.Laws.{EachEventKeeps, EachCoherentEventKeeps}
 use Rattle.wait_law.specs.Below.prepare_law.Requests.{WordsHold}
 use Rattle.content_law.specs.Contents.{OneContent, EachEventLeavesOneContent}
-use Rattle.regain_law.specs.Events.{EventsKeepWords}
-use Rattle.apart_law.specs.Words.{ObjectsStayApart}
+use Rattle.landed_law.specs.Below.regain_law.Events.{EventsKeepWords}
+use Rattle.ever_issued_law.specs.Below.apart_law.Words.{ObjectsStayApart}
 use Rattle.coherence_law.specs.Copies.{EventsKeepCopies}
 use Rattle.ever_issued_law.specs.Standing.{Settled}
 use Rattle.ever_issued_law.specs.Issued.{EachEventIssues}

@@ -6,23 +6,19 @@ ghost use Rattle.coherence_law.specs.Owning.{AgreeingEnd, EventsThatAgreeEnd};
 ghost use Rattle.coherence_law.specs.Types.{EventsKeepTypes, EventsStandOnce};
 ghost use Rattle.coherence_law.specs.Ends.{EndsStay};
 
-use apart_law::objects_stay_apart;
 use ask_law::{answers_keep, gifts_keep, pairs_keep};
-use bare_law::each_event_uncopied;
+use bare_law::{all_land, each_event_uncopied, steps_keep_walks, taken_stays};
 use bound_law::{counts_keep, walks_keep};
 use content_law::contents_keep;
 use end_law::objects_follow;
 use event_law::every::each_event_handed_over;
-use ever_issued_law::each_event_issues;
+use ever_issued_law::{each_event_issues, objects_stay_apart};
 use heap_law::laws::some_follow;
-use land_law::all_land;
+use landed_law::events_keep_words;
 use local_law::{messages_keep, servers_keep, threads_keep, threads_keep_to_code};
-use regain_law::events_keep_words;
-use taken_law::taken_stays;
 use typed_parts_law::parts_keep;
 use value_law::{askers_keep, names_keep, values_keep_to_code};
 use wait_law::waits_keep;
-use way_law::steps_keep_walks;
 
 /// From a coherent cluster in which few events were done, each event that has a result, its messages handed over, leaves a cluster in which the code of each thread that is
 /// over ends with the type that its task has afterwards, by whatever types of names by which those that were given before have the types that they had: the thread was over,

@@ -7,3 +7,5 @@ pub use laws::{
     arrivals_keep_copies, borrow_arrivals_keep_copies, end_arrivals_keep_copies,
     read_arrivals_keep_copies, write_arrivals_keep_copies,
 };
+// who stands on the copies stands on the words too
+pub use regain_law::events_keep_words;

@@ -1,28 +1,28 @@
 -- The content that a lock takes, as words see it: a place was followed, which they don't see, and what was the thread's gift stands in a new slot.
 use Rattle.std.proofs.Common.{◌≡◌, ℕ, false, List, [], ◌∷◌, ◌++◌, map, Some, None, sym, ap, subst, ◌∙◌}
 use Rattle.std.proofs.lemmas.List.{map-append}
-use Rattle.borrow_law.specs.Below.fr_base.declared.name.MutexNo.{MutexNo}
-use Rattle.borrow_law.specs.Below.fr_base.declared.place.Lval.{Lval}
-use Rattle.borrow_law.specs.Below.fr_base.declared.settings.Options.{Options}
-use Rattle.borrow_law.specs.Below.fr_base.declared.instruction.Instr.{Instr}
-use Rattle.borrow_law.specs.Below.heap_partition.declared.value.Owned.{Owned}
-use Rattle.entry_law.specs.Below.migration.Packing.{unpinned}
-use Rattle.borrow_law.specs.Below.thread_state.View.{ThreadState}
-use Rattle.borrow_law.specs.Below.thread_state.declared.value.Value.{Value}
-use Rattle.borrow_law.specs.Below.thread_state.declared.value.Value.TheVariants as value
-use Rattle.borrow_law.specs.Below.server_model.Servers.{Server}
-use Rattle.borrow_law.specs.Below.server_model.Work.{Hand}
-use Rattle.borrow_law.specs.Below.server_model.Places.{Spot, in_slot, load_at}
-use Rattle.borrow_law.specs.Below.server_model.Commit.{take_gift, push_content}
-use Rattle.borrow_law.specs.Below.server_model.Events.{begin_work}
-use Rattle.entry_law.specs.Below.coloured_heap.Heap.{Coloured}
-use Rattle.borrow_law.specs.Below.heap_law.Things.{thread_things}
-use Rattle.borrow_law.proofs.Below.stay_law.Alike.{Alike}
-use Rattle.borrow_law.proofs.Below.stay_law.Sites.{HandAlike}
-use Rattle.borrow_law.proofs.Below.stay_law.Steps.{TakesNoneHere}
-use Rattle.carry_law.proofs.Hands.{each_together, moved_on}
-use Rattle.carry_law.proofs.Steps.{Does}
-use Rattle.carry_law.proofs.Locks.{content_taken}
+use Rattle.ask_entry_law.specs.Below.borrow_law.Below.fr_base.declared.name.MutexNo.{MutexNo}
+use Rattle.ask_entry_law.specs.Below.borrow_law.Below.fr_base.declared.place.Lval.{Lval}
+use Rattle.ask_entry_law.specs.Below.borrow_law.Below.fr_base.declared.settings.Options.{Options}
+use Rattle.ask_entry_law.specs.Below.borrow_law.Below.fr_base.declared.instruction.Instr.{Instr}
+use Rattle.ask_entry_law.specs.Below.borrow_law.Below.heap_partition.declared.value.Owned.{Owned}
+use Rattle.ask_entry_law.specs.Below.entry_law.Below.migration.Packing.{unpinned}
+use Rattle.ask_entry_law.specs.Below.borrow_law.Below.thread_state.View.{ThreadState}
+use Rattle.ask_entry_law.specs.Below.borrow_law.Below.thread_state.declared.value.Value.{Value}
+use Rattle.ask_entry_law.specs.Below.borrow_law.Below.thread_state.declared.value.Value.TheVariants as value
+use Rattle.ask_entry_law.specs.Below.borrow_law.Below.server_model.Servers.{Server}
+use Rattle.ask_entry_law.specs.Below.borrow_law.Below.server_model.Work.{Hand}
+use Rattle.ask_entry_law.specs.Below.borrow_law.Below.server_model.Places.{Spot, in_slot, load_at}
+use Rattle.ask_entry_law.specs.Below.borrow_law.Below.server_model.Commit.{take_gift, push_content}
+use Rattle.ask_entry_law.specs.Below.borrow_law.Below.server_model.Events.{begin_work}
+use Rattle.ask_entry_law.specs.Below.entry_law.Below.coloured_heap.Heap.{Coloured}
+use Rattle.ask_entry_law.specs.Below.borrow_law.Below.heap_law.Things.{thread_things}
+use Rattle.ask_entry_law.proofs.Below.borrow_law.Below.stay_law.Alike.{Alike}
+use Rattle.ask_entry_law.proofs.Below.borrow_law.Below.stay_law.Sites.{HandAlike}
+use Rattle.ask_entry_law.proofs.Below.borrow_law.Below.stay_law.Steps.{TakesNoneHere}
+use Rattle.ask_entry_law.proofs.Below.carry_law.Hands.{each_together, moved_on}
+use Rattle.ask_entry_law.proofs.Below.carry_law.Steps.{Does}
+use Rattle.ask_entry_law.proofs.Below.carry_law.Locks.{content_taken}
 use Rattle.place_entry_law.proofs.Still.{Still}
 use Rattle.place_entry_law.proofs.Words.{thread_unpinned, walk_unseen, still_untaken}
 

@@ -1,3 +1,4 @@
+pub mod Below
 pub mod Contents
 pub mod Marks
 pub mod Locks

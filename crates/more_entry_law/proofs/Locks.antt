@@ -1,52 +1,52 @@
 -- Locks through stars that take their content.
 use Rattle.std.proofs.Common.{◌≡◌, ℕ, true, false, [], ◌∷◌, ◌++◌, Option, Some, None, is_some, refl, sym, ap, subst, ◌∙◌}
 use Rattle.std.specs.Prelude.{slice_get, option_map}
-use Rattle.borrow_law.specs.Below.fr_base.declared.name.MutexNo.{MutexNo}
-use Rattle.borrow_law.specs.Below.fr_base.declared.place.Lval.{Lval}
-use Rattle.borrow_law.specs.Below.fr_base.declared.step.Fresh.TheVariants as fresh
-use Rattle.borrow_law.specs.Below.fr_base.declared.instruction.Instr.{Instr}
-use Rattle.borrow_law.specs.Below.fr_base.declared.instruction.Instr.TheVariants as instr
-use Rattle.borrow_law.specs.Below.fr_base.declared.label.Label.TheVariants as label
-use Rattle.borrow_law.specs.Below.heap_partition.declared.value.Owned.{Owned}
-use Rattle.borrow_law.specs.Below.heap_partition.declared.value.Owned.TheVariants as owned
-use Rattle.entry_law.specs.Below.migration.Packing.{unpinned}
-use Rattle.borrow_law.specs.Below.thread_state.View.{ThreadState}
-use Rattle.borrow_law.specs.Below.thread_state.declared.value.Value.{Value}
-use Rattle.borrow_law.specs.Below.thread_state.declared.value.Value.TheVariants as value
-use Rattle.borrow_law.specs.Below.server_model.declared.event.Event.{Event}
-use Rattle.borrow_law.specs.Below.server_model.declared.event.What.TheVariants.{Step}
-use Rattle.borrow_law.specs.Below.server_model.Servers.{Server, Cluster, server_at}
-use Rattle.borrow_law.specs.Below.server_model.Work.{Hand, thread_in, without_thread, then_some, mutex_of}
-use Rattle.borrow_law.specs.Below.server_model.Places.{Spot, in_slot, value_at, cell_at, load_of, load_at}
-use Rattle.borrow_law.specs.Below.server_model.Prepare.{ready, read_stars}
-use Rattle.borrow_law.specs.Below.server_model.Commit.{waiting, goes_on, take_gift, mutex_at, ask_lock, push_content, lock}
-use Rattle.borrow_law.specs.Below.server_model.Events.{can_step, begin_work, Stepped, committed, prepared, step, stepped}
-use Rattle.entry_law.specs.Below.coloured_heap.Heap.{Coloured}
-use Rattle.borrow_law.specs.Below.heap_law.Things.{servers_things}
-use Rattle.borrow_law.specs.Below.heap_law.Follow.{value_in, value_behind}
-use Rattle.borrow_law.specs.Below.heap_law.Sight.{sight}
-use Rattle.borrow_law.specs.Below.heap_law.Requests as requests
-use Rattle.borrow_law.specs.Below.heap_law.Requests.{locked_mutex}
-use Rattle.borrow_law.specs.Below.heap_law.Colours.{StandsColoured}
-use Rattle.borrow_law.specs.Below.type_law.ClusterTypes.{IsCoherent}
-use Rattle.borrow_law.specs.Below.event_law.Laws.{Gives, FewEvents}
-use Rattle.borrow_law.proofs.Below.event_law.Results.{both_give}
-use Rattle.borrow_law.proofs.Below.event_law.RulesKeep.{sums_kept, sums_spend}
-use Rattle.borrow_law.proofs.Below.event_law.Bags.{all_standing}
-use Rattle.borrow_law.proofs.Below.event_law.Events.{others_of}
-use Rattle.borrow_law.proofs.Below.event_law.Steps.{step_keeps}
-use Rattle.borrow_law.specs.Below.word_law.Reworded.{HasPlaces}
-use Rattle.borrow_law.proofs.Below.word_law.Unmoved.{untouched_stays}
-use Rattle.borrow_law.specs.Below.read_law.Reading.{locks as reads_lock}
-use Rattle.borrow_law.proofs.Below.stay_law.Seen.{seen_alike}
-use Rattle.borrow_law.proofs.Below.stay_law.Steps.{TakesNoneHere, untaken_here}
-use Rattle.borrow_law.proofs.Below.prepare_law.Asking.{found_number}
-use Rattle.borrow_law.proofs.Below.prepare_law.Untaken.{not_taken}
-use Rattle.borrow_law.proofs.Below.turn_law.Events.{AtStep}
-use Rattle.borrow_law.proofs.Below.turn_law.ReadWalk.{seen_value}
-use Rattle.carry_law.proofs.Hands.{words_go, Moved, Ok, put, first_ok, places, moved_goes, leaves_chain}
-use Rattle.carry_law.proofs.Steps.{goes_over}
-use Rattle.step_entry_law.proofs.PlainSteps.{lives}
+use Rattle.ask_entry_law.specs.Below.borrow_law.Below.fr_base.declared.name.MutexNo.{MutexNo}
+use Rattle.ask_entry_law.specs.Below.borrow_law.Below.fr_base.declared.place.Lval.{Lval}
+use Rattle.ask_entry_law.specs.Below.borrow_law.Below.fr_base.declared.step.Fresh.TheVariants as fresh
+use Rattle.ask_entry_law.specs.Below.borrow_law.Below.fr_base.declared.instruction.Instr.{Instr}
+use Rattle.ask_entry_law.specs.Below.borrow_law.Below.fr_base.declared.instruction.Instr.TheVariants as instr
+use Rattle.ask_entry_law.specs.Below.borrow_law.Below.fr_base.declared.label.Label.TheVariants as label
+use Rattle.ask_entry_law.specs.Below.borrow_law.Below.heap_partition.declared.value.Owned.{Owned}
+use Rattle.ask_entry_law.specs.Below.borrow_law.Below.heap_partition.declared.value.Owned.TheVariants as owned
+use Rattle.ask_entry_law.specs.Below.entry_law.Below.migration.Packing.{unpinned}
+use Rattle.ask_entry_law.specs.Below.borrow_law.Below.thread_state.View.{ThreadState}
+use Rattle.ask_entry_law.specs.Below.borrow_law.Below.thread_state.declared.value.Value.{Value}
+use Rattle.ask_entry_law.specs.Below.borrow_law.Below.thread_state.declared.value.Value.TheVariants as value
+use Rattle.ask_entry_law.specs.Below.borrow_law.Below.server_model.declared.event.Event.{Event}
+use Rattle.ask_entry_law.specs.Below.borrow_law.Below.server_model.declared.event.What.TheVariants.{Step}
+use Rattle.ask_entry_law.specs.Below.borrow_law.Below.server_model.Servers.{Server, Cluster, server_at}
+use Rattle.ask_entry_law.specs.Below.borrow_law.Below.server_model.Work.{Hand, thread_in, without_thread, then_some, mutex_of}
+use Rattle.ask_entry_law.specs.Below.borrow_law.Below.server_model.Places.{Spot, in_slot, value_at, cell_at, load_of, load_at}
+use Rattle.ask_entry_law.specs.Below.borrow_law.Below.server_model.Prepare.{ready, read_stars}
+use Rattle.ask_entry_law.specs.Below.borrow_law.Below.server_model.Commit.{waiting, goes_on, take_gift, mutex_at, ask_lock, push_content, lock}
+use Rattle.ask_entry_law.specs.Below.borrow_law.Below.server_model.Events.{can_step, begin_work, Stepped, committed, prepared, step, stepped}
+use Rattle.ask_entry_law.specs.Below.entry_law.Below.coloured_heap.Heap.{Coloured}
+use Rattle.ask_entry_law.specs.Below.borrow_law.Below.heap_law.Things.{servers_things}
+use Rattle.ask_entry_law.specs.Below.borrow_law.Below.heap_law.Follow.{value_in, value_behind}
+use Rattle.ask_entry_law.specs.Below.borrow_law.Below.heap_law.Sight.{sight}
+use Rattle.ask_entry_law.specs.Below.borrow_law.Below.heap_law.Requests as requests
+use Rattle.ask_entry_law.specs.Below.borrow_law.Below.heap_law.Requests.{locked_mutex}
+use Rattle.ask_entry_law.specs.Below.borrow_law.Below.heap_law.Colours.{StandsColoured}
+use Rattle.ask_entry_law.specs.Below.borrow_law.Below.type_law.ClusterTypes.{IsCoherent}
+use Rattle.ask_entry_law.specs.Below.borrow_law.Below.event_law.Laws.{Gives, FewEvents}
+use Rattle.ask_entry_law.proofs.Below.borrow_law.Below.event_law.Results.{both_give}
+use Rattle.ask_entry_law.proofs.Below.borrow_law.Below.event_law.RulesKeep.{sums_kept, sums_spend}
+use Rattle.ask_entry_law.proofs.Below.borrow_law.Below.event_law.Bags.{all_standing}
+use Rattle.ask_entry_law.proofs.Below.borrow_law.Below.event_law.Events.{others_of}
+use Rattle.ask_entry_law.proofs.Below.borrow_law.Below.event_law.Steps.{step_keeps}
+use Rattle.ask_entry_law.specs.Below.borrow_law.Below.word_law.Reworded.{HasPlaces}
+use Rattle.ask_entry_law.proofs.Below.borrow_law.Below.word_law.Unmoved.{untouched_stays}
+use Rattle.ask_entry_law.specs.Below.borrow_law.Below.read_law.Reading.{locks as reads_lock}
+use Rattle.ask_entry_law.proofs.Below.borrow_law.Below.stay_law.Seen.{seen_alike}
+use Rattle.ask_entry_law.proofs.Below.borrow_law.Below.stay_law.Steps.{TakesNoneHere, untaken_here}
+use Rattle.ask_entry_law.proofs.Below.borrow_law.Below.prepare_law.Asking.{found_number}
+use Rattle.ask_entry_law.proofs.Below.borrow_law.Below.prepare_law.Untaken.{not_taken}
+use Rattle.ask_entry_law.proofs.Below.borrow_law.Below.turn_law.Events.{AtStep}
+use Rattle.ask_entry_law.proofs.Below.borrow_law.Below.turn_law.ReadWalk.{seen_value}
+use Rattle.ask_entry_law.proofs.Below.carry_law.Hands.{words_go, Moved, Ok, put, first_ok, places, moved_goes, leaves_chain}
+use Rattle.ask_entry_law.proofs.Below.carry_law.Steps.{goes_over}
+use Rattle.ask_entry_law.proofs.Below.step_entry_law.PlainSteps.{lives}
 use Rattle.task_entry_law.proofs.InStep.{by_number}
 use Rattle.place_entry_law.specs.Reads.{DoneLegal, DoneStepsLegal}
 use Rattle.place_entry_law.proofs.Standing.{Loads, loads_both}

@@ -1,38 +1,38 @@
 -- A lock that has its content, as the coloured heap sees it: a mark stands in a new slot, and who held the mutex by a gift holds it by that mark.
 use Rattle.std.proofs.Common.{◌≡◌, ℕ, ◌+◌, ◌==◌, Bool, true, false, List, [], ◌∷◌, ◌++◌, length, Option, Some, is_some, refl, sym, ap, ap₂, subst, ◌∙◌, arith}
 use Rattle.std.specs.Prelude.{slice_get}
-use Rattle.borrow_law.specs.Below.fr_base.declared.name.MutexNo.{MutexNo}
-use Rattle.borrow_law.specs.Below.fr_base.declared.place.Lval.{Lval}
-use Rattle.borrow_law.specs.Below.fr_base.declared.instruction.Instr.TheVariants as instr
-use Rattle.borrow_law.specs.Below.fr_base.declared.step.Fresh.{Fresh}
-use Rattle.borrow_law.specs.Below.heap_partition.declared.value.Owned.{Owned}
-use Rattle.borrow_law.specs.Below.thread_state.View.{ThreadState, is_over}
-use Rattle.borrow_law.specs.Below.thread_state.declared.value.Value.{Value}
-use Rattle.borrow_law.specs.Below.thread_state.declared.value.Value.TheVariants as value
-use Rattle.borrow_law.specs.Below.journal.View.{EntryView}
-use Rattle.borrow_law.specs.Below.server_model.Servers.{Rest, Server, Cluster, server_at}
-use Rattle.borrow_law.specs.Below.server_model.Work.{Hand, thread_in}
-use Rattle.borrow_law.specs.Below.server_model.Events.{entry_of, Stepped, stepped}
-use Rattle.entry_law.specs.Below.coloured_heap.Heap.{Running, Coloured}
-use Rattle.entry_law.proofs.Below.coloured_heap.ShownNames.{mutex_flip}
-use Rattle.borrow_law.specs.Below.heap_law.Names.{tot, one, some, if_so, same_mutex}
-use Rattle.borrow_law.specs.Below.heap_law.Things.{at_slot, Thing, locks, stands, things_at, slot_things, copy_things}
-use Rattle.borrow_law.specs.Below.heap_law.Follow.{Standing}
-use Rattle.borrow_law.specs.Below.heap_law.Sight.{sight}
-use Rattle.borrow_law.specs.Below.heap_law.Requests.{is_mutex, locked_mutex}
-use Rattle.borrow_law.specs.Below.heap_law.Colours.{StandsColoured, running_of}
-use Rattle.borrow_law.specs.Below.heap_law.Coherent.{IsSound}
-use Rattle.borrow_law.proofs.Below.event_law.Trades.{trade_whole, tot-push}
-use Rattle.borrow_law.proofs.Below.event_law.Bags.{rest_things, of_cache}
-use Rattle.entry_law.proofs.Below.still_law.Told.{told}
-use Rattle.entry_law.proofs.Below.still_law.Tests.{numbers}
-use Rattle.entry_law.specs.Entries.{LeadsOn}
-use Rattle.entry_law.proofs.Answers.{Answers, answers_of, Fits, fits, coloured_by}
-use Rattle.entry_law.proofs.Weighed.{Seen, marks_of, slots_unpinned}
-use Rattle.entry_law.proofs.Shown.{if_some, holder_by}
-use Rattle.entry_law.proofs.After.{Follows}
-use Rattle.entry_law.proofs.Applied.{server_there}
-use Rattle.step_entry_law.proofs.Settled.{StepLed, runs_here, none_held}
+use Rattle.ask_entry_law.specs.Below.borrow_law.Below.fr_base.declared.name.MutexNo.{MutexNo}
+use Rattle.ask_entry_law.specs.Below.borrow_law.Below.fr_base.declared.place.Lval.{Lval}
+use Rattle.ask_entry_law.specs.Below.borrow_law.Below.fr_base.declared.instruction.Instr.TheVariants as instr
+use Rattle.ask_entry_law.specs.Below.borrow_law.Below.fr_base.declared.step.Fresh.{Fresh}
+use Rattle.ask_entry_law.specs.Below.borrow_law.Below.heap_partition.declared.value.Owned.{Owned}
+use Rattle.ask_entry_law.specs.Below.borrow_law.Below.thread_state.View.{ThreadState, is_over}
+use Rattle.ask_entry_law.specs.Below.borrow_law.Below.thread_state.declared.value.Value.{Value}
+use Rattle.ask_entry_law.specs.Below.borrow_law.Below.thread_state.declared.value.Value.TheVariants as value
+use Rattle.ask_entry_law.specs.Below.borrow_law.Below.journal.View.{EntryView}
+use Rattle.ask_entry_law.specs.Below.borrow_law.Below.server_model.Servers.{Rest, Server, Cluster, server_at}
+use Rattle.ask_entry_law.specs.Below.borrow_law.Below.server_model.Work.{Hand, thread_in}
+use Rattle.ask_entry_law.specs.Below.borrow_law.Below.server_model.Events.{entry_of, Stepped, stepped}
+use Rattle.ask_entry_law.specs.Below.entry_law.Below.coloured_heap.Heap.{Running, Coloured}
+use Rattle.ask_entry_law.proofs.Below.entry_law.Below.coloured_heap.ShownNames.{mutex_flip}
+use Rattle.ask_entry_law.specs.Below.borrow_law.Below.heap_law.Names.{tot, one, some, if_so, same_mutex}
+use Rattle.ask_entry_law.specs.Below.borrow_law.Below.heap_law.Things.{at_slot, Thing, locks, stands, things_at, slot_things, copy_things}
+use Rattle.ask_entry_law.specs.Below.borrow_law.Below.heap_law.Follow.{Standing}
+use Rattle.ask_entry_law.specs.Below.borrow_law.Below.heap_law.Sight.{sight}
+use Rattle.ask_entry_law.specs.Below.borrow_law.Below.heap_law.Requests.{is_mutex, locked_mutex}
+use Rattle.ask_entry_law.specs.Below.borrow_law.Below.heap_law.Colours.{StandsColoured, running_of}
+use Rattle.ask_entry_law.specs.Below.borrow_law.Below.heap_law.Coherent.{IsSound}
+use Rattle.ask_entry_law.proofs.Below.borrow_law.Below.event_law.Trades.{trade_whole, tot-push}
+use Rattle.ask_entry_law.proofs.Below.borrow_law.Below.event_law.Bags.{rest_things, of_cache}
+use Rattle.ask_entry_law.proofs.Below.entry_law.Below.still_law.Told.{told}
+use Rattle.ask_entry_law.proofs.Below.entry_law.Below.still_law.Tests.{numbers}
+use Rattle.ask_entry_law.specs.Below.entry_law.Entries.{LeadsOn}
+use Rattle.ask_entry_law.proofs.Below.entry_law.Answers.{Answers, answers_of, Fits, fits, coloured_by}
+use Rattle.ask_entry_law.proofs.Below.entry_law.Weighed.{Seen, marks_of, slots_unpinned}
+use Rattle.ask_entry_law.proofs.Below.entry_law.Shown.{if_some, holder_by}
+use Rattle.ask_entry_law.proofs.Below.entry_law.After.{Follows}
+use Rattle.ask_entry_law.proofs.Below.entry_law.Applied.{server_there}
+use Rattle.ask_entry_law.proofs.Below.step_entry_law.Settled.{StepLed, runs_here, none_held}
 use Rattle.task_entry_law.proofs.Slots.{slot_unseen}
 use Rattle.task_entry_law.proofs.Turning.{Turning, turned_server}
 use Rattle.task_entry_law.proofs.Aside.{only, one_changes, Silently, all_agree}

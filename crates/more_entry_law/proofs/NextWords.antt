@@ -1,66 +1,66 @@
 -- A box's object has the next word of its server's partition.
 use Rattle.std.proofs.Common.{◌≡◌, ℕ, ◌++◌, ◌+◌, ◌∷◌, length, List, [], Option, Some, None, option_map, true, false, refl, sym, ap, subst, ◌∙◌, arith}
 use Rattle.std.specs.Prelude.{slice_get}
-use Rattle.borrow_law.specs.Below.fr_base.declared.name.ObjNo.{ObjNo}
-use Rattle.borrow_law.specs.Below.fr_base.declared.instruction.Operand.{Operand}
-use Rattle.borrow_law.specs.Below.fr_base.declared.instruction.Operand.TheVariants as operand
-use Rattle.borrow_law.specs.Below.fr_base.declared.instruction.Instr.TheVariants as instr
-use Rattle.borrow_law.specs.Below.fr_base.declared.step.Fresh.TheVariants as fresh
-use Rattle.borrow_law.specs.Below.heap_partition.declared.value.BoxPtr.{BoxPtr}
-use Rattle.borrow_law.specs.Below.heap_partition.declared.value.Owned.{Owned}
-use Rattle.borrow_law.specs.Below.heap_partition.declared.value.Owned.TheVariants as owned
-use Rattle.entry_law.specs.Below.owner_box.Partition.{new_word, made}
-use Rattle.borrow_law.specs.Below.journal.View.{EntryView}
-use Rattle.borrow_law.specs.Below.journal.declared.act.Act.TheVariants as act
-use Rattle.borrow_law.specs.Below.thread_state.View.{ThreadState, is_over}
-use Rattle.borrow_law.specs.Below.thread_state.declared.phase.Phase.{Phase}
-use Rattle.borrow_law.specs.Below.thread_state.declared.phase.Phase.TheVariants as phase
-use Rattle.borrow_law.specs.Below.thread_state.declared.value.Value.{Value}
-use Rattle.borrow_law.specs.Below.thread_state.declared.value.Value.TheVariants as value
-use Rattle.borrow_law.specs.Below.server_model.declared.event.What.TheVariants.{Step}
-use Rattle.borrow_law.specs.Below.server_model.Servers.{Server, Cluster, server_at}
-use Rattle.borrow_law.specs.Below.server_model.Work.{Hand, Popped, last_of, front_of, thread_in, without_thread, then_some, owned_of, taken_as, with_temps, note, with_partition}
-use Rattle.borrow_law.specs.Below.server_model.NewWords.{NewWord, can_grow, issue_placed}
-use Rattle.borrow_law.specs.Below.server_model.Commit.{go_on, goes_on, next_object, push_box, make_box, box_up, settle}
-use Rattle.borrow_law.specs.Below.server_model.Events.{can_step, has_phase, enabled, begin_work, begin_at, Stepped, done_step, committed, step, step_in, stepped, does}
-use Rattle.borrow_law.specs.Below.server_model.Clusters.{apply}
-use Rattle.borrow_law.specs.Below.heap_law.Names.{tot}
-use Rattle.borrow_law.specs.Below.heap_law.Things.{in_hand, at_temp, holds, Thing, server_things, servers_things, things_of}
-use Rattle.borrow_law.specs.Below.heap_law.Weights.{cells, tasks_of}
-use Rattle.borrow_law.specs.Below.heap_law.Follow.{value_in, temp_of}
-use Rattle.borrow_law.specs.Below.heap_law.Sight.{sight, issued}
-use Rattle.borrow_law.specs.Below.heap_law.Words.{HasWords}
-use Rattle.borrow_law.specs.Below.type_law.ClusterTypes.{IsCoherent}
-use Rattle.borrow_law.specs.Below.event_law.Laws.{Gives, FewEvents}
-use Rattle.borrow_law.proofs.Below.event_law.Trades.{tot-append}
-use Rattle.borrow_law.proofs.Below.event_law.Results.{over_gives, test_gives, both_give}
-use Rattle.borrow_law.proofs.Below.event_law.RulesKeep.{Counted, counted_kept}
-use Rattle.borrow_law.proofs.Below.event_law.Bags.{HandOk, all_standing}
-use Rattle.borrow_law.proofs.Below.event_law.Boxes.{New, new_kept, boxes_up}
-use Rattle.borrow_law.proofs.Below.event_law.Chains.{takes}
-use Rattle.borrow_law.proofs.Below.event_law.Commits.{goes_keep}
-use Rattle.borrow_law.proofs.Below.event_law.Steps.{committed_keeps}
-use Rattle.borrow_law.proofs.Below.event_law.Events.{others_of, tot-server, begins_site}
-use Rattle.borrow_law.proofs.Below.event_law.Sound.{sound_has_sums}
-use Rattle.borrow_law.proofs.Below.event_law.GiftsTaken.{gift_fits}
-use Rattle.borrow_law.specs.Below.word_law.Reworded.{HasPlaces}
-use Rattle.borrow_law.specs.Below.word_law.Unmoved.{taking_by}
-use Rattle.borrow_law.specs.Below.word_law.WordsAfter.{KeepsWords}
-use Rattle.borrow_law.proofs.Below.word_law.Unmoved.{untouched_stays}
-use Rattle.borrow_law.proofs.Below.stay_law.Alike.{blank}
-use Rattle.borrow_law.proofs.Below.stay_law.Sites.{HandAlike}
-use Rattle.borrow_law.proofs.Below.stay_law.Seen.{seen_alike}
-use Rattle.borrow_law.proofs.Below.stay_law.Steps.{TakesNoneHere, settles}
-use Rattle.borrow_law.proofs.Below.prepare_law.Hands.{calm_goes}
-use Rattle.borrow_law.proofs.Below.prepare_law.Asking.{found_number}
-use Rattle.borrow_law.proofs.Below.made_law.Boxing.{keeps_leaves, none_named, Given, unseen_given, top_given, Boxed, is_boxed}
-use Rattle.borrow_law.proofs.Below.word_law.Put.{put_split}
-use Rattle.borrow_law.proofs.Below.read_law.Homes.{fresh_word}
-use Rattle.carry_law.proofs.Replaced.{at_b}
-use Rattle.carry_law.proofs.Places.{end_is}
-use Rattle.carry_law.proofs.Hands.{ThereBy, stands_here, put, places, h0, each_together, together_chain, puts_alike}
-use Rattle.carry_law.proofs.Steps.{goes_next}
-use Rattle.fresh_law.proofs.Below.clean_law.WordedCopies.{then_holds}
+use Rattle.ask_entry_law.specs.Below.borrow_law.Below.fr_base.declared.name.ObjNo.{ObjNo}
+use Rattle.ask_entry_law.specs.Below.borrow_law.Below.fr_base.declared.instruction.Operand.{Operand}
+use Rattle.ask_entry_law.specs.Below.borrow_law.Below.fr_base.declared.instruction.Operand.TheVariants as operand
+use Rattle.ask_entry_law.specs.Below.borrow_law.Below.fr_base.declared.instruction.Instr.TheVariants as instr
+use Rattle.ask_entry_law.specs.Below.borrow_law.Below.fr_base.declared.step.Fresh.TheVariants as fresh
+use Rattle.ask_entry_law.specs.Below.borrow_law.Below.heap_partition.declared.value.BoxPtr.{BoxPtr}
+use Rattle.ask_entry_law.specs.Below.borrow_law.Below.heap_partition.declared.value.Owned.{Owned}
+use Rattle.ask_entry_law.specs.Below.borrow_law.Below.heap_partition.declared.value.Owned.TheVariants as owned
+use Rattle.ask_entry_law.specs.Below.entry_law.Below.owner_box.Partition.{new_word, made}
+use Rattle.ask_entry_law.specs.Below.borrow_law.Below.journal.View.{EntryView}
+use Rattle.ask_entry_law.specs.Below.borrow_law.Below.journal.declared.act.Act.TheVariants as act
+use Rattle.ask_entry_law.specs.Below.borrow_law.Below.thread_state.View.{ThreadState, is_over}
+use Rattle.ask_entry_law.specs.Below.borrow_law.Below.thread_state.declared.phase.Phase.{Phase}
+use Rattle.ask_entry_law.specs.Below.borrow_law.Below.thread_state.declared.phase.Phase.TheVariants as phase
+use Rattle.ask_entry_law.specs.Below.borrow_law.Below.thread_state.declared.value.Value.{Value}
+use Rattle.ask_entry_law.specs.Below.borrow_law.Below.thread_state.declared.value.Value.TheVariants as value
+use Rattle.ask_entry_law.specs.Below.borrow_law.Below.server_model.declared.event.What.TheVariants.{Step}
+use Rattle.ask_entry_law.specs.Below.borrow_law.Below.server_model.Servers.{Server, Cluster, server_at}
+use Rattle.ask_entry_law.specs.Below.borrow_law.Below.server_model.Work.{Hand, Popped, last_of, front_of, thread_in, without_thread, then_some, owned_of, taken_as, with_temps, note, with_partition}
+use Rattle.ask_entry_law.specs.Below.borrow_law.Below.server_model.NewWords.{NewWord, can_grow, issue_placed}
+use Rattle.ask_entry_law.specs.Below.borrow_law.Below.server_model.Commit.{go_on, goes_on, next_object, push_box, make_box, box_up, settle}
+use Rattle.ask_entry_law.specs.Below.borrow_law.Below.server_model.Events.{can_step, has_phase, enabled, begin_work, begin_at, Stepped, done_step, committed, step, step_in, stepped, does}
+use Rattle.ask_entry_law.specs.Below.borrow_law.Below.server_model.Clusters.{apply}
+use Rattle.ask_entry_law.specs.Below.borrow_law.Below.heap_law.Names.{tot}
+use Rattle.ask_entry_law.specs.Below.borrow_law.Below.heap_law.Things.{in_hand, at_temp, holds, Thing, server_things, servers_things, things_of}
+use Rattle.ask_entry_law.specs.Below.borrow_law.Below.heap_law.Weights.{cells, tasks_of}
+use Rattle.ask_entry_law.specs.Below.borrow_law.Below.heap_law.Follow.{value_in, temp_of}
+use Rattle.ask_entry_law.specs.Below.borrow_law.Below.heap_law.Sight.{sight, issued}
+use Rattle.ask_entry_law.specs.Below.borrow_law.Below.heap_law.Words.{HasWords}
+use Rattle.ask_entry_law.specs.Below.borrow_law.Below.type_law.ClusterTypes.{IsCoherent}
+use Rattle.ask_entry_law.specs.Below.borrow_law.Below.event_law.Laws.{Gives, FewEvents}
+use Rattle.ask_entry_law.proofs.Below.borrow_law.Below.event_law.Trades.{tot-append}
+use Rattle.ask_entry_law.proofs.Below.borrow_law.Below.event_law.Results.{over_gives, test_gives, both_give}
+use Rattle.ask_entry_law.proofs.Below.borrow_law.Below.event_law.RulesKeep.{Counted, counted_kept}
+use Rattle.ask_entry_law.proofs.Below.borrow_law.Below.event_law.Bags.{HandOk, all_standing}
+use Rattle.ask_entry_law.proofs.Below.borrow_law.Below.event_law.Boxes.{New, new_kept, boxes_up}
+use Rattle.ask_entry_law.proofs.Below.borrow_law.Below.event_law.Chains.{takes}
+use Rattle.ask_entry_law.proofs.Below.borrow_law.Below.event_law.Commits.{goes_keep}
+use Rattle.ask_entry_law.proofs.Below.borrow_law.Below.event_law.Steps.{committed_keeps}
+use Rattle.ask_entry_law.proofs.Below.borrow_law.Below.event_law.Events.{others_of, tot-server, begins_site}
+use Rattle.ask_entry_law.proofs.Below.borrow_law.Below.event_law.Sound.{sound_has_sums}
+use Rattle.ask_entry_law.proofs.Below.borrow_law.Below.event_law.GiftsTaken.{gift_fits}
+use Rattle.ask_entry_law.specs.Below.borrow_law.Below.word_law.Reworded.{HasPlaces}
+use Rattle.ask_entry_law.specs.Below.borrow_law.Below.word_law.Unmoved.{taking_by}
+use Rattle.ask_entry_law.specs.Below.borrow_law.Below.word_law.WordsAfter.{KeepsWords}
+use Rattle.ask_entry_law.proofs.Below.borrow_law.Below.word_law.Unmoved.{untouched_stays}
+use Rattle.ask_entry_law.proofs.Below.borrow_law.Below.stay_law.Alike.{blank}
+use Rattle.ask_entry_law.proofs.Below.borrow_law.Below.stay_law.Sites.{HandAlike}
+use Rattle.ask_entry_law.proofs.Below.borrow_law.Below.stay_law.Seen.{seen_alike}
+use Rattle.ask_entry_law.proofs.Below.borrow_law.Below.stay_law.Steps.{TakesNoneHere, settles}
+use Rattle.ask_entry_law.proofs.Below.borrow_law.Below.prepare_law.Hands.{calm_goes}
+use Rattle.ask_entry_law.proofs.Below.borrow_law.Below.prepare_law.Asking.{found_number}
+use Rattle.ask_entry_law.proofs.Below.borrow_law.Below.made_law.Boxing.{keeps_leaves, none_named, Given, unseen_given, top_given, Boxed, is_boxed}
+use Rattle.ask_entry_law.proofs.Below.borrow_law.Below.word_law.Put.{put_split}
+use Rattle.ask_entry_law.proofs.Below.borrow_law.Below.read_law.Homes.{fresh_word}
+use Rattle.ask_entry_law.proofs.Below.carry_law.Replaced.{at_b}
+use Rattle.ask_entry_law.proofs.Below.carry_law.Places.{end_is}
+use Rattle.ask_entry_law.proofs.Below.carry_law.Hands.{ThereBy, stands_here, put, places, h0, each_together, together_chain, puts_alike}
+use Rattle.ask_entry_law.proofs.Below.carry_law.Steps.{goes_next}
+use Rattle.ask_entry_law.proofs.Below.fresh_law.Below.clean_law.WordedCopies.{then_holds}
 use Rattle.more_entry_law.proofs.OnTop.{temp_fresh}
 use Rattle.more_entry_law.specs.Boxes.{HasNextWord, BoxesTakeNextWords}
 

@@ -1,19 +1,19 @@
 -- A box on top of a thread's temporary values isn't stale, as no place leads there: so its word is its object's.
 use Rattle.std.proofs.Common.{◌≡◌, inl, inr, ℕ, zero, suc, ◌||◌, Bool, true, false, List, [], ◌∷◌, Option, Some, None, refl, ap, ◌∙◌}
 use Rattle.std.specs.Prelude.{slice_get}
-use Rattle.borrow_law.specs.Below.fr_base.declared.place.Lval.{Lval}
-use Rattle.borrow_law.specs.Below.fr_base.declared.instruction.Instr.{Instr}
-use Rattle.borrow_law.specs.Below.fr_base.declared.instruction.Instr.TheVariants as instr
-use Rattle.borrow_law.specs.Below.thread_state.declared.phase.Phase.{Phase}
-use Rattle.borrow_law.specs.Below.thread_state.declared.phase.Phase.TheVariants as phase
-use Rattle.borrow_law.specs.Below.server_model.Servers.{Cluster}
-use Rattle.borrow_law.specs.Below.heap_law.Names.{Among}
-use Rattle.borrow_law.specs.Below.heap_law.Things.{Location, at_slot, at_temp, in_cell, Thing, borrows}
-use Rattle.borrow_law.specs.Below.heap_law.Follow.{Standing, Ground}
-use Rattle.borrow_law.specs.Below.heap_law.Sight.{sight}
-use Rattle.borrow_law.specs.Below.heap_law.Stale.{Reference, references, holder_of, is_held_at, same_location, is_among, lent_place, with_place, lent_places, one_star_less, changed_above, stale_above, taken_above}
-use Rattle.borrow_law.specs.Below.heap_law.Words.{IsStale}
-use Rattle.carry_law.proofs.Passing.{no_temp}
+use Rattle.ask_entry_law.specs.Below.borrow_law.Below.fr_base.declared.place.Lval.{Lval}
+use Rattle.ask_entry_law.specs.Below.borrow_law.Below.fr_base.declared.instruction.Instr.{Instr}
+use Rattle.ask_entry_law.specs.Below.borrow_law.Below.fr_base.declared.instruction.Instr.TheVariants as instr
+use Rattle.ask_entry_law.specs.Below.borrow_law.Below.thread_state.declared.phase.Phase.{Phase}
+use Rattle.ask_entry_law.specs.Below.borrow_law.Below.thread_state.declared.phase.Phase.TheVariants as phase
+use Rattle.ask_entry_law.specs.Below.borrow_law.Below.server_model.Servers.{Cluster}
+use Rattle.ask_entry_law.specs.Below.borrow_law.Below.heap_law.Names.{Among}
+use Rattle.ask_entry_law.specs.Below.borrow_law.Below.heap_law.Things.{Location, at_slot, at_temp, in_cell, Thing, borrows}
+use Rattle.ask_entry_law.specs.Below.borrow_law.Below.heap_law.Follow.{Standing, Ground}
+use Rattle.ask_entry_law.specs.Below.borrow_law.Below.heap_law.Sight.{sight}
+use Rattle.ask_entry_law.specs.Below.borrow_law.Below.heap_law.Stale.{Reference, references, holder_of, is_held_at, same_location, is_among, lent_place, with_place, lent_places, one_star_less, changed_above, stale_above, taken_above}
+use Rattle.ask_entry_law.specs.Below.borrow_law.Below.heap_law.Words.{IsStale}
+use Rattle.ask_entry_law.proofs.Below.carry_law.Passing.{no_temp}
 
 -- a place to which no temporary value belongs
 abbrev IsNoTemp : Option Location → Type 0

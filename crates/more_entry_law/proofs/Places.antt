@@ -1,18 +1,18 @@
 -- Steps that follow a place, whether they are done or ask.
 use Rattle.std.proofs.Common.{◌≡◌, true, Option, Some, None, is_some, refl, ap}
-use Rattle.borrow_law.specs.Below.fr_base.declared.step.Fresh.{Fresh}
-use Rattle.borrow_law.specs.Below.journal.View.{EntryView}
-use Rattle.borrow_law.specs.Below.server_model.declared.event.Event.{Event}
-use Rattle.borrow_law.specs.Below.server_model.declared.event.What.TheVariants.{Step}
-use Rattle.borrow_law.specs.Below.server_model.Servers.{Cluster}
-use Rattle.borrow_law.specs.Below.server_model.Clusters.{apply}
-use Rattle.borrow_law.proofs.Below.event_law.Results.{both_give}
+use Rattle.ask_entry_law.specs.Below.borrow_law.Below.fr_base.declared.step.Fresh.{Fresh}
+use Rattle.ask_entry_law.specs.Below.borrow_law.Below.journal.View.{EntryView}
+use Rattle.ask_entry_law.specs.Below.borrow_law.Below.server_model.declared.event.Event.{Event}
+use Rattle.ask_entry_law.specs.Below.borrow_law.Below.server_model.declared.event.What.TheVariants.{Step}
+use Rattle.ask_entry_law.specs.Below.borrow_law.Below.server_model.Servers.{Cluster}
+use Rattle.ask_entry_law.specs.Below.borrow_law.Below.server_model.Clusters.{apply}
+use Rattle.ask_entry_law.proofs.Below.borrow_law.Below.event_law.Results.{both_give}
 use Rattle.ask_entry_law.specs.Asking.{AskingLegal}
 use Rattle.ask_entry_law.proofs.ReadKinds.{reads_legal as asks_legal}
 use Rattle.ask_entry_law.proofs.BorrowKinds.{shared_legal, mutable_legal}
-use Rattle.entry_law.specs.Entries.{LeadsOn, EntryLegal}
-use Rattle.fresh_law.specs.Below.clean_law.Clean.{a_copy, a_dup, a_lock}
-use Rattle.serve_law.proofs.Continuing.{goes_further}
+use Rattle.ask_entry_law.specs.Below.entry_law.Entries.{LeadsOn, EntryLegal}
+use Rattle.ask_entry_law.specs.Below.fresh_law.Below.clean_law.Clean.{a_copy, a_dup, a_lock}
+use Rattle.ask_entry_law.proofs.Below.serve_law.Continuing.{goes_further}
 use Rattle.place_entry_law.specs.Reads as reads
 use Rattle.place_entry_law.specs.Reads.{DoneLegal}
 use Rattle.place_entry_law.proofs.EachKind.{reads_legal, borrows_legal}

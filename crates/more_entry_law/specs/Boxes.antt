@@ -1,19 +1,19 @@
 -- A BOX GIVES ITS OBJECT THE NEXT WORD OF ITS SERVER: so the act that is noted for it names the object's word (this project's rules).
 use Rattle.std.specs.Prelude.{◌≡◌, ℕ, false, Some, slice_get}
-use Rattle.borrow_law.specs.Below.fr_base.declared.instruction.Operand.{Operand}
-use Rattle.borrow_law.specs.Below.fr_base.declared.instruction.Instr.TheVariants as instr
-use Rattle.borrow_law.specs.Below.journal.View.{EntryView}
-use Rattle.entry_law.specs.Below.owner_box.Partition.{new_word}
-use Rattle.borrow_law.specs.Below.thread_state.View.{ThreadState}
-use Rattle.borrow_law.specs.Below.server_model.declared.event.What.TheVariants.{Step}
-use Rattle.borrow_law.specs.Below.server_model.Servers.{Server, Cluster, server_at}
-use Rattle.borrow_law.specs.Below.server_model.Work.{thread_in}
-use Rattle.borrow_law.specs.Below.server_model.Clusters.{apply}
-use Rattle.borrow_law.specs.Below.heap_law.Sight.{sight, issued}
-use Rattle.borrow_law.specs.Below.heap_law.Words.{HasWords}
-use Rattle.borrow_law.specs.Below.type_law.ClusterTypes.{IsCoherent}
-use Rattle.borrow_law.specs.Below.event_law.Laws.{Gives, FewEvents}
-use Rattle.borrow_law.specs.Below.word_law.WordsAfter.{KeepsWords}
+use Rattle.ask_entry_law.specs.Below.borrow_law.Below.fr_base.declared.instruction.Operand.{Operand}
+use Rattle.ask_entry_law.specs.Below.borrow_law.Below.fr_base.declared.instruction.Instr.TheVariants as instr
+use Rattle.ask_entry_law.specs.Below.borrow_law.Below.journal.View.{EntryView}
+use Rattle.ask_entry_law.specs.Below.entry_law.Below.owner_box.Partition.{new_word}
+use Rattle.ask_entry_law.specs.Below.borrow_law.Below.thread_state.View.{ThreadState}
+use Rattle.ask_entry_law.specs.Below.borrow_law.Below.server_model.declared.event.What.TheVariants.{Step}
+use Rattle.ask_entry_law.specs.Below.borrow_law.Below.server_model.Servers.{Server, Cluster, server_at}
+use Rattle.ask_entry_law.specs.Below.borrow_law.Below.server_model.Work.{thread_in}
+use Rattle.ask_entry_law.specs.Below.borrow_law.Below.server_model.Clusters.{apply}
+use Rattle.ask_entry_law.specs.Below.borrow_law.Below.heap_law.Sight.{sight, issued}
+use Rattle.ask_entry_law.specs.Below.borrow_law.Below.heap_law.Words.{HasWords}
+use Rattle.ask_entry_law.specs.Below.borrow_law.Below.type_law.ClusterTypes.{IsCoherent}
+use Rattle.ask_entry_law.specs.Below.borrow_law.Below.event_law.Laws.{Gives, FewEvents}
+use Rattle.ask_entry_law.specs.Below.borrow_law.Below.word_law.WordsAfter.{KeepsWords}
 
 -- the object that a thread makes next has the next word of its server's partition, which wasn't issued, each other one the word that it had, and what else is kept of words is kept
 pub record HasNextWord (k z : Cluster) (s : Server) (y : ThreadState) (before : HasWords (sight k)) : Type 0 where

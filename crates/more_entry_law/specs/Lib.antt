@@ -1,3 +1,4 @@
+pub mod Below
 pub mod Locks
 pub mod Places
 pub mod Boxes

@@ -1,9 +1,9 @@
 -- ENTRIES OF LOCKS ARE LEGAL where they take their content, through however many stars (in the manner of DRust; the state is this project's).
-use Rattle.borrow_law.specs.Below.fr_base.declared.place.Lval.{Lval}
-use Rattle.borrow_law.specs.Below.fr_base.declared.instruction.Instr.{Instr}
-use Rattle.borrow_law.specs.Below.fr_base.declared.instruction.Instr.TheVariants as instr
-use Rattle.borrow_law.specs.Below.thread_state.View.{ThreadState}
-use Rattle.borrow_law.specs.Below.server_model.Servers.{Cluster}
+use Rattle.ask_entry_law.specs.Below.borrow_law.Below.fr_base.declared.place.Lval.{Lval}
+use Rattle.ask_entry_law.specs.Below.borrow_law.Below.fr_base.declared.instruction.Instr.{Instr}
+use Rattle.ask_entry_law.specs.Below.borrow_law.Below.fr_base.declared.instruction.Instr.TheVariants as instr
+use Rattle.ask_entry_law.specs.Below.borrow_law.Below.thread_state.View.{ThreadState}
+use Rattle.ask_entry_law.specs.Below.borrow_law.Below.server_model.Servers.{Cluster}
 
 -- a lock of the mutex to which a place leads
 pub data LocksPlace (k : Cluster) (y : ThreadState) : Instr → Type 0 where

@@ -1,18 +1,18 @@
 -- ENTRIES OF STEPS THAT FOLLOW A PLACE ARE LEGAL, whether they are done or ask (in the manner of DRust; the state is this project's).
 use Rattle.std.specs.Prelude.{◌≡◌, ℕ, suc, false, List, [], ◌∷◌, ◌++◌, Some, slice_get}
-use Rattle.borrow_law.specs.Below.fr_base.declared.place.Lval.{Lval}
-use Rattle.borrow_law.specs.Below.fr_base.declared.instruction.Instr.{Instr}
-use Rattle.borrow_law.specs.Below.fr_base.declared.instruction.Instr.TheVariants as instr
-use Rattle.borrow_law.specs.Below.journal.View.{EntryView}
-use Rattle.borrow_law.specs.Below.thread_state.View.{ThreadState}
-use Rattle.borrow_law.specs.Below.server_model.declared.event.What.TheVariants.{Step}
-use Rattle.borrow_law.specs.Below.server_model.Servers.{Server, Cluster, server_at}
-use Rattle.borrow_law.specs.Below.server_model.Work.{thread_in}
-use Rattle.borrow_law.specs.Below.server_model.Clusters.{apply}
-use Rattle.borrow_law.specs.Below.heap_law.LeftBy.{LeavesColoured}
-use Rattle.borrow_law.specs.Below.type_law.ClusterTypes.{IsCoherent}
-use Rattle.borrow_law.specs.Below.event_law.Laws.{Gives, FewEvents}
-use Rattle.entry_law.specs.Entries.{EntryLegal}
+use Rattle.ask_entry_law.specs.Below.borrow_law.Below.fr_base.declared.place.Lval.{Lval}
+use Rattle.ask_entry_law.specs.Below.borrow_law.Below.fr_base.declared.instruction.Instr.{Instr}
+use Rattle.ask_entry_law.specs.Below.borrow_law.Below.fr_base.declared.instruction.Instr.TheVariants as instr
+use Rattle.ask_entry_law.specs.Below.borrow_law.Below.journal.View.{EntryView}
+use Rattle.ask_entry_law.specs.Below.borrow_law.Below.thread_state.View.{ThreadState}
+use Rattle.ask_entry_law.specs.Below.borrow_law.Below.server_model.declared.event.What.TheVariants.{Step}
+use Rattle.ask_entry_law.specs.Below.borrow_law.Below.server_model.Servers.{Server, Cluster, server_at}
+use Rattle.ask_entry_law.specs.Below.borrow_law.Below.server_model.Work.{thread_in}
+use Rattle.ask_entry_law.specs.Below.borrow_law.Below.server_model.Clusters.{apply}
+use Rattle.ask_entry_law.specs.Below.borrow_law.Below.heap_law.LeftBy.{LeavesColoured}
+use Rattle.ask_entry_law.specs.Below.borrow_law.Below.type_law.ClusterTypes.{IsCoherent}
+use Rattle.ask_entry_law.specs.Below.borrow_law.Below.event_law.Laws.{Gives, FewEvents}
+use Rattle.ask_entry_law.specs.Below.entry_law.Entries.{EntryLegal}
 use Rattle.place_entry_law.specs.Reads.{BorrowsClean}
 
 -- a copy, a dup or a lock, through however many stars, or a borrow through one at least: a mutable one, or a shared one from a pointer whose word shows all changes of its object

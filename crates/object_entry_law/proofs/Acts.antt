@@ -1,18 +1,18 @@
 -- Acts that end the life of an object and the way of one: a block is freed, and an object is taken in under a new word.
 use Rattle.std.proofs.Common.{◌≡◌, ℕ, ◌==◌, ◌&&◌, ◌||◌, not, Bool, true, false, nat_lt, if◌then◌else◌, List, [], ◌∷◌, Some, None, option_map, refl, ap, ◌∙◌}
-use Rattle.regain_law.specs.Below.fr_base.Lists.{is_in}
-use Rattle.regain_law.specs.Below.fr_base.declared.name.ObjNo.{ObjNo}
-use Rattle.regain_law.specs.Below.fr_base.declared.settings.Options.{Options}
-use Rattle.regain_law.specs.Below.fr_base.Names.{same_object}
-use Rattle.regain_law.specs.Below.global_addr.Words.{colour_of, server_of}
-use Rattle.coherence_law.specs.Below.journal.View.{EntryView}
-use Rattle.coherence_law.specs.Below.journal.declared.act.Act.TheVariants as act
-use Rattle.coherence_law.specs.Below.coloured_heap.Lists.{first, holds, has, less_all}
-use Rattle.coherence_law.specs.Below.coloured_heap.Heap.{Lies, Living, Coloured, is_object, object_at, lies_at, flies_to, is_issued}
-use Rattle.coherence_law.specs.Below.coloured_heap.Rules.{names, comes_here}
-use Rattle.entry_law.proofs.Below.coloured_heap.Times.{object_is}
-use Rattle.entry_law.proofs.Below.coloured_heap.Found.{found_each, found_less}
-use Rattle.entry_law.proofs.Answers.{Answers, Fits, Allowed}
+use Rattle.whole_law.specs.Below.regain_law.Below.fr_base.Lists.{is_in}
+use Rattle.whole_law.specs.Below.regain_law.Below.fr_base.declared.name.ObjNo.{ObjNo}
+use Rattle.whole_law.specs.Below.regain_law.Below.fr_base.declared.settings.Options.{Options}
+use Rattle.whole_law.specs.Below.regain_law.Below.fr_base.Names.{same_object}
+use Rattle.whole_law.specs.Below.regain_law.Below.global_addr.Words.{colour_of, server_of}
+use Rattle.whole_law.specs.Below.journal.View.{EntryView}
+use Rattle.whole_law.specs.Below.journal.declared.act.Act.TheVariants as act
+use Rattle.whole_law.specs.Below.coloured_heap.Lists.{first, holds, has, less_all}
+use Rattle.whole_law.specs.Below.coloured_heap.Heap.{Lies, Living, Coloured, is_object, object_at, lies_at, flies_to, is_issued}
+use Rattle.whole_law.specs.Below.coloured_heap.Rules.{names, comes_here}
+use Rattle.serve_law.proofs.Below.entry_law.Below.coloured_heap.Times.{object_is}
+use Rattle.serve_law.proofs.Below.entry_law.Below.coloured_heap.Found.{found_each, found_less}
+use Rattle.serve_law.proofs.Below.entry_law.Answers.{Answers, Fits, Allowed}
 use Rattle.serve_law.proofs.Acts.{and_true}
 
 -- A BLOCK IS FREED

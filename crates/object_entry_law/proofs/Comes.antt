@@ -1,73 +1,73 @@
 -- Each delivery of an object that comes has a legal entry, from a coherent cluster to a coherent one.
 use Rattle.std.proofs.Common.{◌≡◌, ◌≤◌, ℕ, ◌+◌, ◌<◌, ◌^◌, ◌==◌, ◌&&◌, Bool, true, false, if◌then◌else◌, List, [], ◌∷◌, ◌++◌, Option, Some, None, refl, sym, ap, ap₂, subst, ◌∙◌, arith}
 use Rattle.std.specs.Prelude.{⊤, slice_get}
-use Rattle.regain_law.specs.Below.fr_base.declared.instruction.Instr.{Instr}
-use Rattle.regain_law.specs.Below.fr_base.declared.instruction.Instr.TheVariants as instr
-use Rattle.regain_law.specs.Below.fr_base.declared.label.Label.{Label}
-use Rattle.regain_law.specs.Below.fr_base.declared.name.ObjNo.{ObjNo}
-use Rattle.regain_law.specs.Below.global_addr.Words.{server_of, address_of}
-use Rattle.regain_law.specs.Below.heap_partition.declared.value.Cell.{Cell}
-use Rattle.regain_law.specs.Below.owner_box.View.{PartitionState}
-use Rattle.regain_law.specs.Below.owner_box.Partition.{new_word, next_place}
+use Rattle.whole_law.specs.Below.regain_law.Below.fr_base.declared.instruction.Instr.{Instr}
+use Rattle.whole_law.specs.Below.regain_law.Below.fr_base.declared.instruction.Instr.TheVariants as instr
+use Rattle.whole_law.specs.Below.regain_law.Below.fr_base.declared.label.Label.{Label}
+use Rattle.whole_law.specs.Below.regain_law.Below.fr_base.declared.name.ObjNo.{ObjNo}
+use Rattle.whole_law.specs.Below.regain_law.Below.global_addr.Words.{server_of, address_of}
+use Rattle.whole_law.specs.Below.regain_law.Below.heap_partition.declared.value.Cell.{Cell}
+use Rattle.whole_law.specs.Below.regain_law.Below.owner_box.View.{PartitionState}
+use Rattle.whole_law.specs.Below.regain_law.Below.owner_box.Partition.{new_word, next_place}
 use Rattle.old_words_law.proofs.Below.owner_box.Issued.{packed}
-use Rattle.regain_law.specs.Below.server_msgs.declared.message.Message.{Message}
-use Rattle.regain_law.specs.Below.server_msgs.declared.message.Message.TheVariants as message
-use Rattle.coherence_law.specs.Below.journal.View.{EntryView}
-use Rattle.coherence_law.specs.Below.journal.declared.act.Act.{Act}
-use Rattle.coherence_law.specs.Below.journal.declared.act.Act.TheVariants as act
-use Rattle.coherence_law.specs.Below.server_model.declared.event.Event.{Event}
-use Rattle.coherence_law.specs.Below.server_model.declared.event.What.TheVariants.{Deliver}
-use Rattle.coherence_law.specs.Below.server_model.Servers.{Server, Cluster, server_at}
-use Rattle.coherence_law.specs.Below.server_model.Work.{Site, then_some}
-use Rattle.coherence_law.specs.Below.server_model.Events.{left_by, entry_of, received, deliver_message, deliver, does}
-use Rattle.coherence_law.specs.Below.server_model.Clusters.{apply}
-use Rattle.coherence_law.specs.Below.coloured_heap.Heap.{Coloured}
-use Rattle.coherence_law.specs.Below.heap_law.Names.{tot, one, other, same_object, Among}
-use Rattle.coherence_law.specs.Below.heap_law.Things.{Thing, lies, stands, message_things, server_things, things_of}
-use Rattle.coherence_law.specs.Below.heap_law.Follow.{locate}
-use Rattle.coherence_law.specs.Below.heap_law.Sight.{sight, issued}
-use Rattle.coherence_law.specs.Below.heap_law.Placing.{words}
-use Rattle.coherence_law.specs.Below.heap_law.Colours.{StandsColoured}
-use Rattle.coherence_law.specs.Below.heap_law.Coherent.{IsSound}
-use Rattle.regain_law.proofs.Below.heap_law.Names.{and_left, and_right}
-use Rattle.regain_law.proofs.Below.heap_law.Words.{named}
-use Rattle.regain_law.specs.Below.type_law.ClusterTypes.{IsCoherent}
-use Rattle.coherence_law.specs.Below.event_law.Kinds.{moved, kind_at, kind_of, message_kind, instr_kind}
-use Rattle.coherence_law.specs.Below.event_law.Laws.{Gives, FewEvents}
-use Rattle.coherence_law.proofs.Below.event_law.Bags.{all_standing, rest_things, of_receiving, server_same}
-use Rattle.coherence_law.proofs.Below.event_law.Objects.{taken_place}
-use Rattle.coherence_law.proofs.Below.event_law.Trades.{tot-append}
-use Rattle.coherence_law.proofs.Below.event_law.Results.{over_gives, both_give, weaker}
-use Rattle.entry_law.specs.Below.still_law.Shows.{Sign}
-use Rattle.regain_law.proofs.Below.still_law.Alike.{Heeds, all_seen}
-use Rattle.regain_law.proofs.Below.still_law.Sites.{AlikeBy, ServerStill, leads_by}
-use Rattle.regain_law.proofs.Below.still_law.StillKinds.{server_still}
-use Rattle.regain_law.proofs.Below.still_law.Tests.{numbers, objects}
-use Rattle.regain_law.proofs.Below.path_law.Alike.{coherent_has_paths}
-use Rattle.regain_law.proofs.Below.read_law.Flights.{truly}
-use Rattle.regain_law.proofs.Below.read_law.Lookups.{one_state}
-use Rattle.regain_law.specs.Below.word_law.Reworded.{HasPlaces}
-use Rattle.regain_law.specs.Below.word_law.Unmoved.{Delivers}
-use Rattle.regain_law.proofs.Below.result_law.Flights.{weighs}
-use Rattle.regain_law.proofs.Below.result_law.Pointing.{its_partition}
-use Rattle.regain_law.proofs.Below.write_law.Memory.{Sane}
-use Rattle.regain_law.proofs.Below.write_law.Routes.{sane_at, roomy_at}
-use Rattle.regain_law.proofs.Below.rewrite_law.Later.{later_itself, next_unissued, place_vacant}
-use Rattle.regain_law.specs.Below.prepare_law.Requests.{WordsRise}
-use Rattle.regain_law.proofs.Each.{words_rise}
+use Rattle.whole_law.specs.Below.regain_law.Below.server_msgs.declared.message.Message.{Message}
+use Rattle.whole_law.specs.Below.regain_law.Below.server_msgs.declared.message.Message.TheVariants as message
+use Rattle.whole_law.specs.Below.journal.View.{EntryView}
+use Rattle.whole_law.specs.Below.journal.declared.act.Act.{Act}
+use Rattle.whole_law.specs.Below.journal.declared.act.Act.TheVariants as act
+use Rattle.whole_law.specs.Below.server_model.declared.event.Event.{Event}
+use Rattle.whole_law.specs.Below.server_model.declared.event.What.TheVariants.{Deliver}
+use Rattle.whole_law.specs.Below.server_model.Servers.{Server, Cluster, server_at}
+use Rattle.whole_law.specs.Below.server_model.Work.{Site, then_some}
+use Rattle.whole_law.specs.Below.server_model.Events.{left_by, entry_of, received, deliver_message, deliver, does}
+use Rattle.whole_law.specs.Below.server_model.Clusters.{apply}
+use Rattle.whole_law.specs.Below.coloured_heap.Heap.{Coloured}
+use Rattle.whole_law.specs.Below.heap_law.Names.{tot, one, other, same_object, Among}
+use Rattle.whole_law.specs.Below.heap_law.Things.{Thing, lies, stands, message_things, server_things, things_of}
+use Rattle.whole_law.specs.Below.heap_law.Follow.{locate}
+use Rattle.whole_law.specs.Below.heap_law.Sight.{sight, issued}
+use Rattle.whole_law.specs.Below.heap_law.Placing.{words}
+use Rattle.whole_law.specs.Below.heap_law.Colours.{StandsColoured}
+use Rattle.whole_law.specs.Below.heap_law.Coherent.{IsSound}
+use Rattle.whole_law.proofs.Below.regain_law.Below.heap_law.Names.{and_left, and_right}
+use Rattle.whole_law.proofs.Below.regain_law.Below.heap_law.Words.{named}
+use Rattle.whole_law.specs.Below.regain_law.Below.type_law.ClusterTypes.{IsCoherent}
+use Rattle.whole_law.specs.Below.event_law.Kinds.{moved, kind_at, kind_of, message_kind, instr_kind}
+use Rattle.whole_law.specs.Below.event_law.Laws.{Gives, FewEvents}
+use Rattle.whole_law.proofs.Below.event_law.Bags.{all_standing, rest_things, of_receiving, server_same}
+use Rattle.whole_law.proofs.Below.event_law.Objects.{taken_place}
+use Rattle.whole_law.proofs.Below.event_law.Trades.{tot-append}
+use Rattle.whole_law.proofs.Below.event_law.Results.{over_gives, both_give, weaker}
+use Rattle.serve_law.specs.Below.entry_law.Below.still_law.Shows.{Sign}
+use Rattle.whole_law.proofs.Below.regain_law.Below.still_law.Alike.{Heeds, all_seen}
+use Rattle.whole_law.proofs.Below.regain_law.Below.still_law.Sites.{AlikeBy, ServerStill, leads_by}
+use Rattle.whole_law.proofs.Below.regain_law.Below.still_law.StillKinds.{server_still}
+use Rattle.whole_law.proofs.Below.regain_law.Below.still_law.Tests.{numbers, objects}
+use Rattle.whole_law.proofs.Below.regain_law.Below.path_law.Alike.{coherent_has_paths}
+use Rattle.whole_law.proofs.Below.regain_law.Below.read_law.Flights.{truly}
+use Rattle.whole_law.proofs.Below.regain_law.Below.read_law.Lookups.{one_state}
+use Rattle.whole_law.specs.Below.regain_law.Below.word_law.Reworded.{HasPlaces}
+use Rattle.whole_law.specs.Below.regain_law.Below.word_law.Unmoved.{Delivers}
+use Rattle.whole_law.proofs.Below.regain_law.Below.result_law.Flights.{weighs}
+use Rattle.whole_law.proofs.Below.regain_law.Below.result_law.Pointing.{its_partition}
+use Rattle.whole_law.proofs.Below.regain_law.Below.write_law.Memory.{Sane}
+use Rattle.whole_law.proofs.Below.regain_law.Below.write_law.Routes.{sane_at, roomy_at}
+use Rattle.whole_law.proofs.Below.regain_law.Below.rewrite_law.Later.{later_itself, next_unissued, place_vacant}
+use Rattle.whole_law.specs.Below.regain_law.Below.prepare_law.Requests.{WordsRise}
+use Rattle.whole_law.proofs.Below.regain_law.Each.{words_rise}
 use Rattle.apart_law.proofs.UnderWay.{FlightsIssued, landing_flights}
 use Rattle.old_words_law.specs.Old.{unissued, first_words, lent_words}
 use Rattle.old_words_law.proofs.Firsts.{arrivals_leave_firsts}
-use Rattle.ever_issued_law.proofs.Fresh.{Home, at_home}
-use Rattle.ever_issued_law.proofs.Landings.{landings_leave_lent}
-use Rattle.ever_issued_law.proofs.There.{word_of, shown}
-use Rattle.entry_law.specs.Entries.{LeadsOn}
-use Rattle.entry_law.proofs.Weighed.{Seen, server_turns, received_turns}
-use Rattle.entry_law.proofs.After.{Follows}
-use Rattle.entry_law.proofs.Applied.{Afterwards, applied_by}
-use Rattle.entry_law.proofs.Runs.{silent}
+use Rattle.whole_law.proofs.Below.ever_issued_law.Fresh.{Home, at_home}
+use Rattle.whole_law.proofs.Below.ever_issued_law.Landings.{landings_leave_lent}
+use Rattle.whole_law.proofs.Below.ever_issued_law.There.{word_of, shown}
+use Rattle.serve_law.specs.Below.entry_law.Entries.{LeadsOn}
+use Rattle.serve_law.proofs.Below.entry_law.Weighed.{Seen, server_turns, received_turns}
+use Rattle.serve_law.proofs.Below.entry_law.After.{Follows}
+use Rattle.serve_law.proofs.Below.entry_law.Applied.{Afterwards, applied_by}
+use Rattle.serve_law.proofs.Below.entry_law.Runs.{silent}
 use Rattle.serve_law.specs.Served.{CoherentEntriesLegal}
-use Rattle.coherence_law.specs.Coherence.{EventsKeepCoherence}
+use Rattle.whole_law.specs.Below.coherence_law.Coherence.{EventsKeepCoherence}
 use Rattle.object_entry_law.proofs.Delivered.{DeliveryOf, delivery_of}
 use Rattle.object_entry_law.proofs.Gifts.{GiftsKept, gifts_kept}
 use Rattle.object_entry_law.proofs.Landing.{Lands, moved_lands}

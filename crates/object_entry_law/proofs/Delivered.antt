@@ -1,14 +1,14 @@
 -- An event of the kind of a message is the delivery of one.
 use Rattle.std.proofs.Common.{◌≡◌, ℕ, Option, Some, None, option_map, refl}
 use Rattle.std.specs.Prelude.{slice_get}
-use Rattle.regain_law.specs.Below.fr_base.declared.instruction.Instr.{Instr}
-use Rattle.regain_law.specs.Below.thread_state.View.{ThreadState}
-use Rattle.regain_law.specs.Below.server_msgs.declared.message.Message.{Message}
-use Rattle.coherence_law.specs.Below.server_model.declared.event.What.{What}
-use Rattle.coherence_law.specs.Below.server_model.declared.event.What.TheVariants.{Step, Deliver, Evict, Migrate}
-use Rattle.coherence_law.specs.Below.server_model.Servers.{Server, Cluster}
-use Rattle.coherence_law.specs.Below.server_model.Work.{thread_in, then_some}
-use Rattle.coherence_law.specs.Below.event_law.Kinds.{Kind, evicts, migrates, message_kind, instr_kind, kind_at}
+use Rattle.whole_law.specs.Below.regain_law.Below.fr_base.declared.instruction.Instr.{Instr}
+use Rattle.whole_law.specs.Below.regain_law.Below.thread_state.View.{ThreadState}
+use Rattle.whole_law.specs.Below.regain_law.Below.server_msgs.declared.message.Message.{Message}
+use Rattle.whole_law.specs.Below.server_model.declared.event.What.{What}
+use Rattle.whole_law.specs.Below.server_model.declared.event.What.TheVariants.{Step, Deliver, Evict, Migrate}
+use Rattle.whole_law.specs.Below.server_model.Servers.{Server, Cluster}
+use Rattle.whole_law.specs.Below.server_model.Work.{thread_in, then_some}
+use Rattle.whole_law.specs.Below.event_law.Kinds.{Kind, evicts, migrates, message_kind, instr_kind, kind_at}
 
 -- the message number so much of the server, of that kind
 pub record DeliveryOf (s : Server) (kind : Kind) (w : What) : Type 0 where

@@ -1,62 +1,62 @@
 -- A block is freed, and what it held is let go: the object was condemned, as its `drop` was under way, and is gone; the box that it held names another object, which is condemned.
 use Rattle.std.proofs.Common.{◌≡◌, ◌⊎◌, inl, inr, ℕ, zero, suc, ◌+◌, ◌≤◌, ◌==◌, ◌&&◌, Bool, true, false, if◌then◌else◌, List, [], ◌∷◌, Option, Some, None, option_map, refl, sym, ap, ap₂, subst, ◌∙◌, arith}
 use Rattle.std.specs.Prelude.{slice_get}
-use Rattle.regain_law.specs.Below.fr_base.declared.name.ObjNo.{ObjNo}
-use Rattle.regain_law.specs.Below.fr_base.declared.label.Plain.{Plain}
-use Rattle.regain_law.specs.Below.fr_base.declared.name.MutexNo.{MutexNo}
-use Rattle.regain_law.specs.Below.fr_base.declared.release.Released.TheVariants as released
-use Rattle.regain_law.specs.Below.global_addr.Words.{server_of}
-use Rattle.regain_law.specs.Below.heap_partition.Plain.{plain_of}
-use Rattle.regain_law.specs.Below.heap_partition.declared.value.BoxPtr.{BoxPtr}
-use Rattle.regain_law.specs.Below.heap_partition.declared.value.Cell.{Cell}
-use Rattle.regain_law.specs.Below.heap_partition.declared.value.Owned.{Owned}
-use Rattle.regain_law.specs.Below.heap_partition.declared.value.Owned.TheVariants as owned
-use Rattle.regain_law.specs.Below.server_msgs.declared.message.Message.{Message}
-use Rattle.regain_law.specs.Below.server_msgs.declared.message.Message.TheVariants as message
-use Rattle.coherence_law.specs.Below.journal.View.{EntryView}
-use Rattle.coherence_law.specs.Below.journal.declared.act.Act.TheVariants as act
-use Rattle.coherence_law.specs.Below.server_model.Servers.{Server, Cluster, server_at}
-use Rattle.regain_law.specs.Below.owner_box.Partition.{freed}
-use Rattle.coherence_law.specs.Below.server_model.Work.{Work, Site, note, with_partition, look_object}
-use Rattle.coherence_law.specs.Below.server_model.Drop.{give_up}
-use Rattle.coherence_law.specs.Below.server_model.Events.{received, deliver_message}
-use Rattle.coherence_law.specs.Below.server_model.Objects.{deliver_drop}
-use Rattle.coherence_law.specs.Below.coloured_heap.Heap.{Place, Lies, Living, Coloured, is_object}
-use Rattle.entry_law.proofs.Below.coloured_heap.ShownNames.{object_flip}
-use Rattle.coherence_law.specs.Below.heap_law.Names.{tot, one, some, same_object, boxes, Among}
-use Rattle.coherence_law.specs.Below.heap_law.Things.{Thing, sent, vacant, retired, message_things, things_of}
-use Rattle.coherence_law.specs.Below.heap_law.Sight.{Pointer, pointers_in, taken_pointers, is_word, sight, word, issued}
-use Rattle.coherence_law.specs.Below.heap_law.Weights.{cells, is_thread, lies_under}
-use Rattle.coherence_law.specs.Below.heap_law.Placing.{sum_over}
-use Rattle.coherence_law.specs.Below.heap_law.Naming.{threads, named_mutexes, owned_thread, started_at, made_at}
-use Rattle.coherence_law.specs.Below.heap_law.Sharing.{owned_mutex}
-use Rattle.coherence_law.specs.Below.heap_law.Requests.{not_under, not_there, home_of}
-use Rattle.coherence_law.specs.Below.heap_law.OneHeap.{object_n, owns, first_shown, is_given_thread, is_given_mutex}
-use Rattle.coherence_law.specs.Below.heap_law.Words.{IsStale, HasWords}
-use Rattle.coherence_law.specs.Below.heap_law.Colours.{StandsColoured, living_of}
-use Rattle.coherence_law.specs.Below.heap_law.Coherent.{IsSound}
-use Rattle.regain_law.proofs.Below.heap_law.Names.{and_left, and_right}
-use Rattle.regain_law.proofs.Below.heap_law.Words.{named as object_named}
-use Rattle.coherence_law.specs.Below.event_law.Laws.{Gives}
-use Rattle.coherence_law.proofs.Below.event_law.Askers.{other_none}
-use Rattle.coherence_law.proofs.Below.event_law.ObjectMessages.{looked_object}
-use Rattle.coherence_law.proofs.Below.event_law.Results.{over_gives, map_gives}
-use Rattle.regain_law.proofs.Below.still_law.Tests.{numbers, objects}
-use Rattle.regain_law.proofs.Below.still_law.Told.{told}
-use Rattle.regain_law.proofs.Below.path_law.Origins.{among_first}
-use Rattle.regain_law.proofs.Below.read_law.Flights.{truly}
-use Rattle.regain_law.specs.Below.word_law.Unmoved.{WordsStay}
-use Rattle.regain_law.proofs.Below.word_law.Standing.{pointers_among}
-use Rattle.regain_law.proofs.Below.result_law.Flights.{weighs}
-use Rattle.entry_law.proofs.Answers.{Answers, Agrees, answers_of, Fits, fits, condemning, condemn_allowed, let_go_allowed}
-use Rattle.entry_law.proofs.Weighed.{Seen, beside}
-use Rattle.entry_law.proofs.Shown.{if_some, placed_in, dropped_by, as_living, living_is, copy_in, served_in, wished_in, runs, there_in, holder_by}
-use Rattle.entry_law.proofs.Live.{word_told as live_word, dropped_seen, placed_after, word_kept, issued_by, issued_still as issued_stays}
-use Rattle.entry_law.proofs.After.{Follows, Keeps, copy_still, served_still, wishes_still}
-use Rattle.entry_law.proofs.Runs.{Runs, runs_none, runs_act, runs_one, silent, leads_on}
-use Rattle.entry_law.proofs.Applied.{Legal, server_there}
-use Rattle.entry_law.proofs.Changed.{notes, message_there}
-use Rattle.entry_law.proofs.GiveUp.{give_news, give_acts, gives_turns}
+use Rattle.whole_law.specs.Below.regain_law.Below.fr_base.declared.name.ObjNo.{ObjNo}
+use Rattle.whole_law.specs.Below.regain_law.Below.fr_base.declared.label.Plain.{Plain}
+use Rattle.whole_law.specs.Below.regain_law.Below.fr_base.declared.name.MutexNo.{MutexNo}
+use Rattle.whole_law.specs.Below.regain_law.Below.fr_base.declared.release.Released.TheVariants as released
+use Rattle.whole_law.specs.Below.regain_law.Below.global_addr.Words.{server_of}
+use Rattle.whole_law.specs.Below.regain_law.Below.heap_partition.Plain.{plain_of}
+use Rattle.whole_law.specs.Below.regain_law.Below.heap_partition.declared.value.BoxPtr.{BoxPtr}
+use Rattle.whole_law.specs.Below.regain_law.Below.heap_partition.declared.value.Cell.{Cell}
+use Rattle.whole_law.specs.Below.regain_law.Below.heap_partition.declared.value.Owned.{Owned}
+use Rattle.whole_law.specs.Below.regain_law.Below.heap_partition.declared.value.Owned.TheVariants as owned
+use Rattle.whole_law.specs.Below.regain_law.Below.server_msgs.declared.message.Message.{Message}
+use Rattle.whole_law.specs.Below.regain_law.Below.server_msgs.declared.message.Message.TheVariants as message
+use Rattle.whole_law.specs.Below.journal.View.{EntryView}
+use Rattle.whole_law.specs.Below.journal.declared.act.Act.TheVariants as act
+use Rattle.whole_law.specs.Below.server_model.Servers.{Server, Cluster, server_at}
+use Rattle.whole_law.specs.Below.regain_law.Below.owner_box.Partition.{freed}
+use Rattle.whole_law.specs.Below.server_model.Work.{Work, Site, note, with_partition, look_object}
+use Rattle.whole_law.specs.Below.server_model.Drop.{give_up}
+use Rattle.whole_law.specs.Below.server_model.Events.{received, deliver_message}
+use Rattle.whole_law.specs.Below.server_model.Objects.{deliver_drop}
+use Rattle.whole_law.specs.Below.coloured_heap.Heap.{Place, Lies, Living, Coloured, is_object}
+use Rattle.serve_law.proofs.Below.entry_law.Below.coloured_heap.ShownNames.{object_flip}
+use Rattle.whole_law.specs.Below.heap_law.Names.{tot, one, some, same_object, boxes, Among}
+use Rattle.whole_law.specs.Below.heap_law.Things.{Thing, sent, vacant, retired, message_things, things_of}
+use Rattle.whole_law.specs.Below.heap_law.Sight.{Pointer, pointers_in, taken_pointers, is_word, sight, word, issued}
+use Rattle.whole_law.specs.Below.heap_law.Weights.{cells, is_thread, lies_under}
+use Rattle.whole_law.specs.Below.heap_law.Placing.{sum_over}
+use Rattle.whole_law.specs.Below.heap_law.Naming.{threads, named_mutexes, owned_thread, started_at, made_at}
+use Rattle.whole_law.specs.Below.heap_law.Sharing.{owned_mutex}
+use Rattle.whole_law.specs.Below.heap_law.Requests.{not_under, not_there, home_of}
+use Rattle.whole_law.specs.Below.heap_law.OneHeap.{object_n, owns, first_shown, is_given_thread, is_given_mutex}
+use Rattle.whole_law.specs.Below.heap_law.Words.{IsStale, HasWords}
+use Rattle.whole_law.specs.Below.heap_law.Colours.{StandsColoured, living_of}
+use Rattle.whole_law.specs.Below.heap_law.Coherent.{IsSound}
+use Rattle.whole_law.proofs.Below.regain_law.Below.heap_law.Names.{and_left, and_right}
+use Rattle.whole_law.proofs.Below.regain_law.Below.heap_law.Words.{named as object_named}
+use Rattle.whole_law.specs.Below.event_law.Laws.{Gives}
+use Rattle.whole_law.proofs.Below.event_law.Askers.{other_none}
+use Rattle.whole_law.proofs.Below.event_law.ObjectMessages.{looked_object}
+use Rattle.whole_law.proofs.Below.event_law.Results.{over_gives, map_gives}
+use Rattle.whole_law.proofs.Below.regain_law.Below.still_law.Tests.{numbers, objects}
+use Rattle.whole_law.proofs.Below.regain_law.Below.still_law.Told.{told}
+use Rattle.whole_law.proofs.Below.regain_law.Below.path_law.Origins.{among_first}
+use Rattle.whole_law.proofs.Below.regain_law.Below.read_law.Flights.{truly}
+use Rattle.whole_law.specs.Below.regain_law.Below.word_law.Unmoved.{WordsStay}
+use Rattle.whole_law.proofs.Below.regain_law.Below.word_law.Standing.{pointers_among}
+use Rattle.whole_law.proofs.Below.regain_law.Below.result_law.Flights.{weighs}
+use Rattle.serve_law.proofs.Below.entry_law.Answers.{Answers, Agrees, answers_of, Fits, fits, condemning, condemn_allowed, let_go_allowed}
+use Rattle.serve_law.proofs.Below.entry_law.Weighed.{Seen, beside}
+use Rattle.serve_law.proofs.Below.entry_law.Shown.{if_some, placed_in, dropped_by, as_living, living_is, copy_in, served_in, wished_in, runs, there_in, holder_by}
+use Rattle.serve_law.proofs.Below.entry_law.Live.{word_told as live_word, dropped_seen, placed_after, word_kept, issued_by, issued_still as issued_stays}
+use Rattle.serve_law.proofs.Below.entry_law.After.{Follows, Keeps, copy_still, served_still, wishes_still}
+use Rattle.serve_law.proofs.Below.entry_law.Runs.{Runs, runs_none, runs_act, runs_one, silent, leads_on}
+use Rattle.serve_law.proofs.Below.entry_law.Applied.{Legal, server_there}
+use Rattle.serve_law.proofs.Below.entry_law.Changed.{notes, message_there}
+use Rattle.serve_law.proofs.Below.entry_law.GiveUp.{give_news, give_acts, gives_turns}
 use Rattle.serve_law.proofs.Beside.{ObjectsOnly, objects_agree}
 use Rattle.serve_law.proofs.Lying.{word_told, lies_there, placed, placed_somewhere, its_object}
 use Rattle.object_entry_law.proofs.Acts.{freeing, free_allowed}

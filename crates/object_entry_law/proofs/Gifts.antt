@@ -1,23 +1,23 @@
 -- Gifts stay the contents of the mutexes that they were, where what places pass shows the same.
 use Rattle.std.proofs.Common.{◌≡◌, ℕ, Bool, false, Option, Some, is_some, refl, sym, ap, ◌∙◌}
 use Rattle.std.specs.Prelude.{slice_get}
-use Rattle.regain_law.specs.Below.fr_base.declared.name.MutexNo.{MutexNo}
-use Rattle.regain_law.specs.Below.fr_base.declared.name.ObjNo.{ObjNo}
-use Rattle.regain_law.specs.Below.fr_base.declared.instruction.Instr.{Instr}
-use Rattle.regain_law.specs.Below.fr_base.declared.instruction.Instr.TheVariants as instr
-use Rattle.coherence_law.specs.Below.server_model.Servers.{Cluster}
-use Rattle.coherence_law.specs.Below.heap_law.Names.{one, if_so}
-use Rattle.coherence_law.specs.Below.heap_law.Things.{things_of}
-use Rattle.coherence_law.specs.Below.heap_law.Follow.{Standing, locate}
-use Rattle.coherence_law.specs.Below.heap_law.Sight.{sight}
-use Rattle.coherence_law.specs.Below.heap_law.Requests.{locked_mutex, is_mutex}
-use Rattle.coherence_law.specs.Below.heap_law.Sharing.{gift_content}
-use Rattle.coherence_law.specs.Below.heap_law.OneHeap.{object_n}
-use Rattle.coherence_law.specs.Below.heap_law.Coherent.{IsSound}
-use Rattle.entry_law.specs.Below.still_law.Shows.{is_named}
-use Rattle.regain_law.proofs.Below.still_law.Alike.{SeenAt, HeedAlike, mutex_same}
-use Rattle.regain_law.proofs.Below.still_law.Counting.{no_stray}
-use Rattle.regain_law.proofs.Below.still_law.Once.{shown_once}
+use Rattle.whole_law.specs.Below.regain_law.Below.fr_base.declared.name.MutexNo.{MutexNo}
+use Rattle.whole_law.specs.Below.regain_law.Below.fr_base.declared.name.ObjNo.{ObjNo}
+use Rattle.whole_law.specs.Below.regain_law.Below.fr_base.declared.instruction.Instr.{Instr}
+use Rattle.whole_law.specs.Below.regain_law.Below.fr_base.declared.instruction.Instr.TheVariants as instr
+use Rattle.whole_law.specs.Below.server_model.Servers.{Cluster}
+use Rattle.whole_law.specs.Below.heap_law.Names.{one, if_so}
+use Rattle.whole_law.specs.Below.heap_law.Things.{things_of}
+use Rattle.whole_law.specs.Below.heap_law.Follow.{Standing, locate}
+use Rattle.whole_law.specs.Below.heap_law.Sight.{sight}
+use Rattle.whole_law.specs.Below.heap_law.Requests.{locked_mutex, is_mutex}
+use Rattle.whole_law.specs.Below.heap_law.Sharing.{gift_content}
+use Rattle.whole_law.specs.Below.heap_law.OneHeap.{object_n}
+use Rattle.whole_law.specs.Below.heap_law.Coherent.{IsSound}
+use Rattle.serve_law.specs.Below.entry_law.Below.still_law.Shows.{is_named}
+use Rattle.whole_law.proofs.Below.regain_law.Below.still_law.Alike.{SeenAt, HeedAlike, mutex_same}
+use Rattle.whole_law.proofs.Below.regain_law.Below.still_law.Counting.{no_stray}
+use Rattle.whole_law.proofs.Below.regain_law.Below.still_law.Once.{shown_once}
 
 abbrev pub GiftsKept : Cluster → Cluster → Type 0
 GiftsKept k d = (m : MutexNo) (x : Standing) → gift_content (sight d) m x ≡ gift_content (sight k) m x

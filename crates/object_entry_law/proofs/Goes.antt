@@ -1,53 +1,53 @@
 -- Each delivery of a `drop` has a legal entry: words stay, and gifts too, as no place passes the object that goes.
 use Rattle.std.proofs.Common.{◌≡◌, ℕ, zero, suc, not, Bool, true, false, List, [], ◌∷◌, Option, Some, None, refl, sym, ap, subst, ◌∙◌, arith}
 use Rattle.std.specs.Prelude.{⊤, slice_get}
-use Rattle.regain_law.specs.Below.fr_base.declared.instruction.Instr.{Instr}
-use Rattle.regain_law.specs.Below.fr_base.declared.instruction.Instr.TheVariants as instr
-use Rattle.regain_law.specs.Below.fr_base.declared.name.ObjNo.{ObjNo}
-use Rattle.regain_law.specs.Below.global_addr.Words.{address_of}
-use Rattle.regain_law.specs.Below.heap_partition.Plain.{plain_of}
-use Rattle.regain_law.specs.Below.owner_box.Partition.{freed}
-use Rattle.regain_law.specs.Below.server_msgs.declared.message.Message.{Message}
-use Rattle.regain_law.specs.Below.server_msgs.declared.message.Message.TheVariants as message
-use Rattle.coherence_law.specs.Below.journal.View.{EntryView}
-use Rattle.coherence_law.specs.Below.journal.declared.act.Act.TheVariants as act
-use Rattle.coherence_law.specs.Below.server_model.declared.event.What.{What}
-use Rattle.coherence_law.specs.Below.server_model.declared.event.What.TheVariants.{Deliver}
-use Rattle.coherence_law.specs.Below.server_model.Servers.{Rest, Server, Cluster, server_at}
-use Rattle.coherence_law.specs.Below.server_model.Work.{Work, note, with_partition, look_object, then_some}
-use Rattle.coherence_law.specs.Below.server_model.Objects.{deliver_drop}
-use Rattle.coherence_law.specs.Below.server_model.Events.{received, does}
-use Rattle.coherence_law.specs.Below.server_model.Clusters.{apply}
-use Rattle.coherence_law.specs.Below.coloured_heap.Heap.{Coloured}
-use Rattle.coherence_law.specs.Below.heap_law.Names.{one, same_object}
-use Rattle.coherence_law.specs.Below.heap_law.Things.{Location, at_slot, at_temp, in_cell, Thing, lies, message_things, server_things, things_of}
-use Rattle.coherence_law.specs.Below.heap_law.Follow.{value_behind, leads, locate}
-use Rattle.coherence_law.specs.Below.heap_law.Sight.{sight}
-use Rattle.coherence_law.specs.Below.heap_law.OneHeap.{object_n}
-use Rattle.coherence_law.specs.Below.heap_law.Colours.{StandsColoured}
-use Rattle.coherence_law.specs.Below.heap_law.Coherent.{IsSound}
-use Rattle.regain_law.specs.Below.type_law.ClusterTypes.{IsCoherent}
-use Rattle.coherence_law.specs.Below.event_law.Kinds.{drop, kind_at, message_kind, instr_kind}
-use Rattle.coherence_law.specs.Below.event_law.Laws.{Gives}
-use Rattle.coherence_law.proofs.Below.event_law.Bags.{of_partition}
-use Rattle.coherence_law.proofs.Below.event_law.Cells.{looked, frees}
-use Rattle.coherence_law.proofs.Below.event_law.ObjectMessages.{looked_object}
-use Rattle.coherence_law.proofs.Below.event_law.Results.{map_gives, over_gives, both_give, weaker}
-use Rattle.entry_law.specs.Below.still_law.Shows.{Sign, an_object, sign_of, is_named}
-use Rattle.regain_law.proofs.Below.still_law.Addresses.{address_unseen, in_place, lies_alone}
-use Rattle.regain_law.proofs.Below.still_law.Alike.{SeenAt, Heeds}
-use Rattle.regain_law.proofs.Below.still_law.Back.{gives_up}
-use Rattle.regain_law.proofs.Below.still_law.Leaving.{others, placed_here}
-use Rattle.regain_law.proofs.Below.still_law.Sites.{Moves, AlikeBy, TakesBy, RestTakesBy, site_takes_by, deliveries_in, leads_by}
-use Rattle.regain_law.proofs.Below.still_law.Tests.{objects}
-use Rattle.regain_law.specs.Below.word_law.Unmoved.{LeavesWords}
-use Rattle.regain_law.proofs.Below.free_law.Drops.{drops_leave, message_there as drop_there}
-use Rattle.regain_law.proofs.Below.free_law.Lists.{NoneLeads}
-use Rattle.regain_law.proofs.Below.free_law.Unled.{none_leads}
-use Rattle.entry_law.proofs.After.{Keeps}
-use Rattle.entry_law.proofs.Applied.{Led, delivered}
-use Rattle.entry_law.proofs.Changed.{message_there}
-use Rattle.entry_law.proofs.Shown.{dropped_by}
+use Rattle.whole_law.specs.Below.regain_law.Below.fr_base.declared.instruction.Instr.{Instr}
+use Rattle.whole_law.specs.Below.regain_law.Below.fr_base.declared.instruction.Instr.TheVariants as instr
+use Rattle.whole_law.specs.Below.regain_law.Below.fr_base.declared.name.ObjNo.{ObjNo}
+use Rattle.whole_law.specs.Below.regain_law.Below.global_addr.Words.{address_of}
+use Rattle.whole_law.specs.Below.regain_law.Below.heap_partition.Plain.{plain_of}
+use Rattle.whole_law.specs.Below.regain_law.Below.owner_box.Partition.{freed}
+use Rattle.whole_law.specs.Below.regain_law.Below.server_msgs.declared.message.Message.{Message}
+use Rattle.whole_law.specs.Below.regain_law.Below.server_msgs.declared.message.Message.TheVariants as message
+use Rattle.whole_law.specs.Below.journal.View.{EntryView}
+use Rattle.whole_law.specs.Below.journal.declared.act.Act.TheVariants as act
+use Rattle.whole_law.specs.Below.server_model.declared.event.What.{What}
+use Rattle.whole_law.specs.Below.server_model.declared.event.What.TheVariants.{Deliver}
+use Rattle.whole_law.specs.Below.server_model.Servers.{Rest, Server, Cluster, server_at}
+use Rattle.whole_law.specs.Below.server_model.Work.{Work, note, with_partition, look_object, then_some}
+use Rattle.whole_law.specs.Below.server_model.Objects.{deliver_drop}
+use Rattle.whole_law.specs.Below.server_model.Events.{received, does}
+use Rattle.whole_law.specs.Below.server_model.Clusters.{apply}
+use Rattle.whole_law.specs.Below.coloured_heap.Heap.{Coloured}
+use Rattle.whole_law.specs.Below.heap_law.Names.{one, same_object}
+use Rattle.whole_law.specs.Below.heap_law.Things.{Location, at_slot, at_temp, in_cell, Thing, lies, message_things, server_things, things_of}
+use Rattle.whole_law.specs.Below.heap_law.Follow.{value_behind, leads, locate}
+use Rattle.whole_law.specs.Below.heap_law.Sight.{sight}
+use Rattle.whole_law.specs.Below.heap_law.OneHeap.{object_n}
+use Rattle.whole_law.specs.Below.heap_law.Colours.{StandsColoured}
+use Rattle.whole_law.specs.Below.heap_law.Coherent.{IsSound}
+use Rattle.whole_law.specs.Below.regain_law.Below.type_law.ClusterTypes.{IsCoherent}
+use Rattle.whole_law.specs.Below.event_law.Kinds.{drop, kind_at, message_kind, instr_kind}
+use Rattle.whole_law.specs.Below.event_law.Laws.{Gives}
+use Rattle.whole_law.proofs.Below.event_law.Bags.{of_partition}
+use Rattle.whole_law.proofs.Below.event_law.Cells.{looked, frees}
+use Rattle.whole_law.proofs.Below.event_law.ObjectMessages.{looked_object}
+use Rattle.whole_law.proofs.Below.event_law.Results.{map_gives, over_gives, both_give, weaker}
+use Rattle.serve_law.specs.Below.entry_law.Below.still_law.Shows.{Sign, an_object, sign_of, is_named}
+use Rattle.whole_law.proofs.Below.regain_law.Below.still_law.Addresses.{address_unseen, in_place, lies_alone}
+use Rattle.whole_law.proofs.Below.regain_law.Below.still_law.Alike.{SeenAt, Heeds}
+use Rattle.whole_law.proofs.Below.regain_law.Below.still_law.Back.{gives_up}
+use Rattle.whole_law.proofs.Below.regain_law.Below.still_law.Leaving.{others, placed_here}
+use Rattle.whole_law.proofs.Below.regain_law.Below.still_law.Sites.{Moves, AlikeBy, TakesBy, RestTakesBy, site_takes_by, deliveries_in, leads_by}
+use Rattle.whole_law.proofs.Below.regain_law.Below.still_law.Tests.{objects}
+use Rattle.whole_law.specs.Below.regain_law.Below.word_law.Unmoved.{LeavesWords}
+use Rattle.whole_law.proofs.Below.regain_law.Below.free_law.Drops.{drops_leave, message_there as drop_there}
+use Rattle.whole_law.proofs.Below.regain_law.Below.free_law.Lists.{NoneLeads}
+use Rattle.whole_law.proofs.Below.regain_law.Below.free_law.Unled.{none_leads}
+use Rattle.serve_law.proofs.Below.entry_law.After.{Keeps}
+use Rattle.serve_law.proofs.Below.entry_law.Applied.{Led, delivered}
+use Rattle.serve_law.proofs.Below.entry_law.Changed.{message_there}
+use Rattle.serve_law.proofs.Below.entry_law.Shown.{dropped_by}
 use Rattle.serve_law.specs.Served.{CoherentEntriesLegal}
 use Rattle.serve_law.proofs.CoherentLegal.{KindKeeps, coherent_legal}
 use Rattle.object_entry_law.proofs.Delivered.{DeliveryOf, delivery_of}

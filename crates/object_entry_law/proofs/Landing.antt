@@ -1,30 +1,30 @@
 -- An object lands at its server, and the pointer that its thread waits at gets its word: what went and what came there, as the coloured heap sees it, and no word but that one comes.
 use Rattle.std.proofs.Common.{◌≡◌, ℕ, ◌+◌, ◌≤◌, Bool, true, false, if◌then◌else◌, List, [], ◌∷◌, ◌++◌, length, Option, Some, None, option_map, refl, ap, ap₂, ◌∙◌, arith}
 use Rattle.std.specs.Prelude.{slice_get}
-use Rattle.regain_law.specs.Below.fr_base.declared.name.ObjNo.{ObjNo}
-use Rattle.regain_law.specs.Below.heap_partition.declared.value.Cell.{Cell}
-use Rattle.regain_law.specs.Below.owner_box.View.{PartitionState}
-use Rattle.regain_law.specs.Below.owner_box.Partition.{made, new_word, next_place}
-use Rattle.regain_law.specs.Below.thread_state.View.{ThreadState, is_over}
-use Rattle.regain_law.specs.Below.server_msgs.declared.message.Message.TheVariants as message
-use Rattle.coherence_law.specs.Below.journal.declared.act.Act.{Act}
-use Rattle.coherence_law.specs.Below.journal.declared.act.Act.TheVariants as act
-use Rattle.coherence_law.specs.Below.server_model.Servers.{Server, Cluster, server_at}
-use Rattle.coherence_law.specs.Below.server_model.Work.{Work, Hand, Site, note, with_partition, thread_in, set_thread, put_back, then_some}
-use Rattle.coherence_law.specs.Below.server_model.NewWords.{NewWord, can_grow}
-use Rattle.coherence_law.specs.Below.server_model.Objects.{waits_for_cell, arrived, instr_access, came, deliver_moved}
-use Rattle.coherence_law.specs.Below.server_model.Events.{received, deliver_message}
-use Rattle.coherence_law.specs.Below.heap_law.Names.{tot}
-use Rattle.coherence_law.specs.Below.heap_law.Things.{Thing, lies, stands, gift_things, things_at, walk_things, slot_things, temp_things, thread_things, message_things}
-use Rattle.coherence_law.specs.Below.heap_law.Placing.{phase_word, words}
-use Rattle.coherence_law.specs.Below.heap_law.Coherent.{IsSound}
-use Rattle.coherence_law.specs.Below.event_law.Laws.{Gives}
-use Rattle.coherence_law.proofs.Below.event_law.Trades.{tot-append}
-use Rattle.coherence_law.proofs.Below.event_law.Results.{over_gives, weaker}
-use Rattle.coherence_law.proofs.Below.event_law.Bags.{all_standing, rest_things, of_partition, thread_number, tot-without, tot-set}
-use Rattle.coherence_law.proofs.Below.event_law.Objects.{taken_place, makes, free_place}
-use Rattle.regain_law.proofs.Below.still_law.Leaving.{others, placed_here}
-use Rattle.entry_law.proofs.Weighed.{Seen, SiteTurns, site_things, marks_of, thread_seen}
+use Rattle.whole_law.specs.Below.regain_law.Below.fr_base.declared.name.ObjNo.{ObjNo}
+use Rattle.whole_law.specs.Below.regain_law.Below.heap_partition.declared.value.Cell.{Cell}
+use Rattle.whole_law.specs.Below.regain_law.Below.owner_box.View.{PartitionState}
+use Rattle.whole_law.specs.Below.regain_law.Below.owner_box.Partition.{made, new_word, next_place}
+use Rattle.whole_law.specs.Below.regain_law.Below.thread_state.View.{ThreadState, is_over}
+use Rattle.whole_law.specs.Below.regain_law.Below.server_msgs.declared.message.Message.TheVariants as message
+use Rattle.whole_law.specs.Below.journal.declared.act.Act.{Act}
+use Rattle.whole_law.specs.Below.journal.declared.act.Act.TheVariants as act
+use Rattle.whole_law.specs.Below.server_model.Servers.{Server, Cluster, server_at}
+use Rattle.whole_law.specs.Below.server_model.Work.{Work, Hand, Site, note, with_partition, thread_in, set_thread, put_back, then_some}
+use Rattle.whole_law.specs.Below.server_model.NewWords.{NewWord, can_grow}
+use Rattle.whole_law.specs.Below.server_model.Objects.{waits_for_cell, arrived, instr_access, came, deliver_moved}
+use Rattle.whole_law.specs.Below.server_model.Events.{received, deliver_message}
+use Rattle.whole_law.specs.Below.heap_law.Names.{tot}
+use Rattle.whole_law.specs.Below.heap_law.Things.{Thing, lies, stands, gift_things, things_at, walk_things, slot_things, temp_things, thread_things, message_things}
+use Rattle.whole_law.specs.Below.heap_law.Placing.{phase_word, words}
+use Rattle.whole_law.specs.Below.heap_law.Coherent.{IsSound}
+use Rattle.whole_law.specs.Below.event_law.Laws.{Gives}
+use Rattle.whole_law.proofs.Below.event_law.Trades.{tot-append}
+use Rattle.whole_law.proofs.Below.event_law.Results.{over_gives, weaker}
+use Rattle.whole_law.proofs.Below.event_law.Bags.{all_standing, rest_things, of_partition, thread_number, tot-without, tot-set}
+use Rattle.whole_law.proofs.Below.event_law.Objects.{taken_place, makes, free_place}
+use Rattle.whole_law.proofs.Below.regain_law.Below.still_law.Leaving.{others, placed_here}
+use Rattle.serve_law.proofs.Below.entry_law.Weighed.{Seen, SiteTurns, site_things, marks_of, thread_seen}
 use Rattle.object_entry_law.proofs.Putting.{ThreadPuts, Plainly, GoesOn, got_for}
 
 -- WORDS OF A THREAD

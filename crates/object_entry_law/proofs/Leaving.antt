@@ -1,27 +1,27 @@
 -- A block is freed at its server: its address is free with the next colour, or retired, and the same words were issued there.
 use Rattle.std.proofs.Common.{◌≡◌, ℕ, ◌+◌, ◌&&◌, Bool, true, false, nat_lt, if◌then◌else◌, [], ◌∷◌, length, Some, refl, sym, ap, ◌∙◌, arith, append-nil}
 use Rattle.std.specs.Prelude.{nat_le, slice_get}
-use Rattle.regain_law.specs.Below.fr_base.declared.name.ObjNo.{ObjNo}
-use Rattle.regain_law.specs.Below.global_addr.Words.{colour_of, address_of}
-use Rattle.regain_law.specs.Below.heap_partition.declared.value.Cell.{Cell}
-use Rattle.regain_law.specs.Below.owner_box.View.{PartitionState}
-use Rattle.regain_law.specs.Below.owner_box.Partition.{freed}
-use Rattle.coherence_law.specs.Below.server_model.Servers.{Rest, Server, Cluster, server_at}
-use Rattle.coherence_law.specs.Below.server_model.Work.{Work, with_partition, look_object}
-use Rattle.coherence_law.specs.Below.server_model.Events.{received}
-use Rattle.coherence_law.specs.Below.heap_law.Names.{one}
-use Rattle.coherence_law.specs.Below.heap_law.Things.{Thing, lies, vacant, retired, is_free}
-use Rattle.coherence_law.specs.Below.heap_law.Sight.{is_word, colour_up_to, is_spot, sight, word}
-use Rattle.coherence_law.specs.Below.heap_law.Words.{HasWords}
-use Rattle.coherence_law.specs.Below.heap_law.Coherent.{IsSound}
-use Rattle.coherence_law.proofs.Below.event_law.Bags.{of_partition}
-use Rattle.coherence_law.proofs.Below.event_law.Cells.{left_by, looked, frees}
-use Rattle.coherence_law.proofs.Below.event_law.ObjectMessages.{looked_object}
-use Rattle.regain_law.proofs.Below.still_law.Addresses.{in_place, lies_alone}
-use Rattle.regain_law.proofs.Below.still_law.Leaving.{others, placed_here}
-use Rattle.regain_law.proofs.Below.result_law.Pointing.{its_partition}
-use Rattle.entry_law.proofs.Weighed.{WorkTurns}
-use Rattle.entry_law.proofs.Live.{word_told as live_word, issued_by}
+use Rattle.whole_law.specs.Below.regain_law.Below.fr_base.declared.name.ObjNo.{ObjNo}
+use Rattle.whole_law.specs.Below.regain_law.Below.global_addr.Words.{colour_of, address_of}
+use Rattle.whole_law.specs.Below.regain_law.Below.heap_partition.declared.value.Cell.{Cell}
+use Rattle.whole_law.specs.Below.regain_law.Below.owner_box.View.{PartitionState}
+use Rattle.whole_law.specs.Below.regain_law.Below.owner_box.Partition.{freed}
+use Rattle.whole_law.specs.Below.server_model.Servers.{Rest, Server, Cluster, server_at}
+use Rattle.whole_law.specs.Below.server_model.Work.{Work, with_partition, look_object}
+use Rattle.whole_law.specs.Below.server_model.Events.{received}
+use Rattle.whole_law.specs.Below.heap_law.Names.{one}
+use Rattle.whole_law.specs.Below.heap_law.Things.{Thing, lies, vacant, retired, is_free}
+use Rattle.whole_law.specs.Below.heap_law.Sight.{is_word, colour_up_to, is_spot, sight, word}
+use Rattle.whole_law.specs.Below.heap_law.Words.{HasWords}
+use Rattle.whole_law.specs.Below.heap_law.Coherent.{IsSound}
+use Rattle.whole_law.proofs.Below.event_law.Bags.{of_partition}
+use Rattle.whole_law.proofs.Below.event_law.Cells.{left_by, looked, frees}
+use Rattle.whole_law.proofs.Below.event_law.ObjectMessages.{looked_object}
+use Rattle.whole_law.proofs.Below.regain_law.Below.still_law.Addresses.{in_place, lies_alone}
+use Rattle.whole_law.proofs.Below.regain_law.Below.still_law.Leaving.{others, placed_here}
+use Rattle.whole_law.proofs.Below.regain_law.Below.result_law.Pointing.{its_partition}
+use Rattle.serve_law.proofs.Below.entry_law.Weighed.{WorkTurns}
+use Rattle.serve_law.proofs.Below.entry_law.Live.{word_told as live_word, issued_by}
 use Rattle.serve_law.proofs.Lying.{word_told, has_cell}
 use Rattle.serve_law.proofs.Gives.{up_to, below_limit, last_colour}
 

@@ -1,5 +1,5 @@
 -- A legal journal goes on where such an entry is legal.
-use Rattle.coherence_law.specs.Below.event_law.Kinds.{Kind}
+use Rattle.whole_law.specs.Below.event_law.Kinds.{Kind}
 use Rattle.serve_law.specs.Served.{CoherentEntriesLegal}
 use Rattle.serve_law.proofs.Continuing.{goes_further}
 use Rattle.object_entry_law.specs.Objects.{CoherentJournalGoesOn}

@@ -1,22 +1,22 @@
 -- What something owns isn't given up: an object that a box names is live and no `drop` names it; mutexes and threads that are owned anywhere have names that were given.
 use Rattle.std.proofs.Common.{◌≡◌, ℕ, ◌+◌, ◌≤◌, ◌==◌, ◌&&◌, ◌||◌, not, Bool, true, false, refl, ap, arith}
 use Rattle.std.specs.Prelude.{◌%◌, ◌^◌}
-use Rattle.regain_law.specs.Below.fr_base.declared.name.MutexNo.{MutexNo}
-use Rattle.regain_law.specs.Below.fr_base.declared.name.ObjNo.{ObjNo}
-use Rattle.regain_law.specs.Below.heap_partition.declared.value.Owned.{Owned}
-use Rattle.regain_law.specs.Below.heap_partition.declared.value.Owned.TheVariants as owned
-use Rattle.coherence_law.specs.Below.server_model.Servers.{Cluster}
-use Rattle.coherence_law.specs.Below.heap_law.Names.{tot, one, other, some, boxes}
-use Rattle.coherence_law.specs.Below.heap_law.Things.{Thing, holds, lies, flies, sent, things_of}
-use Rattle.coherence_law.specs.Below.heap_law.Weights.{cells, owners}
-use Rattle.coherence_law.specs.Below.heap_law.Requests.{home_of}
-use Rattle.coherence_law.specs.Below.heap_law.Naming.{threads, named_mutexes, started_at, made_at, zeroth_thread, zeroth_mutex, uncounted_thread, uncounted_mutex}
-use Rattle.coherence_law.specs.Below.heap_law.OneHeap.{object_n, owns, names, is_given_thread, is_given_mutex}
-use Rattle.coherence_law.specs.Below.heap_law.Sight.{sight}
-use Rattle.coherence_law.specs.Below.heap_law.Coherent.{IsSound}
-use Rattle.entry_law.specs.Below.still_law.Shows.{is_named}
-use Rattle.regain_law.proofs.Below.still_law.Unnamed.{two_at_most}
-use Rattle.entry_law.proofs.Shown.{dropped_by}
+use Rattle.whole_law.specs.Below.regain_law.Below.fr_base.declared.name.MutexNo.{MutexNo}
+use Rattle.whole_law.specs.Below.regain_law.Below.fr_base.declared.name.ObjNo.{ObjNo}
+use Rattle.whole_law.specs.Below.regain_law.Below.heap_partition.declared.value.Owned.{Owned}
+use Rattle.whole_law.specs.Below.regain_law.Below.heap_partition.declared.value.Owned.TheVariants as owned
+use Rattle.whole_law.specs.Below.server_model.Servers.{Cluster}
+use Rattle.whole_law.specs.Below.heap_law.Names.{tot, one, other, some, boxes}
+use Rattle.whole_law.specs.Below.heap_law.Things.{Thing, holds, lies, flies, sent, things_of}
+use Rattle.whole_law.specs.Below.heap_law.Weights.{cells, owners}
+use Rattle.whole_law.specs.Below.heap_law.Requests.{home_of}
+use Rattle.whole_law.specs.Below.heap_law.Naming.{threads, named_mutexes, started_at, made_at, zeroth_thread, zeroth_mutex, uncounted_thread, uncounted_mutex}
+use Rattle.whole_law.specs.Below.heap_law.OneHeap.{object_n, owns, names, is_given_thread, is_given_mutex}
+use Rattle.whole_law.specs.Below.heap_law.Sight.{sight}
+use Rattle.whole_law.specs.Below.heap_law.Coherent.{IsSound}
+use Rattle.serve_law.specs.Below.entry_law.Below.still_law.Shows.{is_named}
+use Rattle.whole_law.proofs.Below.regain_law.Below.still_law.Unnamed.{two_at_most}
+use Rattle.serve_law.proofs.Below.entry_law.Shown.{dropped_by}
 
 -- OBJECTS
 

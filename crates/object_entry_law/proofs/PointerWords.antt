@@ -1,24 +1,24 @@
 -- The word of each pointer stands in a thing.
 use Rattle.std.proofs.Common.{◌≤◌, inl, inr, ⊎_elim, ℕ, ◌+◌, List, [], ◌∷◌, Option, Some, None, refl, subst, arith}
 use Rattle.std.specs.Prelude.{slice_get}
-use Rattle.regain_law.specs.Below.fr_base.declared.instruction.Instr.{Instr}
-use Rattle.regain_law.specs.Below.fr_base.declared.instruction.Instr.TheVariants as instr
-use Rattle.regain_law.specs.Below.heap_partition.declared.value.Owned.{Owned}
-use Rattle.regain_law.specs.Below.heap_partition.declared.value.Owned.TheVariants as owned
-use Rattle.regain_law.specs.Below.thread_state.View.{ThreadState}
-use Rattle.regain_law.specs.Below.thread_state.declared.phase.Phase.{Phase}
-use Rattle.regain_law.specs.Below.thread_state.declared.phase.Phase.TheVariants as phase
-use Rattle.regain_law.specs.Below.server_msgs.declared.message.Message.{Message}
-use Rattle.regain_law.specs.Below.server_msgs.declared.message.Message.TheVariants as message
-use Rattle.coherence_law.specs.Below.server_model.Servers.{Cluster}
-use Rattle.coherence_law.specs.Below.heap_law.Names.{tot, Among}
-use Rattle.coherence_law.specs.Below.heap_law.Things.{Location, in_cell, at_slot, at_temp, Thing, holds, shares, borrows, lies, flies, copied, uses, sent, stands, things_of}
-use Rattle.coherence_law.specs.Below.heap_law.Follow.{Standing, Ground, threads_in, place_at}
-use Rattle.coherence_law.specs.Below.heap_law.Sight.{Pointer, pointer_in, location_of, dropped_pointer, pointers_of, pointers_in, taken_object, taken_of, taken_pointers, sight}
-use Rattle.coherence_law.specs.Below.heap_law.Placing.{owned_word, message_word, phase_word, words}
-use Rattle.coherence_law.specs.Below.heap_law.Words.{all_pointers}
-use Rattle.regain_law.proofs.Below.heap_law.Bags.{among_split}
-use Rattle.regain_law.proofs.Below.still_law.Told.{at_most}
+use Rattle.whole_law.specs.Below.regain_law.Below.fr_base.declared.instruction.Instr.{Instr}
+use Rattle.whole_law.specs.Below.regain_law.Below.fr_base.declared.instruction.Instr.TheVariants as instr
+use Rattle.whole_law.specs.Below.regain_law.Below.heap_partition.declared.value.Owned.{Owned}
+use Rattle.whole_law.specs.Below.regain_law.Below.heap_partition.declared.value.Owned.TheVariants as owned
+use Rattle.whole_law.specs.Below.regain_law.Below.thread_state.View.{ThreadState}
+use Rattle.whole_law.specs.Below.regain_law.Below.thread_state.declared.phase.Phase.{Phase}
+use Rattle.whole_law.specs.Below.regain_law.Below.thread_state.declared.phase.Phase.TheVariants as phase
+use Rattle.whole_law.specs.Below.regain_law.Below.server_msgs.declared.message.Message.{Message}
+use Rattle.whole_law.specs.Below.regain_law.Below.server_msgs.declared.message.Message.TheVariants as message
+use Rattle.whole_law.specs.Below.server_model.Servers.{Cluster}
+use Rattle.whole_law.specs.Below.heap_law.Names.{tot, Among}
+use Rattle.whole_law.specs.Below.heap_law.Things.{Location, in_cell, at_slot, at_temp, Thing, holds, shares, borrows, lies, flies, copied, uses, sent, stands, things_of}
+use Rattle.whole_law.specs.Below.heap_law.Follow.{Standing, Ground, threads_in, place_at}
+use Rattle.whole_law.specs.Below.heap_law.Sight.{Pointer, pointer_in, location_of, dropped_pointer, pointers_of, pointers_in, taken_object, taken_of, taken_pointers, sight}
+use Rattle.whole_law.specs.Below.heap_law.Placing.{owned_word, message_word, phase_word, words}
+use Rattle.whole_law.specs.Below.heap_law.Words.{all_pointers}
+use Rattle.whole_law.proofs.Below.regain_law.Below.heap_law.Bags.{among_split}
+use Rattle.whole_law.proofs.Below.regain_law.Below.still_law.Told.{at_most}
 
 module _ (g : ℕ → ℕ) where
   of_box : (l : Option Location) (v : Owned) (p : Pointer) → Among p (pointer_in l v) → g p.word ≤ owned_word g v

@@ -1,35 +1,35 @@
 -- A pointer gets another word, wherever it stands: what the coloured heap sees of its thread stays, a cell at its server shows the same, and no word but the new one comes.
 use Rattle.std.proofs.Common.{◌≡◌, ℕ, zero, suc, ◌+◌, ◌-◌, ◌≤◌, ◌==◌, nat_lt, Bool, true, false, if◌then◌else◌, List, [], ◌∷◌, ◌++◌, length, Option, Some, None, refl, sym, ap, subst, ◌∙◌, arith}
 use Rattle.std.specs.Prelude.{slice_get, slice_set}
-use Rattle.regain_law.specs.Below.fr_base.Lists.{last_of}
-use Rattle.regain_law.specs.Below.fr_base.declared.place.Lval.{Lval}
-use Rattle.regain_law.specs.Below.global_addr.Words.{address_of}
-use Rattle.regain_law.specs.Below.heap_partition.Plain.{plain_of}
-use Rattle.regain_law.specs.Below.heap_partition.declared.value.Cell.{Cell}
-use Rattle.regain_law.specs.Below.heap_partition.declared.value.Owned.{Owned}
-use Rattle.regain_law.specs.Below.heap_partition.declared.value.Owned.TheVariants as owned
-use Rattle.regain_law.specs.Below.owner_box.Partition.{stored, with_value, cell_of}
-use Rattle.regain_law.specs.Below.thread_state.View.{ThreadState, is_over}
-use Rattle.regain_law.specs.Below.thread_state.declared.phase.Phase.{Phase}
-use Rattle.regain_law.specs.Below.thread_state.declared.phase.Phase.TheVariants as phase
-use Rattle.regain_law.specs.Below.thread_state.declared.value.Value.{Value}
-use Rattle.regain_law.specs.Below.thread_state.declared.value.Value.TheVariants as value
-use Rattle.coherence_law.specs.Below.server_model.Servers.{Rest}
-use Rattle.coherence_law.specs.Below.server_model.Work.{Hand, with_partition, with_phase, working, front_of, look, leads_here}
-use Rattle.coherence_law.specs.Below.server_model.Places.{Spot, in_slot, on_top, in_cell, in_copy, nowhere, value_in, value_at, written, note_slot, note_write, put_cell, put_at, took, with_word, set_pointer}
-use Rattle.coherence_law.specs.Below.server_model.Prepare.{Access, ReadTo, ReadPointer, WriteTo, LendTo, EndRef, passing, write_stars}
-use Rattle.coherence_law.specs.Below.server_model.Objects.{chased, waits_under, arrived_at, arrived_slot, passed_spot, arrived_write, arrived_lend, arrived_end, arrived}
-use Rattle.coherence_law.specs.Below.heap_law.Names.{tot}
-use Rattle.coherence_law.specs.Below.heap_law.Things as things
-use Rattle.coherence_law.specs.Below.heap_law.Things.{Thing, Location, at_slot, at_temp, lies, counts, things_at, value_things, slot_things, temp_things}
-use Rattle.coherence_law.specs.Below.heap_law.Placing.{phase_word, words}
-use Rattle.coherence_law.specs.Below.event_law.Laws.{Gives}
-use Rattle.coherence_law.proofs.Below.event_law.Trades.{tot-push, trade_at, trade_whole}
-use Rattle.coherence_law.proofs.Below.event_law.Results.{then_gives, over_gives, test_gives, weaker}
-use Rattle.coherence_law.proofs.Below.event_law.Bags.{rest_things, of_partition}
-use Rattle.coherence_law.proofs.Below.event_law.Objects.{length_set}
-use Rattle.coherence_law.proofs.Below.event_law.Values.{last_split, stores}
-use Rattle.entry_law.proofs.Weighed.{Seen}
+use Rattle.whole_law.specs.Below.regain_law.Below.fr_base.Lists.{last_of}
+use Rattle.whole_law.specs.Below.regain_law.Below.fr_base.declared.place.Lval.{Lval}
+use Rattle.whole_law.specs.Below.regain_law.Below.global_addr.Words.{address_of}
+use Rattle.whole_law.specs.Below.regain_law.Below.heap_partition.Plain.{plain_of}
+use Rattle.whole_law.specs.Below.regain_law.Below.heap_partition.declared.value.Cell.{Cell}
+use Rattle.whole_law.specs.Below.regain_law.Below.heap_partition.declared.value.Owned.{Owned}
+use Rattle.whole_law.specs.Below.regain_law.Below.heap_partition.declared.value.Owned.TheVariants as owned
+use Rattle.whole_law.specs.Below.regain_law.Below.owner_box.Partition.{stored, with_value, cell_of}
+use Rattle.whole_law.specs.Below.regain_law.Below.thread_state.View.{ThreadState, is_over}
+use Rattle.whole_law.specs.Below.regain_law.Below.thread_state.declared.phase.Phase.{Phase}
+use Rattle.whole_law.specs.Below.regain_law.Below.thread_state.declared.phase.Phase.TheVariants as phase
+use Rattle.whole_law.specs.Below.regain_law.Below.thread_state.declared.value.Value.{Value}
+use Rattle.whole_law.specs.Below.regain_law.Below.thread_state.declared.value.Value.TheVariants as value
+use Rattle.whole_law.specs.Below.server_model.Servers.{Rest}
+use Rattle.whole_law.specs.Below.server_model.Work.{Hand, with_partition, with_phase, working, front_of, look, leads_here}
+use Rattle.whole_law.specs.Below.server_model.Places.{Spot, in_slot, on_top, in_cell, in_copy, nowhere, value_in, value_at, written, note_slot, note_write, put_cell, put_at, took, with_word, set_pointer}
+use Rattle.whole_law.specs.Below.server_model.Prepare.{Access, ReadTo, ReadPointer, WriteTo, LendTo, EndRef, passing, write_stars}
+use Rattle.whole_law.specs.Below.server_model.Objects.{chased, waits_under, arrived_at, arrived_slot, passed_spot, arrived_write, arrived_lend, arrived_end, arrived}
+use Rattle.whole_law.specs.Below.heap_law.Names.{tot}
+use Rattle.whole_law.specs.Below.heap_law.Things as things
+use Rattle.whole_law.specs.Below.heap_law.Things.{Thing, Location, at_slot, at_temp, lies, counts, things_at, value_things, slot_things, temp_things}
+use Rattle.whole_law.specs.Below.heap_law.Placing.{phase_word, words}
+use Rattle.whole_law.specs.Below.event_law.Laws.{Gives}
+use Rattle.whole_law.proofs.Below.event_law.Trades.{tot-push, trade_at, trade_whole}
+use Rattle.whole_law.proofs.Below.event_law.Results.{then_gives, over_gives, test_gives, weaker}
+use Rattle.whole_law.proofs.Below.event_law.Bags.{rest_things, of_partition}
+use Rattle.whole_law.proofs.Below.event_law.Objects.{length_set}
+use Rattle.whole_law.proofs.Below.event_law.Values.{last_split, stores}
+use Rattle.serve_law.proofs.Below.entry_law.Weighed.{Seen}
 
 -- WHAT STAYS
 

@@ -4,71 +4,71 @@ use Rattle.std.proofs.lemmas.Bool.{lt-ltb}
 use Rattle.std.proofs.lemmas.Bool.Decides.{nat_tests}
 use Rattle.std.specs.Prelude.{nat_le, slice_get}
 use Rattle.std.specs.List.{AllByRecursion}
-use Rattle.regain_law.specs.Below.fr_base.declared.name.MutexNo.{MutexNo}
-use Rattle.regain_law.specs.Below.fr_base.declared.name.ObjNo.{ObjNo}
-use Rattle.regain_law.specs.Below.fr_base.declared.label.Plain.{Plain}
-use Rattle.regain_law.specs.Below.fr_base.declared.instruction.Instr.{Instr}
-use Rattle.regain_law.specs.Below.fr_base.declared.instruction.Instr.TheVariants as instr
-use Rattle.regain_law.specs.Below.global_addr.Words.{word_of, colour_of, server_of, address_of}
+use Rattle.whole_law.specs.Below.regain_law.Below.fr_base.declared.name.MutexNo.{MutexNo}
+use Rattle.whole_law.specs.Below.regain_law.Below.fr_base.declared.name.ObjNo.{ObjNo}
+use Rattle.whole_law.specs.Below.regain_law.Below.fr_base.declared.label.Plain.{Plain}
+use Rattle.whole_law.specs.Below.regain_law.Below.fr_base.declared.instruction.Instr.{Instr}
+use Rattle.whole_law.specs.Below.regain_law.Below.fr_base.declared.instruction.Instr.TheVariants as instr
+use Rattle.whole_law.specs.Below.regain_law.Below.global_addr.Words.{word_of, colour_of, server_of, address_of}
 use Rattle.old_words_law.specs.Below.colour_retire.Colours.{picked}
-use Rattle.regain_law.specs.Below.heap_partition.Plain.{plain_of}
-use Rattle.regain_law.specs.Below.heap_partition.declared.value.Cell.{Cell}
-use Rattle.regain_law.specs.Below.owner_box.View.{PartitionState}
-use Rattle.regain_law.specs.Below.owner_box.Partition.{new_word, next_place}
+use Rattle.whole_law.specs.Below.regain_law.Below.heap_partition.Plain.{plain_of}
+use Rattle.whole_law.specs.Below.regain_law.Below.heap_partition.declared.value.Cell.{Cell}
+use Rattle.whole_law.specs.Below.regain_law.Below.owner_box.View.{PartitionState}
+use Rattle.whole_law.specs.Below.regain_law.Below.owner_box.Partition.{new_word, next_place}
 use Rattle.old_words_law.proofs.Below.owner_box.Issued.{packed}
-use Rattle.regain_law.specs.Below.thread_state.View.{ThreadState, is_over}
-use Rattle.regain_law.specs.Below.thread_state.declared.phase.Phase.{Phase}
-use Rattle.regain_law.specs.Below.thread_state.declared.phase.Phase.TheVariants as phase
-use Rattle.regain_law.specs.Below.server_msgs.declared.message.Message.TheVariants as message
-use Rattle.coherence_law.specs.Below.journal.declared.act.Act.TheVariants as act
-use Rattle.coherence_law.specs.Below.server_model.Servers.{Server, Cluster, server_at}
-use Rattle.coherence_law.specs.Below.server_model.Work.{Site}
-use Rattle.coherence_law.specs.Below.server_model.Objects.{waits_for_cell}
-use Rattle.coherence_law.specs.Below.coloured_heap.Heap.{Place, Lies, Flies, Living, Running, Coloured, is_object}
-use Rattle.entry_law.proofs.Below.coloured_heap.Times.{both as both_true}
-use Rattle.entry_law.proofs.Below.coloured_heap.ShownNames.{object_flip}
-use Rattle.coherence_law.specs.Below.heap_law.Names.{tot, one, other, if_so, some, same_object, Among}
-use Rattle.coherence_law.specs.Below.heap_law.Things.{Thing, lies, flies, sent, vacant, stands, things_of}
-use Rattle.coherence_law.specs.Below.heap_law.Follow.{Standing, value_at}
-use Rattle.coherence_law.specs.Below.heap_law.Sight.{Pointer, pointers_in, taken_pointers, colour_up_to, is_spot, sight, word, issued}
-use Rattle.coherence_law.specs.Below.heap_law.Weights.{cells, is_thread}
-use Rattle.coherence_law.specs.Below.heap_law.Requests.{mutex_of, is_mutex, locked_mutex}
-use Rattle.coherence_law.specs.Below.heap_law.Sharing.{gift_content}
-use Rattle.coherence_law.specs.Below.heap_law.Naming.{options_out, started_at, made_at}
-use Rattle.coherence_law.specs.Below.heap_law.OneHeap.{first_shown}
-use Rattle.coherence_law.specs.Below.heap_law.Walking.{path}
-use Rattle.coherence_law.specs.Below.heap_law.Words.{IsStale, HasWords}
-use Rattle.coherence_law.specs.Below.heap_law.Colours.{StandsColoured, living_of, running_of, holder_of}
-use Rattle.coherence_law.specs.Below.heap_law.Coherent.{IsSound}
-use Rattle.regain_law.proofs.Below.heap_law.Words.{named}
-use Rattle.regain_law.specs.Below.type_law.ClusterTypes.{IsCoherent}
-use Rattle.coherence_law.proofs.Below.event_law.Trades.{tot-append}
-use Rattle.coherence_law.proofs.Below.event_law.Objects.{taken_place}
-use Rattle.coherence_law.proofs.Below.event_law.ThreadThere.{thread_there}
-use Rattle.regain_law.proofs.Below.still_law.Tests.{numbers, objects}
-use Rattle.regain_law.proofs.Below.still_law.Told.{told, ones, tot_same, some_or}
-use Rattle.regain_law.proofs.Below.still_law.Unnamed.{two_at_most}
-use Rattle.regain_law.specs.Below.path_law.HeapStore.{GoesOn}
-use Rattle.regain_law.proofs.Below.path_law.Contained.{among_thread}
-use Rattle.regain_law.proofs.Below.path_law.Origins.{among_first}
-use Rattle.regain_law.proofs.Below.read_law.Flights.{truly}
-use Rattle.regain_law.proofs.Below.word_law.Standing.{pointers_among}
-use Rattle.regain_law.proofs.Below.result_law.Flights.{weighs, has_weight}
-use Rattle.regain_law.proofs.Below.result_law.Pointing.{its_partition}
-use Rattle.regain_law.proofs.Below.write_law.Memory.{Sane}
-use Rattle.regain_law.specs.Below.arrive_law.Awaited.{Awaits}
-use Rattle.regain_law.proofs.Below.arrive_law.Awaited.{arrivals_awaited}
-use Rattle.regain_law.proofs.Below.free_law.Lists.{NoneLeads}
-use Rattle.entry_law.specs.Entries.{LeadsOn}
-use Rattle.entry_law.proofs.Answers.{Agrees, answers_of, fits}
-use Rattle.entry_law.proofs.Weighed.{Seen}
-use Rattle.entry_law.proofs.Shown.{if_some, placed_in, placings, same_placed, dropped_by, as_living, living_is, shown_after, shown_still, first_same, none_first, copy_in, served_in, wished_in, runs, there_in, holder_by, holder_is}
-use Rattle.entry_law.proofs.HeldOnce.{holders_once}
-use Rattle.entry_law.proofs.Live.{word_told, placed_cells, placed_seen, dropped_seen, issued_by, issued_seen, issued_told}
-use Rattle.entry_law.proofs.After.{Follows, copy_still, served_still, started_still, running_still, ended_by, wishes_still, made_still, there_still}
-use Rattle.entry_law.proofs.Runs.{silent, runs_one, leads_on}
-use Rattle.entry_law.proofs.Applied.{server_there}
-use Rattle.entry_law.proofs.Changed.{message_there}
+use Rattle.whole_law.specs.Below.regain_law.Below.thread_state.View.{ThreadState, is_over}
+use Rattle.whole_law.specs.Below.regain_law.Below.thread_state.declared.phase.Phase.{Phase}
+use Rattle.whole_law.specs.Below.regain_law.Below.thread_state.declared.phase.Phase.TheVariants as phase
+use Rattle.whole_law.specs.Below.regain_law.Below.server_msgs.declared.message.Message.TheVariants as message
+use Rattle.whole_law.specs.Below.journal.declared.act.Act.TheVariants as act
+use Rattle.whole_law.specs.Below.server_model.Servers.{Server, Cluster, server_at}
+use Rattle.whole_law.specs.Below.server_model.Work.{Site}
+use Rattle.whole_law.specs.Below.server_model.Objects.{waits_for_cell}
+use Rattle.whole_law.specs.Below.coloured_heap.Heap.{Place, Lies, Flies, Living, Running, Coloured, is_object}
+use Rattle.serve_law.proofs.Below.entry_law.Below.coloured_heap.Times.{both as both_true}
+use Rattle.serve_law.proofs.Below.entry_law.Below.coloured_heap.ShownNames.{object_flip}
+use Rattle.whole_law.specs.Below.heap_law.Names.{tot, one, other, if_so, some, same_object, Among}
+use Rattle.whole_law.specs.Below.heap_law.Things.{Thing, lies, flies, sent, vacant, stands, things_of}
+use Rattle.whole_law.specs.Below.heap_law.Follow.{Standing, value_at}
+use Rattle.whole_law.specs.Below.heap_law.Sight.{Pointer, pointers_in, taken_pointers, colour_up_to, is_spot, sight, word, issued}
+use Rattle.whole_law.specs.Below.heap_law.Weights.{cells, is_thread}
+use Rattle.whole_law.specs.Below.heap_law.Requests.{mutex_of, is_mutex, locked_mutex}
+use Rattle.whole_law.specs.Below.heap_law.Sharing.{gift_content}
+use Rattle.whole_law.specs.Below.heap_law.Naming.{options_out, started_at, made_at}
+use Rattle.whole_law.specs.Below.heap_law.OneHeap.{first_shown}
+use Rattle.whole_law.specs.Below.heap_law.Walking.{path}
+use Rattle.whole_law.specs.Below.heap_law.Words.{IsStale, HasWords}
+use Rattle.whole_law.specs.Below.heap_law.Colours.{StandsColoured, living_of, running_of, holder_of}
+use Rattle.whole_law.specs.Below.heap_law.Coherent.{IsSound}
+use Rattle.whole_law.proofs.Below.regain_law.Below.heap_law.Words.{named}
+use Rattle.whole_law.specs.Below.regain_law.Below.type_law.ClusterTypes.{IsCoherent}
+use Rattle.whole_law.proofs.Below.event_law.Trades.{tot-append}
+use Rattle.whole_law.proofs.Below.event_law.Objects.{taken_place}
+use Rattle.whole_law.proofs.Below.event_law.ThreadThere.{thread_there}
+use Rattle.whole_law.proofs.Below.regain_law.Below.still_law.Tests.{numbers, objects}
+use Rattle.whole_law.proofs.Below.regain_law.Below.still_law.Told.{told, ones, tot_same, some_or}
+use Rattle.whole_law.proofs.Below.regain_law.Below.still_law.Unnamed.{two_at_most}
+use Rattle.whole_law.specs.Below.regain_law.Below.path_law.HeapStore.{GoesOn}
+use Rattle.whole_law.proofs.Below.regain_law.Below.path_law.Contained.{among_thread}
+use Rattle.whole_law.proofs.Below.regain_law.Below.path_law.Origins.{among_first}
+use Rattle.whole_law.proofs.Below.regain_law.Below.read_law.Flights.{truly}
+use Rattle.whole_law.proofs.Below.regain_law.Below.word_law.Standing.{pointers_among}
+use Rattle.whole_law.proofs.Below.regain_law.Below.result_law.Flights.{weighs, has_weight}
+use Rattle.whole_law.proofs.Below.regain_law.Below.result_law.Pointing.{its_partition}
+use Rattle.whole_law.proofs.Below.regain_law.Below.write_law.Memory.{Sane}
+use Rattle.whole_law.specs.Below.regain_law.Below.arrive_law.Awaited.{Awaits}
+use Rattle.whole_law.proofs.Below.regain_law.Below.arrive_law.Awaited.{arrivals_awaited}
+use Rattle.whole_law.proofs.Below.regain_law.Below.free_law.Lists.{NoneLeads}
+use Rattle.serve_law.specs.Below.entry_law.Entries.{LeadsOn}
+use Rattle.serve_law.proofs.Below.entry_law.Answers.{Agrees, answers_of, fits}
+use Rattle.serve_law.proofs.Below.entry_law.Weighed.{Seen}
+use Rattle.serve_law.proofs.Below.entry_law.Shown.{if_some, placed_in, placings, same_placed, dropped_by, as_living, living_is, shown_after, shown_still, first_same, none_first, copy_in, served_in, wished_in, runs, there_in, holder_by, holder_is}
+use Rattle.serve_law.proofs.Below.entry_law.HeldOnce.{holders_once}
+use Rattle.serve_law.proofs.Below.entry_law.Live.{word_told, placed_cells, placed_seen, dropped_seen, issued_by, issued_seen, issued_told}
+use Rattle.serve_law.proofs.Below.entry_law.After.{Follows, copy_still, served_still, started_still, running_still, ended_by, wishes_still, made_still, there_still}
+use Rattle.serve_law.proofs.Below.entry_law.Runs.{silent, runs_one, leads_on}
+use Rattle.serve_law.proofs.Below.entry_law.Applied.{server_there}
+use Rattle.serve_law.proofs.Below.entry_law.Changed.{message_there}
 use Rattle.serve_law.proofs.Kept.{led_kept}
 use Rattle.serve_law.proofs.Lying.{found_there}
 use Rattle.serve_law.proofs.Wanted.{in_turn}

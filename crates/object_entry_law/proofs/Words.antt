@@ -1,26 +1,26 @@
 -- Where an object lands its word is the new one, and each other live object keeps its word: a word that isn't the new one and stands afterwards was issued before.
 use Rattle.std.proofs.Common.{◌≡◌, ◌≤◌, ◌⊎◌, inl, inr, ⊎_elim, ℕ, ◌==◌, ◌&&◌, Bool, true, false, if◌then◌else◌, None, refl, sym, ap, ap₂, subst, ◌∙◌, arith}
-use Rattle.regain_law.specs.Below.fr_base.declared.name.ObjNo.{ObjNo}
-use Rattle.regain_law.specs.Below.global_addr.Words.{server_of, address_of}
-use Rattle.regain_law.specs.Below.heap_partition.declared.value.Cell.{Cell}
-use Rattle.coherence_law.specs.Below.server_model.Servers.{Cluster}
-use Rattle.coherence_law.specs.Below.heap_law.Names.{tot, one, other, same_object, Among}
-use Rattle.coherence_law.specs.Below.heap_law.Things.{Thing, lies, flies, things_of}
-use Rattle.coherence_law.specs.Below.heap_law.Sight.{Pointer, pointers_in, taken_pointers, sight, issued}
-use Rattle.coherence_law.specs.Below.heap_law.Weights.{cells, states}
-use Rattle.coherence_law.specs.Below.heap_law.Placing.{words}
-use Rattle.coherence_law.specs.Below.heap_law.Words.{IsStale, Fresh, HasWords, LeadsTo}
-use Rattle.regain_law.proofs.Below.heap_law.Words.{named}
-use Rattle.coherence_law.proofs.Below.event_law.Askers.{other_none}
-use Rattle.regain_law.proofs.Below.still_law.Tests.{numbers}
-use Rattle.regain_law.proofs.Below.path_law.InState.{only_one}
-use Rattle.regain_law.proofs.Below.path_law.Origins.{among_first}
-use Rattle.regain_law.proofs.Below.read_law.Flights.{truly}
-use Rattle.regain_law.proofs.Below.word_law.Standing.{pointers_among}
-use Rattle.regain_law.proofs.Below.result_law.Flights.{weighs}
-use Rattle.regain_law.specs.Below.prepare_law.Requests.{WordsRise}
+use Rattle.whole_law.specs.Below.regain_law.Below.fr_base.declared.name.ObjNo.{ObjNo}
+use Rattle.whole_law.specs.Below.regain_law.Below.global_addr.Words.{server_of, address_of}
+use Rattle.whole_law.specs.Below.regain_law.Below.heap_partition.declared.value.Cell.{Cell}
+use Rattle.whole_law.specs.Below.server_model.Servers.{Cluster}
+use Rattle.whole_law.specs.Below.heap_law.Names.{tot, one, other, same_object, Among}
+use Rattle.whole_law.specs.Below.heap_law.Things.{Thing, lies, flies, things_of}
+use Rattle.whole_law.specs.Below.heap_law.Sight.{Pointer, pointers_in, taken_pointers, sight, issued}
+use Rattle.whole_law.specs.Below.heap_law.Weights.{cells, states}
+use Rattle.whole_law.specs.Below.heap_law.Placing.{words}
+use Rattle.whole_law.specs.Below.heap_law.Words.{IsStale, Fresh, HasWords, LeadsTo}
+use Rattle.whole_law.proofs.Below.regain_law.Below.heap_law.Words.{named}
+use Rattle.whole_law.proofs.Below.event_law.Askers.{other_none}
+use Rattle.whole_law.proofs.Below.regain_law.Below.still_law.Tests.{numbers}
+use Rattle.whole_law.proofs.Below.regain_law.Below.path_law.InState.{only_one}
+use Rattle.whole_law.proofs.Below.regain_law.Below.path_law.Origins.{among_first}
+use Rattle.whole_law.proofs.Below.regain_law.Below.read_law.Flights.{truly}
+use Rattle.whole_law.proofs.Below.regain_law.Below.word_law.Standing.{pointers_among}
+use Rattle.whole_law.proofs.Below.regain_law.Below.result_law.Flights.{weighs}
+use Rattle.whole_law.specs.Below.regain_law.Below.prepare_law.Requests.{WordsRise}
 use Rattle.apart_law.proofs.UnderWay.{FlightsIssued}
-use Rattle.ever_issued_law.proofs.Fresh.{Home}
+use Rattle.whole_law.proofs.Below.ever_issued_law.Fresh.{Home}
 use Rattle.object_entry_law.proofs.PointerWords.{pointer_words}
 
 -- a word that isn't that one and wasn't issued

@@ -1,13 +1,13 @@
 -- A LEGAL JOURNAL GOES ON where an object comes or goes (this project's).
 use Rattle.std.specs.Prelude.{◌≡◌, List, [], ◌∷◌, ◌++◌, Some}
-use Rattle.coherence_law.specs.Below.journal.View.{EntryView}
-use Rattle.coherence_law.specs.Below.server_model.declared.event.Event.{Event}
-use Rattle.coherence_law.specs.Below.server_model.Servers.{Cluster}
-use Rattle.coherence_law.specs.Below.server_model.Clusters.{apply}
-use Rattle.coherence_law.specs.Below.heap_law.LeftBy.{LeavesColoured}
-use Rattle.regain_law.specs.Below.type_law.ClusterTypes.{IsCoherent}
-use Rattle.coherence_law.specs.Below.event_law.Kinds.{Kind, kind_of}
-use Rattle.coherence_law.specs.Below.event_law.Laws.{Gives, FewEvents}
+use Rattle.whole_law.specs.Below.journal.View.{EntryView}
+use Rattle.whole_law.specs.Below.server_model.declared.event.Event.{Event}
+use Rattle.whole_law.specs.Below.server_model.Servers.{Cluster}
+use Rattle.whole_law.specs.Below.server_model.Clusters.{apply}
+use Rattle.whole_law.specs.Below.heap_law.LeftBy.{LeavesColoured}
+use Rattle.whole_law.specs.Below.regain_law.Below.type_law.ClusterTypes.{IsCoherent}
+use Rattle.whole_law.specs.Below.event_law.Kinds.{Kind, kind_of}
+use Rattle.whole_law.specs.Below.event_law.Laws.{Gives, FewEvents}
 
 -- where a legal journal has left the coloured heap of a coherent cluster in which few events were done, the journal with the entry of an event of that kind is legal too, and leaves that of
 -- the cluster afterwards

@@ -1,10 +1,10 @@
 //! Laws of the entries of deliveries of objects that come, and of objects that go.
 
-ghost use Rattle.coherence_law.specs.Below.event_law.Kinds.{drop, moved};
+ghost use Rattle.whole_law.specs.Below.event_law.Kinds.{drop, moved};
 ghost use Rattle.object_entry_law.specs.Objects.{CoherentJournalGoesOn};
 ghost use Rattle.serve_law.specs.Served.{CoherentEntriesLegal};
 
-use coherence_law::events_keep_coherence;
+use whole_law::events_keep_coherence;
 
 /// From a coherent cluster with few events the entry of the delivery of a `drop` is legal in each coloured heap that the cluster stands for, and leads to one that it stands for afterwards,
 /// the messages handed over: the object's block lay here, under its word and condemned, and is freed, and what it held is let go: the object of a box is condemned under its present word, a

@@ -4,3 +4,4 @@
 mod laws;
 
 pub use laws::{objects_come_legally, objects_go_legally};
+pub use whole_law::{events_keep_coherence, programs_are_left, programs_run_right};

@@ -14,7 +14,7 @@ use Rattle.borrow_law.specs.Below.server_model.Places.{Spot, in_slot, on_top, va
 use Rattle.borrow_law.specs.Below.server_model.Prepare.{ReadTo, read_or_taken, ready, prepare, read_stars}
 use Rattle.borrow_law.specs.Below.server_model.Commit.{read, read_as}
 use Rattle.borrow_law.specs.Below.server_model.Events.{begin_work, Stepped, prepared, step}
-use Rattle.entry_law.specs.Below.coloured_heap.Heap.{Coloured}
+use Rattle.step_entry_law.specs.Below.entry_law.Below.coloured_heap.Heap.{Coloured}
 use Rattle.borrow_law.specs.Below.heap_law.Colours.{StandsColoured}
 use Rattle.borrow_law.specs.Below.type_law.ClusterTypes.{IsCoherent}
 use Rattle.borrow_law.specs.Below.event_law.Laws.{Gives, FewEvents}

@@ -15,7 +15,7 @@ use Rattle.borrow_law.specs.Below.server_model.Servers.{Rest, Server, Cluster, s
 use Rattle.borrow_law.specs.Below.server_model.Work.{Work, Hand, Site, thread_in, set_thread}
 use Rattle.borrow_law.specs.Below.server_model.Commit.{goes_on, go_on}
 use Rattle.borrow_law.specs.Below.server_model.Events.{begin_work, begin_at, entry_of, Stepped, done_step, committed, stepped}
-use Rattle.entry_law.specs.Below.coloured_heap.Heap.{Running, Coloured}
+use Rattle.step_entry_law.specs.Below.entry_law.Below.coloured_heap.Heap.{Running, Coloured}
 use Rattle.borrow_law.specs.Below.heap_law.Names.{tot, one, if_so}
 use Rattle.borrow_law.specs.Below.heap_law.Things.{Thing, stands, things_at, slot_things, copy_things}
 use Rattle.borrow_law.specs.Below.heap_law.Sight.{sight}
@@ -27,13 +27,13 @@ use Rattle.borrow_law.proofs.Below.event_law.Bags.{all_standing, rest_things, of
 use Rattle.free_law.specs.Below.still_law.Shows.{frame_of}
 use Rattle.free_law.proofs.Below.still_law.Told.{told}
 use Rattle.free_law.proofs.Below.still_law.Tests.{numbers}
-use Rattle.entry_law.specs.Entries.{LeadsOn}
-use Rattle.entry_law.proofs.Answers.{Answers, answers_of, Fits, fits, coloured_by}
-use Rattle.entry_law.proofs.Weighed.{WorkTurns, SiteTurns, site_things, marks_of, thread_seen, slots_unpinned, server_turns}
-use Rattle.entry_law.proofs.Shown.{if_some, holder_by}
-use Rattle.entry_law.proofs.After.{Follows, Keeps}
-use Rattle.entry_law.proofs.Applied.{server_there}
-use Rattle.entry_law.proofs.Quiet.{Quietly, quiet_agrees}
+use Rattle.step_entry_law.specs.Below.entry_law.Entries.{LeadsOn}
+use Rattle.step_entry_law.proofs.Below.entry_law.Answers.{Answers, answers_of, Fits, fits, coloured_by}
+use Rattle.step_entry_law.proofs.Below.entry_law.Weighed.{WorkTurns, SiteTurns, site_things, marks_of, thread_seen, slots_unpinned, server_turns}
+use Rattle.step_entry_law.proofs.Below.entry_law.Shown.{if_some, holder_by}
+use Rattle.step_entry_law.proofs.Below.entry_law.After.{Follows, Keeps}
+use Rattle.step_entry_law.proofs.Below.entry_law.Applied.{server_there}
+use Rattle.step_entry_law.proofs.Below.entry_law.Quiet.{Quietly, quiet_agrees}
 use Rattle.step_entry_law.proofs.Kept.{gifts_shown}
 use Rattle.step_entry_law.proofs.Settled.{StepLed, runs_here, none_held, Unused, unpinned_unseen}
 use Rattle.place_entry_law.proofs.Standing.{Leave, Loads, plain_entry, entry_leaves, entry_reaches}

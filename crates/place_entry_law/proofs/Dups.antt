@@ -18,7 +18,7 @@ use Rattle.borrow_law.specs.Below.server_model.Places.{Spot, in_slot, on_top, in
 use Rattle.borrow_law.specs.Below.server_model.Prepare.{ready, read_stars}
 use Rattle.borrow_law.specs.Below.server_model.Commit.{waiting, goes_on, take_gift, mutex_at, ask_dup, dup}
 use Rattle.borrow_law.specs.Below.server_model.Events.{begin_work, Stepped, committed, prepared, step}
-use Rattle.entry_law.specs.Below.coloured_heap.Heap.{Coloured}
+use Rattle.step_entry_law.specs.Below.entry_law.Below.coloured_heap.Heap.{Coloured}
 use Rattle.borrow_law.specs.Below.heap_law.Names.{one, other, some, if_so}
 use Rattle.borrow_law.specs.Below.heap_law.Follow.{Standing}
 use Rattle.borrow_law.specs.Below.heap_law.Sight.{sight}
@@ -34,7 +34,7 @@ use Rattle.borrow_law.proofs.Below.stay_law.Steps.{TakesNoneHere, untaken_here}
 use Rattle.borrow_law.proofs.Below.prepare_law.Untaken.{not_taken}
 use Rattle.borrow_law.proofs.Below.turn_law.Events.{AtStep}
 use Rattle.free_law.proofs.Below.still_law.Told.{told}
-use Rattle.entry_law.proofs.Shown.{if_some}
+use Rattle.step_entry_law.proofs.Below.entry_law.Shown.{if_some}
 use Rattle.place_entry_law.specs.Reads.{DoneLegal}
 use Rattle.place_entry_law.proofs.Hops.{and_then_ready}
 use Rattle.place_entry_law.proofs.Still.{still_loads, Walked}

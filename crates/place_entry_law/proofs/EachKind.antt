@@ -5,7 +5,7 @@ use Rattle.borrow_law.specs.Below.server_model.Servers.{Cluster}
 use Rattle.borrow_law.specs.Below.server_model.Clusters.{apply}
 use Rattle.borrow_law.specs.Below.heap_law.LeftBy.{LeavesColoured}
 use Rattle.borrow_law.proofs.Below.event_law.Results.{both_give}
-use Rattle.entry_law.specs.Entries.{LeadsOn}
+use Rattle.step_entry_law.specs.Below.entry_law.Entries.{LeadsOn}
 use Rattle.serve_law.proofs.Continuing.{same_options, with_entry}
 use Rattle.place_entry_law.specs.Reads.{DoneStepsLegal, ReadsPlace, copies, dups, BorrowsThrough, shares, lends, DoneStepsContinue}
 use Rattle.place_entry_law.proofs.Copies.{copy_legal}

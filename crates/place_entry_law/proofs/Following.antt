@@ -12,7 +12,7 @@ use Rattle.borrow_law.specs.Below.server_model.Places.{Spot, in_slot, value_at}
 use Rattle.borrow_law.specs.Below.server_model.Prepare.{Prepared, ready, requested, nothing, and_then, read_stars}
 use Rattle.borrow_law.specs.Below.server_model.Commit.{goes_on}
 use Rattle.borrow_law.specs.Below.server_model.Events.{begin_work, Stepped, committed, prepared}
-use Rattle.entry_law.specs.Below.coloured_heap.Heap.{Coloured}
+use Rattle.step_entry_law.specs.Below.entry_law.Below.coloured_heap.Heap.{Coloured}
 use Rattle.borrow_law.specs.Below.heap_law.Follow.{Ground}
 use Rattle.borrow_law.specs.Below.heap_law.Sight.{sight}
 use Rattle.borrow_law.specs.Below.heap_law.Colours.{StandsColoured}

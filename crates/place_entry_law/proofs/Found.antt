@@ -19,10 +19,10 @@ use Rattle.borrow_law.specs.Below.server_model.declared.event.Event.{Event}
 use Rattle.borrow_law.specs.Below.server_model.Servers.{Server, Cluster, server_at}
 use Rattle.borrow_law.specs.Below.server_model.Places.{pointer_of}
 use Rattle.borrow_law.specs.Below.server_model.Events.{can_step}
-use Rattle.entry_law.specs.Below.coloured_heap.Lists.{holds}
-use Rattle.entry_law.specs.Below.coloured_heap.Heap.{Lies, Living, Copied, Coloured, object_at, lies_at, copy_at}
-use Rattle.entry_law.specs.Below.coloured_heap.Rules.{names, allows}
-use Rattle.entry_law.specs.Below.coloured_heap.Reach.{is_loaded, has_copy}
+use Rattle.step_entry_law.specs.Below.entry_law.Below.coloured_heap.Lists.{holds}
+use Rattle.step_entry_law.specs.Below.entry_law.Below.coloured_heap.Heap.{Lies, Living, Copied, Coloured, object_at, lies_at, copy_at}
+use Rattle.step_entry_law.specs.Below.entry_law.Below.coloured_heap.Rules.{names, allows}
+use Rattle.step_entry_law.specs.Below.entry_law.Below.coloured_heap.Reach.{is_loaded, has_copy}
 use Rattle.borrow_law.specs.Below.heap_law.Names.{tot, some, Among}
 use Rattle.borrow_law.specs.Below.heap_law.Things.{Location, Thing, lies, copied, things_of}
 use Rattle.borrow_law.specs.Below.heap_law.Follow.{Standing, Ground, cell_of, value_in, locate, leads}
@@ -44,9 +44,9 @@ use Rattle.free_law.proofs.Below.still_law.Tests.{numbers, plains}
 use Rattle.free_law.proofs.Below.still_law.Told.{told, ones}
 use Rattle.borrow_law.proofs.Below.turn_law.Events.{AtStep}
 use Rattle.borrow_law.proofs.Below.turn_law.StarLines.{x, goes}
-use Rattle.entry_law.proofs.HeldOnce.{copies_once}
-use Rattle.entry_law.proofs.Live.{placed_cells}
-use Rattle.entry_law.proofs.Shown.{if_some, placed_in, same_placed, placings, dropped_by, as_living, living_is, copy_in, copies_test}
+use Rattle.step_entry_law.proofs.Below.entry_law.HeldOnce.{copies_once}
+use Rattle.step_entry_law.proofs.Below.entry_law.Live.{placed_cells}
+use Rattle.step_entry_law.proofs.Below.entry_law.Shown.{if_some, placed_in, same_placed, placings, dropped_by, as_living, living_is, copy_in, copies_test}
 use Rattle.free_law.proofs.Lists.{NoneLeads}
 use Rattle.serve_law.proofs.Kept.{led_kept}
 use Rattle.serve_law.proofs.Lying.{found_there}

@@ -34,7 +34,7 @@ use Rattle.borrow_law.proofs.Below.stay_law.Sites.{HandAlike, put_alike, begun_a
 use Rattle.borrow_law.proofs.Below.turn_law.ReadWalk.{value_loaded}
 use Rattle.borrow_law.proofs.Below.prepare_law.Hands.{Ok, Walks, put, places}
 use Rattle.borrow_law.proofs.Below.prepare_law.Stars.{Spotted, walks_loaded}
-use Rattle.entry_law.specs.Below.coloured_heap.Heap.{Coloured}
+use Rattle.step_entry_law.specs.Below.entry_law.Below.coloured_heap.Heap.{Coloured}
 use Rattle.borrow_law.specs.Below.heap_law.Colours.{StandsColoured}
 use Rattle.borrow_law.proofs.Below.event_law.AllSteps.{commits}
 use Rattle.borrow_law.proofs.Below.event_law.GiftsTaken.{gift_fits as gift_is_none}

@@ -15,7 +15,7 @@ use Rattle.borrow_law.specs.Below.type_law.ClusterTypes.{IsCoherent}
 use Rattle.borrow_law.specs.Below.event_law.Laws.{Gives, FewEvents}
 use Rattle.borrow_law.proofs.Below.event_law.GiftsTaken.{gift_fits as gift_is_none}
 use Rattle.borrow_law.proofs.Below.prepare_law.Asking.{found_number}
-use Rattle.entry_law.specs.Entries.{LeadsOn}
+use Rattle.step_entry_law.specs.Below.entry_law.Entries.{LeadsOn}
 use Rattle.borrow_law.specs.Below.server_model.Clusters.{apply}
 use Rattle.step_entry_law.proofs.PlainSteps.{lives}
 use Rattle.place_entry_law.specs.Reads.{DoneLegal}

@@ -21,7 +21,7 @@ use Rattle.borrow_law.specs.Below.server_model.Places.{Spot, value_at, load_at}
 use Rattle.borrow_law.specs.Below.server_model.Prepare.{Prepared, ready, nothing, cleaned_by, clean_value, read_pointer}
 use Rattle.borrow_law.specs.Below.server_model.Commit.{goes_on, shared_from, borrow_from}
 use Rattle.borrow_law.specs.Below.server_model.Events.{begin_work, Stepped, committed, prepared, step}
-use Rattle.entry_law.specs.Below.coloured_heap.Heap.{Coloured}
+use Rattle.step_entry_law.specs.Below.entry_law.Below.coloured_heap.Heap.{Coloured}
 use Rattle.borrow_law.specs.Below.heap_law.Follow.{Ground, value_in}
 use Rattle.borrow_law.specs.Below.heap_law.Sight.{sight}
 use Rattle.borrow_law.specs.Below.heap_law.Words.{IsStale}

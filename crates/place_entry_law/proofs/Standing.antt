@@ -6,12 +6,12 @@ use Rattle.borrow_law.specs.Below.fr_base.declared.settings.Options.{Options}
 use Rattle.borrow_law.specs.Below.fr_base.declared.step.Fresh.TheVariants as fresh
 use Rattle.borrow_law.specs.Below.journal.View.{EntryView}
 use Rattle.borrow_law.specs.Below.journal.declared.act.Act.{Act}
-use Rattle.entry_law.specs.Below.coloured_heap.Lists.{holds}
-use Rattle.entry_law.specs.Below.coloured_heap.Heap.{Running, Coloured, thread_at, object_at}
-use Rattle.entry_law.specs.Below.coloured_heap.Rules.{of_run, allows, is_here}
-use Rattle.entry_law.specs.Below.coloured_heap.Changes.{after_act, stored, with_value}
-use Rattle.entry_law.specs.Below.coloured_heap.Reach.{is_loaded, reaches, is_reached}
-use Rattle.entry_law.specs.Below.coloured_heap.Legal.{is_placed, acts_after, settled, entry_after}
+use Rattle.step_entry_law.specs.Below.entry_law.Below.coloured_heap.Lists.{holds}
+use Rattle.step_entry_law.specs.Below.entry_law.Below.coloured_heap.Heap.{Running, Coloured, thread_at, object_at}
+use Rattle.step_entry_law.specs.Below.entry_law.Below.coloured_heap.Rules.{of_run, allows, is_here}
+use Rattle.step_entry_law.specs.Below.entry_law.Below.coloured_heap.Changes.{after_act, stored, with_value}
+use Rattle.step_entry_law.specs.Below.entry_law.Below.coloured_heap.Reach.{is_loaded, reaches, is_reached}
+use Rattle.step_entry_law.specs.Below.entry_law.Below.coloured_heap.Legal.{is_placed, acts_after, settled, entry_after}
 
 -- ACTS
 

@@ -10,7 +10,7 @@ use Rattle.borrow_law.specs.Below.server_model.Servers.{Server, Cluster, server_
 use Rattle.borrow_law.specs.Below.server_model.Work.{Hand, then_some, thread_in, put_back}
 use Rattle.borrow_law.specs.Below.server_model.Events.{can_step, has_phase, enabled, does, begin_work, begin_at, Stepped, step, step_in, stepped}
 use Rattle.borrow_law.specs.Below.server_model.Clusters.{with_server, hand_over_newer, done_at, apply}
-use Rattle.entry_law.specs.Below.coloured_heap.Heap.{Coloured}
+use Rattle.step_entry_law.specs.Below.entry_law.Below.coloured_heap.Heap.{Coloured}
 use Rattle.borrow_law.specs.Below.heap_law.Things.{Thing, server_things, servers_things, things_of}
 use Rattle.borrow_law.specs.Below.heap_law.Colours.{StandsColoured}
 use Rattle.borrow_law.specs.Below.heap_law.Coherent.{IsSound}
@@ -27,8 +27,8 @@ use Rattle.borrow_law.proofs.Below.stay_law.Seen.{seen_alike}
 use Rattle.borrow_law.proofs.Below.stay_law.Servers.{server_body}
 use Rattle.borrow_law.proofs.Below.stay_law.Sites.{HandAlike, put_alike, ends_alike, servers_alike, replaced, handed_over}
 use Rattle.borrow_law.proofs.Below.turn_law.Events.{AtStep}
-use Rattle.entry_law.specs.Entries.{LeadsOn}
-use Rattle.entry_law.proofs.Applied.{Afterwards, applied_by}
+use Rattle.step_entry_law.specs.Below.entry_law.Entries.{LeadsOn}
+use Rattle.step_entry_law.proofs.Below.entry_law.Applied.{Afterwards, applied_by}
 use Rattle.step_entry_law.proofs.PlainSteps.{lives}
 use Rattle.step_entry_law.proofs.Settled.{StepLed}
 use Rattle.place_entry_law.proofs.Done.{HoldsNone, Left, left_led}

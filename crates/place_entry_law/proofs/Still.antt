@@ -16,9 +16,9 @@ use Rattle.borrow_law.specs.Below.server_model.Work.{Hand, note, with_cache, wor
 use Rattle.borrow_law.specs.Below.server_model.Places.{Spot, in_slot, on_top, in_cell, in_copy, nowhere, cell_at, value_at, load_of, load_at, put_at}
 use Rattle.borrow_law.specs.Below.server_model.Prepare.{Prepared, ready, requested, nothing, ready_at, pinned_once, use_copy}
 use Rattle.borrow_law.specs.Below.server_model.Events.{begin_work}
-use Rattle.entry_law.specs.Below.coloured_heap.Heap.{Coloured}
-use Rattle.entry_law.specs.Below.coloured_heap.Rules.{allows}
-use Rattle.entry_law.specs.Below.coloured_heap.Changes.{after_act}
+use Rattle.step_entry_law.specs.Below.entry_law.Below.coloured_heap.Heap.{Coloured}
+use Rattle.step_entry_law.specs.Below.entry_law.Below.coloured_heap.Rules.{allows}
+use Rattle.step_entry_law.specs.Below.entry_law.Below.coloured_heap.Changes.{after_act}
 use Rattle.borrow_law.specs.Below.heap_law.Names.{tot}
 use Rattle.borrow_law.specs.Below.heap_law.Things.{Thing, things_at, copy_things}
 use Rattle.borrow_law.specs.Below.event_law.Laws.{Gives}

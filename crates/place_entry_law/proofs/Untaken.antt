@@ -33,7 +33,7 @@ use Rattle.borrow_law.proofs.Below.event_law.Results.{weaker, over_gives}
 use Rattle.borrow_law.specs.Below.read_law.Reading.{Reads, lends}
 use Rattle.borrow_law.proofs.Below.stay_law.Sites.{HandAlike}
 use Rattle.borrow_law.proofs.Below.stay_law.Steps.{TakesNoneHere, mut_slot_unseen, pushes, settles, goes_over}
-use Rattle.entry_law.specs.Below.coloured_heap.Heap.{Coloured}
+use Rattle.step_entry_law.specs.Below.entry_law.Below.coloured_heap.Heap.{Coloured}
 use Rattle.borrow_law.specs.Below.heap_law.Colours.{StandsColoured}
 use Rattle.borrow_law.proofs.Below.carry_law.Hands.{leaves_chain}
 use Rattle.borrow_law.proofs.Sources as sources

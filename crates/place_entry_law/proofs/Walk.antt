@@ -28,7 +28,7 @@ use Rattle.borrow_law.specs.Below.server_model.NewWords.{issue_tint, issue_renew
 use Rattle.borrow_law.specs.Below.server_model.Places.{Spot, in_slot, on_top, in_cell, in_copy, nowhere, value_at, load_of, load_at, put_at, pointer_of, took, with_word, put_word}
 use Rattle.borrow_law.specs.Below.server_model.Prepare.{Prepared, ready, requested, nothing, and_then, ready_at, ask_copy, ask_object, request_by, box_of, clean_last, cleaned_by, clean, clean_value, use_copy, hopped, local, hit_by, read_by, read_value, read_clean, tinted_first, read_star, read_stars}
 use Rattle.borrow_law.specs.Below.server_model.Events.{begin_work}
-use Rattle.entry_law.specs.Below.coloured_heap.Heap.{Coloured, copy_at}
+use Rattle.step_entry_law.specs.Below.entry_law.Below.coloured_heap.Heap.{Coloured, copy_at}
 use Rattle.borrow_law.specs.Below.heap_law.Follow.{Ground, value_in}
 use Rattle.borrow_law.specs.Below.heap_law.Sight.{sight}
 use Rattle.borrow_law.specs.Below.heap_law.Colours.{StandsColoured}

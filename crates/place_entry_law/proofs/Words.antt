@@ -16,7 +16,7 @@ use Rattle.borrow_law.specs.Below.server_model.Work.{Hand, push_temp}
 use Rattle.borrow_law.specs.Below.server_model.Commit.{take_gift}
 use Rattle.borrow_law.specs.Below.server_model.Places.{Spot, in_slot, on_top, in_cell, in_copy, nowhere, owns_nothing, cell_at, value_in, value_at, load_at, second_of}
 use Rattle.borrow_law.specs.Below.server_model.Events.{begin_work}
-use Rattle.entry_law.specs.Below.coloured_heap.Heap.{Coloured}
+use Rattle.step_entry_law.specs.Below.entry_law.Below.coloured_heap.Heap.{Coloured}
 use Rattle.borrow_law.specs.Below.heap_law.Names.{Among}
 use Rattle.borrow_law.specs.Below.heap_law.Things.{Location, at_slot, at_temp, in_hand, Thing, holds, shares, things_at, slot_things, temp_things, thread_things}
 use Rattle.borrow_law.proofs.Below.event_law.Bags.{body_things}

@@ -13,7 +13,7 @@ use Rattle.borrow_law.specs.Below.server_model.declared.event.What.TheVariants.{
 use Rattle.borrow_law.specs.Below.server_model.Servers.{Server, Cluster, server_at}
 use Rattle.borrow_law.specs.Below.server_model.Work.{thread_in}
 use Rattle.borrow_law.specs.Below.server_model.Clusters.{apply}
-use Rattle.entry_law.specs.Below.coloured_heap.Heap.{Coloured}
+use Rattle.step_entry_law.specs.Below.entry_law.Below.coloured_heap.Heap.{Coloured}
 use Rattle.borrow_law.specs.Below.heap_law.Things.{Location}
 use Rattle.borrow_law.specs.Below.heap_law.Follow.{value_in, locate}
 use Rattle.borrow_law.specs.Below.heap_law.Sight.{sight}
@@ -21,7 +21,7 @@ use Rattle.borrow_law.specs.Below.heap_law.Colours.{StandsColoured}
 use Rattle.borrow_law.specs.Below.heap_law.LeftBy.{LeavesColoured}
 use Rattle.borrow_law.specs.Below.type_law.ClusterTypes.{IsCoherent}
 use Rattle.borrow_law.specs.Below.event_law.Laws.{Gives, FewEvents}
-use Rattle.entry_law.specs.Entries.{LeadsOn}
+use Rattle.step_entry_law.specs.Below.entry_law.Entries.{LeadsOn}
 
 -- where the event does a plain step, its entry leads on from each coloured heap that the cluster stands for: its acts are allowed, what it loads and stores is reached, and the state
 -- afterwards stands for the cluster afterwards

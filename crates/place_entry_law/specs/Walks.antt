@@ -12,9 +12,9 @@ use Rattle.borrow_law.specs.Below.server_model.Work.{Hand, thread_in}
 use Rattle.borrow_law.specs.Below.server_model.Places.{Spot, in_slot, cell_at, value_at, load_of}
 use Rattle.borrow_law.specs.Below.server_model.Prepare.{ready, read_stars}
 use Rattle.borrow_law.specs.Below.server_model.Events.{can_step, begin_work}
-use Rattle.entry_law.specs.Below.coloured_heap.Heap.{Coloured}
-use Rattle.entry_law.specs.Below.coloured_heap.Legal.{acts_after}
-use Rattle.entry_law.specs.Below.coloured_heap.Reach.{reaches}
+use Rattle.step_entry_law.specs.Below.entry_law.Below.coloured_heap.Heap.{Coloured}
+use Rattle.step_entry_law.specs.Below.entry_law.Below.coloured_heap.Legal.{acts_after}
+use Rattle.step_entry_law.specs.Below.entry_law.Below.coloured_heap.Reach.{reaches}
 use Rattle.borrow_law.specs.Below.heap_law.Colours.{StandsColoured}
 use Rattle.borrow_law.specs.Below.type_law.ClusterTypes.{IsCoherent}
 use Rattle.borrow_law.specs.Below.read_law.Reading.{Reads}

@@ -1,3 +1,4 @@
+pub mod Below
 pub mod Acts
 pub mod Kept
 pub mod Wanted

@@ -1,3 +1,4 @@
+pub mod Below
 pub mod Kept
 pub mod Settled
 pub mod PlainSteps

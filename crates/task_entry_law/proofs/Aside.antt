@@ -6,8 +6,8 @@ use Rattle.finish_law.specs.Below.fr_base.declared.label.Plain.{Plain}
 use Rattle.finish_law.specs.Below.thread_state.View.{ThreadState}
 use Rattle.finish_law.specs.Below.server_model.Servers.{Server, Cluster, server_at}
 use Rattle.finish_law.specs.Below.server_model.Work.{thread_in}
-use Rattle.entry_law.specs.Below.coloured_heap.Heap.{Place, Copied, Wish, Running}
-use Rattle.entry_law.proofs.Below.coloured_heap.ShownNames.{number_flip, number_itself}
+use Rattle.step_entry_law.specs.Below.entry_law.Below.coloured_heap.Heap.{Place, Copied, Wish, Running}
+use Rattle.step_entry_law.proofs.Below.entry_law.Below.coloured_heap.ShownNames.{number_flip, number_itself}
 use Rattle.finish_law.specs.Below.heap_law.Names.{tot, one, if_so}
 use Rattle.finish_law.specs.Below.heap_law.Things.{Thing, stands, things_of}
 use Rattle.finish_law.specs.Below.heap_law.Sight.{sight, issued}
@@ -18,13 +18,13 @@ use Rattle.finish_law.specs.Below.heap_law.Words.{HasWords}
 use Rattle.finish_law.specs.Below.heap_law.Colours.{living_of, copy_of, served_of, wishes_of, running_of}
 use Rattle.finish_law.specs.Below.heap_law.Coherent.{IsSound}
 use Rattle.finish_law.proofs.Below.event_law.ThreadThere.{thread_there}
-use Rattle.entry_law.specs.Below.still_law.Shows.{ShownThread}
-use Rattle.entry_law.proofs.Below.still_law.Told.{told, tot_same, at_thread, thread_told}
+use Rattle.step_entry_law.specs.Below.entry_law.Below.still_law.Shows.{ShownThread}
+use Rattle.step_entry_law.proofs.Below.entry_law.Below.still_law.Told.{told, tot_same, at_thread, thread_told}
 use Rattle.finish_law.specs.Below.word_law.Unmoved.{WordsStay}
-use Rattle.entry_law.proofs.Answers.{Agrees, answers_of}
-use Rattle.entry_law.proofs.Shown.{placed_in, dropped_by, copy_in, served_in, wished_in, holder_by, runs, there_in}
-use Rattle.entry_law.proofs.Live.{issued_by, living_still, issued_still}
-use Rattle.entry_law.proofs.After.{Follows, copy_still, served_still, wishes_still, started_still, running_still, ended_by, made_still, there_less}
+use Rattle.step_entry_law.proofs.Below.entry_law.Answers.{Agrees, answers_of}
+use Rattle.step_entry_law.proofs.Below.entry_law.Shown.{placed_in, dropped_by, copy_in, served_in, wished_in, holder_by, runs, there_in}
+use Rattle.step_entry_law.proofs.Below.entry_law.Live.{issued_by, living_still, issued_still}
+use Rattle.step_entry_law.proofs.Below.entry_law.After.{Follows, copy_still, served_still, wishes_still, started_still, running_still, ended_by, made_still, there_less}
 use Rattle.step_entry_law.proofs.Kept.{masked_of, Staying}
 use Rattle.task_entry_law.proofs.Holders.{gifted, gifted_seen, Others, holder_still}
 

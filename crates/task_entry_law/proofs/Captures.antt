@@ -10,7 +10,7 @@ use Rattle.finish_law.specs.Below.server_model.Start.{captured, left_after, capt
 use Rattle.finish_law.specs.Below.heap_law.Names.{tot}
 use Rattle.finish_law.specs.Below.heap_law.Things.{Thing, things_at, slot_things}
 use Rattle.finish_law.specs.Below.event_law.Laws.{Gives}
-use Rattle.entry_law.proofs.Weighed.{Seen}
+use Rattle.step_entry_law.proofs.Below.entry_law.Weighed.{Seen}
 use Rattle.task_entry_law.proofs.Slots.{IsUnmarked, slot_pushed, slot_put}
 
 owned_unmarked : (v : Owned) (u : Value) → Some (value.Own v) ≡ Some u → IsUnmarked u

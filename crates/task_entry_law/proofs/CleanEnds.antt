@@ -21,7 +21,7 @@ use Rattle.finish_law.specs.Below.server_model.Drop.{drop_value, finish, finishe
 use Rattle.finish_law.specs.Below.server_model.Prepare.{Prepared, ready, nothing, and_then, cleaned_by, clean_value, follow_holder, follow_ended, unlabelled, end_ref, write_stars, ending, prepare}
 use Rattle.finish_law.specs.Below.server_model.Commit.{label_dropped, discard, drop_slot, commit}
 use Rattle.finish_law.specs.Below.server_model.Events.{Stepped, begin_work, committed, prepared, step, stepped}
-use Rattle.entry_law.specs.Below.coloured_heap.Heap.{Coloured}
+use Rattle.step_entry_law.specs.Below.entry_law.Below.coloured_heap.Heap.{Coloured}
 use Rattle.finish_law.specs.Below.heap_law.Colours.{StandsColoured}
 use Rattle.finish_law.specs.Below.heap_law.Coherent.{IsSound}
 use Rattle.finish_law.specs.Below.event_law.Laws.{Gives, FewEvents}
@@ -29,7 +29,7 @@ use Rattle.finish_law.proofs.Below.event_law.GiftsTaken.{gift_fits}
 use Rattle.finish_law.specs.Below.word_law.Unmoved.{LeavesWords}
 use Rattle.finish_law.specs.Ends.{EndsReference, EndsAtHand, drops, discards}
 use Rattle.finish_law.proofs.EndEvents.{ends_at_hand_leave_words}
-use Rattle.entry_law.specs.Entries.{EntryLegal}
+use Rattle.step_entry_law.specs.Below.entry_law.Entries.{EntryLegal}
 use Rattle.step_entry_law.proofs.PlainSteps.{lives}
 use Rattle.step_entry_law.proofs.Settled.{none_held}
 use Rattle.task_entry_law.specs.Steps.{StepsLegal, EndsClean, discards_clean, drops_clean}

@@ -4,7 +4,7 @@ use Rattle.std.specs.Prelude.{◌%◌, ◌^◌}
 use Rattle.std.proofs.lemmas.Bool.Decides.{nat_tests}
 use Rattle.finish_law.specs.Below.fr_base.declared.name.MutexNo.{MutexNo}
 use Rattle.finish_law.specs.Below.server_model.Servers.{Server, Cluster, server_at}
-use Rattle.entry_law.proofs.Below.coloured_heap.ShownNames.{number_itself}
+use Rattle.step_entry_law.proofs.Below.entry_law.Below.coloured_heap.ShownNames.{number_itself}
 use Rattle.finish_law.specs.Below.heap_law.Names.{tot, one, other, some}
 use Rattle.finish_law.specs.Below.heap_law.Things.{Thing, counts, servers_things, things_of}
 use Rattle.finish_law.specs.Below.heap_law.Naming.{threads, named_mutexes, started_at, made_at, zeroth_thread, zeroth_mutex, uncounted_thread, uncounted_mutex}

@@ -20,7 +20,7 @@ use Rattle.finish_law.specs.Below.server_model.Drop.{unpin_ref, drop_labels, dro
 use Rattle.finish_law.specs.Below.server_model.Prepare.{ending, prepare}
 use Rattle.finish_law.specs.Below.server_model.Commit.{label_dropped, discard, drop_slot, goes_on}
 use Rattle.finish_law.specs.Below.server_model.Events.{Stepped, begin_work, prepared, committed, step, stepped}
-use Rattle.entry_law.specs.Below.coloured_heap.Heap.{Coloured}
+use Rattle.step_entry_law.specs.Below.entry_law.Below.coloured_heap.Heap.{Coloured}
 use Rattle.finish_law.specs.Below.heap_law.Names.{tot}
 use Rattle.finish_law.specs.Below.heap_law.Things.{in_temp, in_slot as slot_spot, things_at, slot_things, temp_things, copy_things}
 use Rattle.finish_law.specs.Below.heap_law.Colours.{StandsColoured}
@@ -36,8 +36,8 @@ use Rattle.carry_law.proofs.Events.{discards_carry}
 use Rattle.carry_law.proofs.Gives.{owned_goes}
 use Rattle.finish_law.specs.Below.refs_law.Gone as gone
 use Rattle.finish_law.proofs.Below.refs_law.RefEvents.{references_go}
-use Rattle.entry_law.proofs.Weighed.{WorkTurns}
-use Rattle.entry_law.proofs.Changed.{AreThere}
+use Rattle.step_entry_law.proofs.Below.entry_law.Weighed.{WorkTurns}
+use Rattle.step_entry_law.proofs.Below.entry_law.Changed.{AreThere}
 use Rattle.step_entry_law.proofs.PlainSteps.{lives}
 use Rattle.step_entry_law.proofs.Settled.{none_held, users_unseen}
 use Rattle.task_entry_law.specs.Steps.{StepsLegal, IsPlain, DropsPlain, discards, drops as drops_newest}

@@ -19,7 +19,7 @@ use Rattle.finish_law.specs.Below.server_model.Work.{Hand, Popped, last_of, fron
 use Rattle.finish_law.specs.Below.server_model.Drop.{drop_labels, give_up}
 use Rattle.finish_law.specs.Below.server_model.Commit.{done_where, label_dropped, end_with, end_thread}
 use Rattle.finish_law.specs.Below.server_model.Events.{Stepped, begin_work, committed, stepped}
-use Rattle.entry_law.specs.Below.coloured_heap.Heap.{Coloured}
+use Rattle.step_entry_law.specs.Below.entry_law.Below.coloured_heap.Heap.{Coloured}
 use Rattle.finish_law.specs.Below.heap_law.Things.{in_temp}
 use Rattle.finish_law.specs.Below.heap_law.Colours.{StandsColoured}
 use Rattle.finish_law.specs.Below.heap_law.Coherent.{IsSound}
@@ -29,8 +29,8 @@ use Rattle.finish_law.proofs.Below.event_law.GiftsTaken.{gift_fits}
 use Rattle.finish_law.specs.Below.word_law.Unmoved.{LeavesWords}
 use Rattle.carry_law.specs.Steps.{an_end}
 use Rattle.carry_law.proofs.Events.{steps_carry}
-use Rattle.entry_law.specs.Entries.{EntryLegal, EntriesLegal}
-use Rattle.entry_law.proofs.GiveUp.{give_news, give_acts}
+use Rattle.step_entry_law.specs.Below.entry_law.Entries.{EntryLegal, EntriesLegal}
+use Rattle.step_entry_law.proofs.Below.entry_law.GiveUp.{give_news, give_acts}
 use Rattle.step_entry_law.proofs.PlainSteps.{lives}
 use Rattle.task_entry_law.proofs.Turning.{Turning, begins, rethreaded, labelled}
 use Rattle.task_entry_law.proofs.Led.{LedWith, Steps, rephased, settles}

@@ -15,13 +15,13 @@ use Rattle.finish_law.specs.Below.server_model.Servers.{Server, Cluster, server_
 use Rattle.finish_law.specs.Below.server_model.Work.{Work, Hand, note, send, label_all, with_temps, working, thread_in}
 use Rattle.finish_law.specs.Below.server_model.Commit.{end_with}
 use Rattle.finish_law.specs.Below.server_model.Events.{begin_work}
-use Rattle.entry_law.specs.Below.coloured_heap.Lists.{first, holds, with_each}
-use Rattle.entry_law.specs.Below.coloured_heap.Heap.{Running, Coloured, is_thread as is_running, thread_at}
-use Rattle.entry_law.specs.Below.coloured_heap.Rules as rules
-use Rattle.entry_law.specs.Below.coloured_heap.Rules.{is_by}
-use Rattle.entry_law.proofs.Below.coloured_heap.Found.{found_each}
-use Rattle.entry_law.proofs.Below.coloured_heap.Times.{number_is}
-use Rattle.entry_law.proofs.Below.coloured_heap.ShownNames.{number_itself, number_flip}
+use Rattle.step_entry_law.specs.Below.entry_law.Below.coloured_heap.Lists.{first, holds, with_each}
+use Rattle.step_entry_law.specs.Below.entry_law.Below.coloured_heap.Heap.{Running, Coloured, is_thread as is_running, thread_at}
+use Rattle.step_entry_law.specs.Below.entry_law.Below.coloured_heap.Rules as rules
+use Rattle.step_entry_law.specs.Below.entry_law.Below.coloured_heap.Rules.{is_by}
+use Rattle.step_entry_law.proofs.Below.entry_law.Below.coloured_heap.Found.{found_each}
+use Rattle.step_entry_law.proofs.Below.entry_law.Below.coloured_heap.Times.{number_is}
+use Rattle.step_entry_law.proofs.Below.entry_law.Below.coloured_heap.ShownNames.{number_itself, number_flip}
 use Rattle.finish_law.specs.Below.heap_law.Names.{one, if_so}
 use Rattle.finish_law.specs.Below.heap_law.Things.{Thing, stands, message_things}
 use Rattle.finish_law.specs.Below.heap_law.Sight.{sight}
@@ -32,17 +32,17 @@ use Rattle.finish_law.specs.Below.heap_law.Coherent.{IsSound}
 use Rattle.finish_law.proofs.Below.event_law.Trades.{tot-append}
 use Rattle.finish_law.proofs.Below.event_law.Bags.{all_standing, rest_things, server_same, tot-without}
 use Rattle.finish_law.proofs.Below.event_law.Events.{tot-server}
-use Rattle.entry_law.proofs.Below.still_law.Tests.{numbers}
-use Rattle.entry_law.proofs.Below.still_law.Told.{told}
+use Rattle.step_entry_law.proofs.Below.entry_law.Below.still_law.Tests.{numbers}
+use Rattle.step_entry_law.proofs.Below.entry_law.Below.still_law.Told.{told}
 use Rattle.finish_law.specs.Below.event_law.Laws.{Gives}
 use Rattle.finish_law.specs.Below.word_law.Unmoved.{LeavesWords}
-use Rattle.entry_law.proofs.Answers.{Answers, answers_of, Fits, fits, Agrees, Allowed}
-use Rattle.entry_law.proofs.Weighed.{sends}
-use Rattle.entry_law.proofs.Shown.{if_some, runs}
-use Rattle.entry_law.proofs.Changed.{turns_none, notes}
-use Rattle.entry_law.proofs.After.{Follows, started_still, running_then, made_still, there_less}
-use Rattle.entry_law.proofs.Runs.{runs_one}
-use Rattle.entry_law.proofs.Applied.{server_there}
+use Rattle.step_entry_law.proofs.Below.entry_law.Answers.{Answers, answers_of, Fits, fits, Agrees, Allowed}
+use Rattle.step_entry_law.proofs.Below.entry_law.Weighed.{sends}
+use Rattle.step_entry_law.proofs.Below.entry_law.Shown.{if_some, runs}
+use Rattle.step_entry_law.proofs.Below.entry_law.Changed.{turns_none, notes}
+use Rattle.step_entry_law.proofs.Below.entry_law.After.{Follows, started_still, running_then, made_still, there_less}
+use Rattle.step_entry_law.proofs.Below.entry_law.Runs.{runs_one}
+use Rattle.step_entry_law.proofs.Below.entry_law.Applied.{server_there}
 use Rattle.step_entry_law.proofs.Settled.{none_held}
 use Rattle.task_entry_law.proofs.Turning.{Turning, begins, rethreaded, worked, labelled}
 use Rattle.task_entry_law.proofs.Holders.{Others, holder_still}

@@ -23,8 +23,8 @@ use Rattle.finish_law.specs.Below.server_model.Places.{in_slot, load_at}
 use Rattle.finish_law.specs.Below.server_model.Prepare.{read_stars}
 use Rattle.finish_law.specs.Below.server_model.Commit.{take_gift, mutex_at, push_content, lock, dup}
 use Rattle.finish_law.specs.Below.server_model.Events.{Stepped, begin_work, prepared, committed, step, stepped}
-use Rattle.entry_law.specs.Below.coloured_heap.Heap.{Coloured}
-use Rattle.entry_law.proofs.Below.coloured_heap.ShownNames.{mutex_flip}
+use Rattle.step_entry_law.specs.Below.entry_law.Below.coloured_heap.Heap.{Coloured}
+use Rattle.step_entry_law.proofs.Below.entry_law.Below.coloured_heap.ShownNames.{mutex_flip}
 use Rattle.finish_law.specs.Below.heap_law.Names.{one, some, if_so, same_mutex}
 use Rattle.finish_law.specs.Below.heap_law.Things.{at_slot, Thing, locks, stands, slot_things, thread_things, servers_things}
 use Rattle.finish_law.specs.Below.heap_law.Follow.{Standing, value_behind, slot_of, locate}
@@ -44,7 +44,7 @@ use Rattle.finish_law.proofs.Below.event_law.Bags.{all_standing, body_things}
 use Rattle.finish_law.proofs.Below.event_law.Events.{others_of}
 use Rattle.finish_law.proofs.Below.event_law.Steps.{step_keeps}
 use Rattle.finish_law.proofs.Below.event_law.ThreadThere.{thread_there}
-use Rattle.entry_law.proofs.Below.still_law.Told.{told}
+use Rattle.step_entry_law.proofs.Below.entry_law.Below.still_law.Told.{told}
 use Rattle.finish_law.specs.Below.word_law.Unmoved.{pointing, taking_by, LeavesWords}
 use Rattle.carry_law.proofs.Below.prepare_law.Asking.{found_number}
 use Rattle.carry_law.proofs.Below.stay_law.Alike.{itself}
@@ -54,7 +54,7 @@ use Rattle.carry_law.proofs.Places.{gift_to_temp}
 use Rattle.carry_law.proofs.Hands.{words_go, Moved, Ok, h0, first_ok, moved_goes, passed, left_by, step_by}
 use Rattle.carry_law.proofs.Steps.{Does, goes_over}
 use Rattle.carry_law.proofs.Locks.{content_taken}
-use Rattle.entry_law.proofs.Shown.{if_some, holder_by}
+use Rattle.step_entry_law.proofs.Below.entry_law.Shown.{if_some, holder_by}
 use Rattle.step_entry_law.proofs.PlainSteps.{lives}
 use Rattle.step_entry_law.proofs.Settled.{none_held}
 use Rattle.task_entry_law.specs.Steps.{StepsLegal, TakesGift, locks_variable, dups_variable}

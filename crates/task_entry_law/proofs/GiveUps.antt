@@ -21,7 +21,7 @@ use Rattle.finish_law.specs.Below.server_model.Servers.{Server, Cluster, server_
 use Rattle.finish_law.specs.Below.server_model.Work.{Hand, working, thread_in}
 use Rattle.finish_law.specs.Below.server_model.Places.{owns_nothing}
 use Rattle.finish_law.specs.Below.server_model.Drop.{give_up, home_of as task_home}
-use Rattle.entry_law.specs.Below.coloured_heap.Heap.{Place, Living, Copied, Wish, Running, Coloured}
+use Rattle.step_entry_law.specs.Below.entry_law.Below.coloured_heap.Heap.{Place, Living, Copied, Wish, Running, Coloured}
 use Rattle.finish_law.specs.Below.heap_law.Names.{tot, one, same_object, Among}
 use Rattle.finish_law.specs.Below.heap_law.Things.{Spot, Thing, holds, sent, stands, things_of}
 use Rattle.finish_law.specs.Below.heap_law.Sight.{Pointer, pointers_in, taken_pointers, sight}
@@ -35,21 +35,21 @@ use Rattle.finish_law.proofs.Below.heap_law.Names.{and_left, and_right, same_num
 use Rattle.finish_law.proofs.Below.heap_law.Words.{named as object_named}
 use Rattle.finish_law.proofs.Below.path_law.Origins.{among_first}
 use Rattle.finish_law.proofs.Below.read_law.Flights.{found, truly}
-use Rattle.entry_law.specs.Below.still_law.Shows.{ShownThread}
-use Rattle.entry_law.proofs.Below.still_law.Tests.{numbers, objects}
-use Rattle.entry_law.proofs.Below.still_law.Told.{told, at_thread}
+use Rattle.step_entry_law.specs.Below.entry_law.Below.still_law.Shows.{ShownThread}
+use Rattle.step_entry_law.proofs.Below.entry_law.Below.still_law.Tests.{numbers, objects}
+use Rattle.step_entry_law.proofs.Below.entry_law.Below.still_law.Told.{told, at_thread}
 use Rattle.finish_law.specs.Below.word_law.Unmoved.{WordsStay, LeavesWords}
 use Rattle.finish_law.proofs.Below.word_law.Standing.{pointers_among}
-use Rattle.entry_law.specs.Entries.{LeadsOn}
-use Rattle.entry_law.proofs.Answers.{Answers, answers_of, Fits, fits, Agrees, Allowed, is_told, condemning, condemn_allowed, let_go_allowed}
-use Rattle.entry_law.proofs.Weighed.{Seen}
-use Rattle.entry_law.proofs.Shown.{placed_in, dropped_by, copy_in, served_in, wished_in, holder_by, runs, there_in}
-use Rattle.entry_law.proofs.Live.{issued_by, living_still, issued_still}
-use Rattle.entry_law.proofs.GiveUp.{place_of, lives_so, living_so, give_news, give_acts, gives_turns}
-use Rattle.entry_law.proofs.Changed.{AreThere, turns_none}
-use Rattle.entry_law.proofs.After.{Follows, copy_still, served_still, wishes_still, started_still, running_then, ended_by, made_still, there_less}
-use Rattle.entry_law.proofs.Runs.{Runs, runs_none, runs_one}
-use Rattle.entry_law.proofs.Applied.{server_there}
+use Rattle.step_entry_law.specs.Below.entry_law.Entries.{LeadsOn}
+use Rattle.step_entry_law.proofs.Below.entry_law.Answers.{Answers, answers_of, Fits, fits, Agrees, Allowed, is_told, condemning, condemn_allowed, let_go_allowed}
+use Rattle.step_entry_law.proofs.Below.entry_law.Weighed.{Seen}
+use Rattle.step_entry_law.proofs.Below.entry_law.Shown.{placed_in, dropped_by, copy_in, served_in, wished_in, holder_by, runs, there_in}
+use Rattle.step_entry_law.proofs.Below.entry_law.Live.{issued_by, living_still, issued_still}
+use Rattle.step_entry_law.proofs.Below.entry_law.GiveUp.{place_of, lives_so, living_so, give_news, give_acts, gives_turns}
+use Rattle.step_entry_law.proofs.Below.entry_law.Changed.{AreThere, turns_none}
+use Rattle.step_entry_law.proofs.Below.entry_law.After.{Follows, copy_still, served_still, wishes_still, started_still, running_then, ended_by, made_still, there_less}
+use Rattle.step_entry_law.proofs.Below.entry_law.Runs.{Runs, runs_none, runs_one}
+use Rattle.step_entry_law.proofs.Below.entry_law.Applied.{server_there}
 use Rattle.step_entry_law.proofs.Kept.{masked_of}
 use Rattle.step_entry_law.proofs.Settled.{none_held}
 use Rattle.task_entry_law.proofs.Turning.{loud, Turning, worked}

@@ -13,12 +13,12 @@ use Rattle.finish_law.specs.Below.heap_law.Sharing.{gift_content}
 use Rattle.finish_law.specs.Below.heap_law.OneHeap.{or_else, first_shown}
 use Rattle.finish_law.specs.Below.heap_law.Colours.{holder_of}
 use Rattle.finish_law.specs.Below.heap_law.Coherent.{IsSound}
-use Rattle.entry_law.proofs.Below.still_law.Tests.{numbers}
-use Rattle.entry_law.proofs.Below.still_law.Told.{told, ones, tot_but, first_told}
-use Rattle.entry_law.proofs.Weighed.{Seen}
-use Rattle.entry_law.proofs.Shown.{if_some, holder_by, holder_is, shown_after}
-use Rattle.entry_law.proofs.HeldOnce.{holders_once}
-use Rattle.entry_law.proofs.After.{Follows}
+use Rattle.step_entry_law.proofs.Below.entry_law.Below.still_law.Tests.{numbers}
+use Rattle.step_entry_law.proofs.Below.entry_law.Below.still_law.Told.{told, ones, tot_but, first_told}
+use Rattle.step_entry_law.proofs.Below.entry_law.Weighed.{Seen}
+use Rattle.step_entry_law.proofs.Below.entry_law.Shown.{if_some, holder_by, holder_is, shown_after}
+use Rattle.step_entry_law.proofs.Below.entry_law.HeldOnce.{holders_once}
+use Rattle.step_entry_law.proofs.Below.entry_law.After.{Follows}
 use Rattle.step_entry_law.proofs.Kept.{Staying, gifts_by}
 
 -- the same is shown first, but for what isn't there

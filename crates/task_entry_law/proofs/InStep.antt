@@ -12,15 +12,15 @@ use Rattle.finish_law.specs.Below.server_model.Servers.{Server, Cluster, server_
 use Rattle.finish_law.specs.Below.server_model.Work.{then_some, thread_in}
 use Rattle.finish_law.specs.Below.server_model.Events.{can_step, has_phase, enabled, does, begin_work, Stepped, step, step_in, stepped}
 use Rattle.finish_law.specs.Below.server_model.Clusters.{apply}
-use Rattle.entry_law.specs.Below.coloured_heap.Heap.{Coloured}
+use Rattle.step_entry_law.specs.Below.entry_law.Below.coloured_heap.Heap.{Coloured}
 use Rattle.finish_law.specs.Below.heap_law.Colours.{StandsColoured}
 use Rattle.finish_law.specs.Below.heap_law.Coherent.{IsSound}
 use Rattle.finish_law.specs.Below.event_law.Kinds.{Kind, step_let, step_join, step_mutex, step_end, message_kind, instr_kind, kind_at}
 use Rattle.finish_law.specs.Below.event_law.Laws.{Gives, FewEvents}
 use Rattle.finish_law.proofs.Below.event_law.Results.{over_gives, both_give}
 use Rattle.finish_law.proofs.Below.event_law.Bags.{thread_number}
-use Rattle.entry_law.specs.Entries.{LeadsOn, EntryLegal, EntriesLegal}
-use Rattle.entry_law.proofs.Applied.{applied_by}
+use Rattle.step_entry_law.specs.Below.entry_law.Entries.{LeadsOn, EntryLegal, EntriesLegal}
+use Rattle.step_entry_law.proofs.Below.entry_law.Applied.{applied_by}
 use Rattle.task_entry_law.proofs.Led.{LedWith}
 
 -- a thread is found by its own number

@@ -17,7 +17,7 @@ use Rattle.finish_law.specs.Below.server_model.Servers.{Server, Cluster, server_
 use Rattle.finish_law.specs.Below.server_model.Work.{Hand, Popped, last_of, front_of, task_of, taken_as, then_some, pop, push_temp, with_temps, thread_in}
 use Rattle.finish_law.specs.Below.server_model.Commit.{waiting, ask_join, take_gift, join}
 use Rattle.finish_law.specs.Below.server_model.Events.{Stepped, begin_work, committed, stepped}
-use Rattle.entry_law.specs.Below.coloured_heap.Heap.{Coloured}
+use Rattle.step_entry_law.specs.Below.entry_law.Below.coloured_heap.Heap.{Coloured}
 use Rattle.finish_law.specs.Below.heap_law.Names.{one, some, if_so}
 use Rattle.finish_law.specs.Below.heap_law.Things.{stands}
 use Rattle.finish_law.specs.Below.heap_law.Follow.{Standing}
@@ -27,12 +27,12 @@ use Rattle.finish_law.specs.Below.heap_law.Colours.{StandsColoured}
 use Rattle.finish_law.specs.Below.heap_law.Coherent.{IsSound}
 use Rattle.finish_law.specs.Below.event_law.Kinds.{step_join, instr_kind}
 use Rattle.finish_law.specs.Below.event_law.Laws.{Gives, FewEvents}
-use Rattle.entry_law.proofs.Below.still_law.Told.{told}
+use Rattle.step_entry_law.proofs.Below.entry_law.Below.still_law.Told.{told}
 use Rattle.finish_law.specs.Below.word_law.Unmoved.{LeavesWords}
 use Rattle.carry_law.specs.Steps.{a_join}
 use Rattle.carry_law.proofs.Events.{steps_carry}
-use Rattle.entry_law.specs.Entries.{EntryLegal, EntriesLegal}
-use Rattle.entry_law.proofs.Shown.{if_some, holder_by}
+use Rattle.step_entry_law.specs.Below.entry_law.Entries.{EntryLegal, EntriesLegal}
+use Rattle.step_entry_law.proofs.Below.entry_law.Shown.{if_some, holder_by}
 use Rattle.step_entry_law.proofs.PlainSteps.{lives}
 use Rattle.step_entry_law.proofs.Asks.{asks_led}
 use Rattle.task_entry_law.proofs.Turning.{begins, rethreaded}

@@ -4,7 +4,7 @@ use Rattle.finish_law.specs.Below.fr_base.declared.label.Label.{Label}
 use Rattle.finish_law.specs.Below.fr_base.declared.step.Fresh.{Fresh}
 use Rattle.finish_law.specs.Below.fr_base.declared.settings.Options.{Options}
 use Rattle.carry_law.specs.Below.read_cache.Cache.{Copy}
-use Rattle.entry_law.specs.Below.migration.Packing.{unpin_all}
+use Rattle.step_entry_law.specs.Below.entry_law.Below.migration.Packing.{unpin_all}
 use Rattle.finish_law.specs.Below.thread_state.View.{ThreadState, is_over}
 use Rattle.finish_law.specs.Below.journal.View.{EntryView}
 use Rattle.finish_law.specs.Below.journal.declared.act.Act.{Act}
@@ -12,21 +12,21 @@ use Rattle.finish_law.specs.Below.server_model.Servers.{Server, Cluster}
 use Rattle.finish_law.specs.Below.server_model.Work.{Work, Hand, with_cache, thread_in}
 use Rattle.finish_law.specs.Below.server_model.Commit.{done_where, go_on, settle}
 use Rattle.finish_law.specs.Below.server_model.Events.{entry_of, Stepped, done_step, committed, stepped}
-use Rattle.entry_law.specs.Below.coloured_heap.Lists.{holds}
-use Rattle.entry_law.specs.Below.coloured_heap.Heap.{Running, Coloured}
-use Rattle.entry_law.specs.Below.coloured_heap.Rules.{of_run}
-use Rattle.entry_law.specs.Below.coloured_heap.Changes.{with_new_mutex}
-use Rattle.entry_law.specs.Below.coloured_heap.Reach.{reaches}
-use Rattle.entry_law.specs.Below.coloured_heap.Legal.{is_placed, is_new_name, acts_after, settled}
+use Rattle.step_entry_law.specs.Below.entry_law.Below.coloured_heap.Lists.{holds}
+use Rattle.step_entry_law.specs.Below.entry_law.Below.coloured_heap.Heap.{Running, Coloured}
+use Rattle.step_entry_law.specs.Below.entry_law.Below.coloured_heap.Rules.{of_run}
+use Rattle.step_entry_law.specs.Below.entry_law.Below.coloured_heap.Changes.{with_new_mutex}
+use Rattle.step_entry_law.specs.Below.entry_law.Below.coloured_heap.Reach.{reaches}
+use Rattle.step_entry_law.specs.Below.entry_law.Below.coloured_heap.Legal.{is_placed, is_new_name, acts_after, settled}
 use Rattle.finish_law.specs.Below.heap_law.Names.{tot}
 use Rattle.finish_law.specs.Below.heap_law.Things.{Thing, stands}
 use Rattle.finish_law.specs.Below.heap_law.Sight.{sight}
 use Rattle.finish_law.specs.Below.event_law.Laws.{Gives}
-use Rattle.entry_law.specs.Entries.{LeadsOn}
-use Rattle.entry_law.proofs.Answers.{Answers, answers_of, Fits, Agrees, coloured_by}
-use Rattle.entry_law.proofs.After.{Follows}
-use Rattle.entry_law.proofs.Runs.{Runs}
-use Rattle.entry_law.proofs.Applied.{Afterwards}
+use Rattle.step_entry_law.specs.Below.entry_law.Entries.{LeadsOn}
+use Rattle.step_entry_law.proofs.Below.entry_law.Answers.{Answers, answers_of, Fits, Agrees, coloured_by}
+use Rattle.step_entry_law.proofs.Below.entry_law.After.{Follows}
+use Rattle.step_entry_law.proofs.Below.entry_law.Runs.{Runs}
+use Rattle.step_entry_law.proofs.Below.entry_law.Applied.{Afterwards}
 use Rattle.step_entry_law.proofs.Settled.{StoreNothing}
 use Rattle.task_entry_law.proofs.Turning.{loud, silent, Turning, rethreaded, worked_alike, turned_server, uses_end}
 

@@ -15,7 +15,7 @@ use Rattle.finish_law.specs.Below.server_model.Servers.{Server, Cluster, server_
 use Rattle.finish_law.specs.Below.server_model.Work.{Hand, Popped, last_of, front_of, with_temps, push_slot, thread_in}
 use Rattle.finish_law.specs.Below.server_model.Commit.{let_slot}
 use Rattle.finish_law.specs.Below.server_model.Events.{begin_work}
-use Rattle.entry_law.specs.Below.coloured_heap.Heap.{Coloured}
+use Rattle.step_entry_law.specs.Below.entry_law.Below.coloured_heap.Heap.{Coloured}
 use Rattle.finish_law.specs.Below.heap_law.Colours.{StandsColoured}
 use Rattle.finish_law.specs.Below.heap_law.Coherent.{IsSound}
 use Rattle.finish_law.specs.Below.event_law.Kinds.{step_let, instr_kind}
@@ -24,7 +24,7 @@ use Rattle.finish_law.proofs.Below.event_law.GiftsTaken.{gift_fits}
 use Rattle.finish_law.specs.Below.word_law.Unmoved.{LeavesWords}
 use Rattle.carry_law.specs.Steps.{a_let}
 use Rattle.carry_law.proofs.Events.{steps_carry}
-use Rattle.entry_law.specs.Entries.{EntryLegal, EntriesLegal}
+use Rattle.step_entry_law.specs.Below.entry_law.Entries.{EntryLegal, EntriesLegal}
 use Rattle.step_entry_law.proofs.PlainSteps.{lives}
 use Rattle.step_entry_law.proofs.Settled.{none_held}
 use Rattle.task_entry_law.proofs.Slots.{IsUnmarked, slot_pushed}

@@ -1,3 +1,4 @@
+pub mod Below
 pub mod Slots
 pub mod Turning
 pub mod Holders

@@ -21,9 +21,9 @@ use Rattle.finish_law.specs.Below.server_model.Servers.{Rest, Server, Cluster, s
 use Rattle.finish_law.specs.Below.server_model.Work.{Hand, Popped, last_of, front_of, owned_of, taken_as, then_some, pop_owned, push_temp, with_temps, with_mutexes, working, thread_in}
 use Rattle.finish_law.specs.Below.server_model.Commit.{mutex_made}
 use Rattle.finish_law.specs.Below.server_model.Events.{begin_work}
-use Rattle.entry_law.specs.Below.coloured_heap.Heap.{Coloured, Guarded, mutex_at}
-use Rattle.entry_law.proofs.Below.coloured_heap.Times.{mutex_is, number_is}
-use Rattle.entry_law.proofs.Below.coloured_heap.ShownNames.{number_itself}
+use Rattle.step_entry_law.specs.Below.entry_law.Below.coloured_heap.Heap.{Coloured, Guarded, mutex_at}
+use Rattle.step_entry_law.proofs.Below.entry_law.Below.coloured_heap.Times.{mutex_is, number_is}
+use Rattle.step_entry_law.proofs.Below.entry_law.Below.coloured_heap.ShownNames.{number_itself}
 use Rattle.finish_law.specs.Below.heap_law.Names.{tot, one, other, some, same_mutex}
 use Rattle.finish_law.specs.Below.heap_law.Things.{Thing, stands, at_home, things_at, mutex_things, things_of}
 use Rattle.finish_law.specs.Below.heap_law.Sight.{Sight, sight}
@@ -41,20 +41,20 @@ use Rattle.finish_law.proofs.Below.event_law.Bags.{counts_of, of_mutexes}
 use Rattle.finish_law.proofs.Below.event_law.Askers.{other_none}
 use Rattle.finish_law.proofs.Below.event_law.Boxes.{tot_le}
 use Rattle.finish_law.proofs.Below.event_law.GiftsTaken.{gift_fits}
-use Rattle.entry_law.proofs.Below.still_law.Tests.{numbers}
-use Rattle.entry_law.proofs.Below.still_law.Told.{told, ones}
+use Rattle.step_entry_law.proofs.Below.entry_law.Below.still_law.Tests.{numbers}
+use Rattle.step_entry_law.proofs.Below.entry_law.Below.still_law.Told.{told, ones}
 use Rattle.finish_law.specs.Below.word_law.Unmoved.{LeavesWords}
 use Rattle.carry_law.specs.Steps.{a_mutex}
 use Rattle.carry_law.proofs.Events.{steps_carry}
-use Rattle.entry_law.specs.Entries.{EntryLegal, EntriesLegal}
-use Rattle.entry_law.proofs.Answers.{Answers, answers_of, Fits, fits, Agrees}
-use Rattle.entry_law.proofs.Weighed.{Seen, WorkTurns}
-use Rattle.entry_law.proofs.Shown.{holder_by, holder_is, none_first, there_in}
-use Rattle.entry_law.proofs.HeldOnce.{holders_less}
-use Rattle.entry_law.proofs.Changed.{mutex_seen}
-use Rattle.entry_law.proofs.After.{Follows, started_still, running_still, ended_by}
-use Rattle.entry_law.proofs.Runs.{runs_none}
-use Rattle.entry_law.proofs.Applied.{server_there}
+use Rattle.step_entry_law.specs.Below.entry_law.Entries.{EntryLegal, EntriesLegal}
+use Rattle.step_entry_law.proofs.Below.entry_law.Answers.{Answers, answers_of, Fits, fits, Agrees}
+use Rattle.step_entry_law.proofs.Below.entry_law.Weighed.{Seen, WorkTurns}
+use Rattle.step_entry_law.proofs.Below.entry_law.Shown.{holder_by, holder_is, none_first, there_in}
+use Rattle.step_entry_law.proofs.Below.entry_law.HeldOnce.{holders_less}
+use Rattle.step_entry_law.proofs.Below.entry_law.Changed.{mutex_seen}
+use Rattle.step_entry_law.proofs.Below.entry_law.After.{Follows, started_still, running_still, ended_by}
+use Rattle.step_entry_law.proofs.Below.entry_law.Runs.{runs_none}
+use Rattle.step_entry_law.proofs.Below.entry_law.Applied.{server_there}
 use Rattle.step_entry_law.proofs.PlainSteps.{lives}
 use Rattle.step_entry_law.proofs.Settled.{none_held}
 use Rattle.task_entry_law.proofs.Turning.{Turning, begins, rethreaded, worked}

@@ -7,11 +7,11 @@ use Rattle.finish_law.specs.Below.fr_base.declared.settings.Options.{Options}
 use Rattle.finish_law.specs.Below.journal.View.{EntryView}
 use Rattle.finish_law.specs.Below.journal.declared.act.Act.TheVariants as act
 use Rattle.finish_law.specs.Below.server_model.Servers.{Rest, Server, Cluster, server_at}
-use Rattle.entry_law.specs.Below.coloured_heap.Lists.{holds}
-use Rattle.entry_law.specs.Below.coloured_heap.Heap.{Running, Coloured, thread_at}
-use Rattle.entry_law.specs.Below.coloured_heap.Rules.{starting_server}
-use Rattle.entry_law.proofs.Below.coloured_heap.Times.{number_is}
-use Rattle.entry_law.proofs.Below.coloured_heap.ShownNames.{number_itself}
+use Rattle.step_entry_law.specs.Below.entry_law.Below.coloured_heap.Lists.{holds}
+use Rattle.step_entry_law.specs.Below.entry_law.Below.coloured_heap.Heap.{Running, Coloured, thread_at}
+use Rattle.step_entry_law.specs.Below.entry_law.Below.coloured_heap.Rules.{starting_server}
+use Rattle.step_entry_law.proofs.Below.entry_law.Below.coloured_heap.Times.{number_is}
+use Rattle.step_entry_law.proofs.Below.entry_law.Below.coloured_heap.ShownNames.{number_itself}
 use Rattle.finish_law.specs.Below.heap_law.Names.{tot, one, other, some}
 use Rattle.finish_law.specs.Below.heap_law.Things.{things_of}
 use Rattle.finish_law.specs.Below.heap_law.Sight.{sight}
@@ -25,7 +25,7 @@ use Rattle.finish_law.proofs.Below.event_law.Bags.{counts_of, rest_things, all_s
 use Rattle.finish_law.proofs.Below.event_law.Events.{tot-server}
 use Rattle.finish_law.proofs.Below.event_law.NewThreads.{new_names}
 use Rattle.finish_law.proofs.Below.event_law.Sound.{sound_has_sums}
-use Rattle.entry_law.proofs.Answers.{Answers, Fits, Allowed}
+use Rattle.step_entry_law.proofs.Below.entry_law.Answers.{Answers, Fits, Allowed}
 use Rattle.task_entry_law.proofs.Counts.{started_here, next_counted}
 
 -- IN THE COLOURED HEAP

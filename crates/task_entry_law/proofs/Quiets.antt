@@ -7,21 +7,21 @@ use Rattle.finish_law.specs.Below.thread_state.View.{ThreadState, is_over}
 use Rattle.finish_law.specs.Below.journal.declared.act.Act.{Act}
 use Rattle.finish_law.specs.Below.server_model.Servers.{Server, Cluster, server_at}
 use Rattle.finish_law.specs.Below.server_model.Work.{Hand, thread_in}
-use Rattle.entry_law.specs.Below.coloured_heap.Heap.{Running, Coloured}
+use Rattle.step_entry_law.specs.Below.entry_law.Below.coloured_heap.Heap.{Running, Coloured}
 use Rattle.finish_law.specs.Below.heap_law.Names.{tot, one, if_so}
 use Rattle.finish_law.specs.Below.heap_law.Things.{Thing, stands}
 use Rattle.finish_law.specs.Below.heap_law.Sight.{sight}
 use Rattle.finish_law.specs.Below.heap_law.Colours.{StandsColoured, running_of}
 use Rattle.finish_law.specs.Below.heap_law.Coherent.{IsSound}
-use Rattle.entry_law.proofs.Below.still_law.Tests.{numbers}
-use Rattle.entry_law.proofs.Below.still_law.Told.{told, at_thread}
-use Rattle.entry_law.specs.Below.still_law.Shows.{ShownThread}
+use Rattle.step_entry_law.proofs.Below.entry_law.Below.still_law.Tests.{numbers}
+use Rattle.step_entry_law.proofs.Below.entry_law.Below.still_law.Told.{told, at_thread}
+use Rattle.step_entry_law.specs.Below.entry_law.Below.still_law.Shows.{ShownThread}
 use Rattle.finish_law.specs.Below.heap_law.Weights.{is_thread}
 use Rattle.finish_law.specs.Below.word_law.Unmoved.{LeavesWords}
-use Rattle.entry_law.proofs.Answers.{Answers, answers_of, Fits, fits}
-use Rattle.entry_law.proofs.Shown.{if_some, holder_by, runs}
-use Rattle.entry_law.proofs.Runs.{runs_none}
-use Rattle.entry_law.proofs.Applied.{server_there}
+use Rattle.step_entry_law.proofs.Below.entry_law.Answers.{Answers, answers_of, Fits, fits}
+use Rattle.step_entry_law.proofs.Below.entry_law.Shown.{if_some, holder_by, runs}
+use Rattle.step_entry_law.proofs.Below.entry_law.Runs.{runs_none}
+use Rattle.step_entry_law.proofs.Below.entry_law.Applied.{server_there}
 use Rattle.step_entry_law.proofs.Settled.{runs_here, none_held}
 use Rattle.step_entry_law.proofs.Kept.{masked_of}
 use Rattle.task_entry_law.proofs.Turning.{Turning}

@@ -8,7 +8,7 @@ use Rattle.finish_law.specs.Below.heap_law.Names.{tot}
 use Rattle.finish_law.specs.Below.heap_law.Things.{in_slot, at_slot, Thing, things_at, slot_things}
 use Rattle.finish_law.proofs.Below.event_law.Trades.{trade_at, trade_whole}
 use Rattle.finish_law.proofs.Below.event_law.Values.{last_split}
-use Rattle.entry_law.proofs.Weighed.{Seen, pins_unseen}
+use Rattle.step_entry_law.proofs.Below.entry_law.Weighed.{Seen, pins_unseen}
 use Rattle.carry_law.proofs.Places.{end_sum}
 
 -- it is no mark of a lock

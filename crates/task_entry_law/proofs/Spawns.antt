@@ -20,9 +20,9 @@ use Rattle.finish_law.specs.Below.server_model.Work.{Hand, push_temp, working, w
 use Rattle.finish_law.specs.Below.server_model.Start.{next_thread, server_for, start_thread, capture}
 use Rattle.finish_law.specs.Below.server_model.Commit.{spawn_with}
 use Rattle.finish_law.specs.Below.server_model.Events.{begin_work}
-use Rattle.entry_law.specs.Below.coloured_heap.Heap.{Coloured}
-use Rattle.entry_law.proofs.Below.coloured_heap.Times.{number_is}
-use Rattle.entry_law.proofs.Below.coloured_heap.ShownNames.{number_flip}
+use Rattle.step_entry_law.specs.Below.entry_law.Below.coloured_heap.Heap.{Coloured}
+use Rattle.step_entry_law.proofs.Below.entry_law.Below.coloured_heap.Times.{number_is}
+use Rattle.step_entry_law.proofs.Below.entry_law.Below.coloured_heap.ShownNames.{number_flip}
 use Rattle.finish_law.specs.Below.heap_law.Names.{tot, one, if_so}
 use Rattle.finish_law.specs.Below.heap_law.Things.{Thing, sent, stands, noted as notes_it, things_of}
 use Rattle.finish_law.specs.Below.heap_law.Sight.{sight}
@@ -37,14 +37,14 @@ use Rattle.finish_law.proofs.Below.event_law.Bags.{counts_of}
 use Rattle.finish_law.proofs.Below.event_law.Boxes.{tot_le}
 use Rattle.finish_law.proofs.Below.event_law.ThreadThere.{thread_there}
 use Rattle.finish_law.proofs.Below.event_law.GiftsTaken.{gift_fits}
-use Rattle.entry_law.proofs.Below.still_law.Tests.{numbers}
-use Rattle.entry_law.proofs.Below.still_law.Told.{told, at_thread, thread_told}
+use Rattle.step_entry_law.proofs.Below.entry_law.Below.still_law.Tests.{numbers}
+use Rattle.step_entry_law.proofs.Below.entry_law.Below.still_law.Told.{told, at_thread, thread_told}
 use Rattle.finish_law.specs.Below.word_law.Unmoved.{LeavesWords}
 use Rattle.finish_law.specs.Below.refs_law.Starts.{a_thread}
 use Rattle.finish_law.proofs.Below.refs_law.StartEvents.{starts_leave_words}
-use Rattle.entry_law.proofs.Answers.{Answers, answers_of, Fits, fits}
-use Rattle.entry_law.proofs.Runs.{runs_one}
-use Rattle.entry_law.proofs.Applied.{server_there}
+use Rattle.step_entry_law.proofs.Below.entry_law.Answers.{Answers, answers_of, Fits, fits}
+use Rattle.step_entry_law.proofs.Below.entry_law.Runs.{runs_one}
+use Rattle.step_entry_law.proofs.Below.entry_law.Applied.{server_there}
 use Rattle.step_entry_law.proofs.PlainSteps.{lives}
 use Rattle.step_entry_law.proofs.Kept.{masked_of}
 use Rattle.task_entry_law.specs.Steps.{StepsLegal, Spawns, spawns}

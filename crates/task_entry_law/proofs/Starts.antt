@@ -12,8 +12,8 @@ use Rattle.finish_law.specs.Below.journal.declared.act.Act.TheVariants as act
 use Rattle.finish_law.specs.Below.server_model.Servers.{Rest, Server, Cluster, server_at}
 use Rattle.finish_law.specs.Below.server_model.Work.{Work, Hand, working, with_tasks, thread_in}
 use Rattle.finish_law.specs.Below.server_model.Start.{next_thread, server_for, start_thread}
-use Rattle.entry_law.specs.Below.coloured_heap.Heap.{Running, Coloured}
-use Rattle.entry_law.proofs.Below.coloured_heap.Times.{number_is}
+use Rattle.step_entry_law.specs.Below.entry_law.Below.coloured_heap.Heap.{Running, Coloured}
+use Rattle.step_entry_law.proofs.Below.entry_law.Below.coloured_heap.Times.{number_is}
 use Rattle.finish_law.specs.Below.heap_law.Names.{tot, one, if_so}
 use Rattle.finish_law.specs.Below.heap_law.Things.{Thing, sent, stands, noted as notes_it, things_at, slot_things, task_things, things_of}
 use Rattle.finish_law.specs.Below.heap_law.Follow.{Standing, threads_in, thread_at}
@@ -25,13 +25,13 @@ use Rattle.finish_law.specs.Below.heap_law.Colours.{StandsColoured, running_of}
 use Rattle.finish_law.specs.Below.heap_law.Coherent.{IsSound}
 use Rattle.finish_law.proofs.Below.event_law.Trades.{Trade, tot-append, tot-push}
 use Rattle.finish_law.proofs.Below.event_law.Bags.{counts_of, body_things, rest_things, of_sending, of_tasks, sent_number}
-use Rattle.entry_law.specs.Below.still_law.Shows.{ShownThread}
-use Rattle.entry_law.proofs.Below.still_law.Told.{told, ones, at_most, at_thread, thread_told}
+use Rattle.step_entry_law.specs.Below.entry_law.Below.still_law.Shows.{ShownThread}
+use Rattle.step_entry_law.proofs.Below.entry_law.Below.still_law.Told.{told, ones, at_most, at_thread, thread_told}
 use Rattle.finish_law.specs.Below.word_law.Unmoved.{LeavesWords}
-use Rattle.entry_law.proofs.Answers.{answers_of, Agrees}
-use Rattle.entry_law.proofs.Weighed.{Seen, WorkTurns, thread_seen}
-use Rattle.entry_law.proofs.Shown.{if_some, holder_by, runs, running_as, running_after, there_in}
-use Rattle.entry_law.proofs.After.{Follows, made_still, there_less}
+use Rattle.step_entry_law.proofs.Below.entry_law.Answers.{answers_of, Agrees}
+use Rattle.step_entry_law.proofs.Below.entry_law.Weighed.{Seen, WorkTurns, thread_seen}
+use Rattle.step_entry_law.proofs.Below.entry_law.Shown.{if_some, holder_by, runs, running_as, running_after, there_in}
+use Rattle.step_entry_law.proofs.Below.entry_law.After.{Follows, made_still, there_less}
 use Rattle.step_entry_law.proofs.Kept.{masked_of}
 use Rattle.step_entry_law.proofs.Settled.{none_held}
 use Rattle.task_entry_law.proofs.Turning.{loud, Turning}

@@ -12,7 +12,7 @@ use Rattle.finish_law.proofs.Below.event_law.Trades.{tot-append, tot-push}
 use Rattle.finish_law.proofs.Below.event_law.Bags.{all_standing, rest_things, server_same, tot-without}
 use Rattle.finish_law.proofs.Below.event_law.Events.{tot-server}
 use Rattle.finish_law.proofs.Below.event_law.Values.{last_split}
-use Rattle.entry_law.proofs.Changed.{AreThere}
+use Rattle.step_entry_law.proofs.Below.entry_law.Changed.{AreThere}
 use Rattle.task_entry_law.proofs.Slots.{IsUnmarked}
 
 module _ (k : Cluster) (number : ℕ) (s : Server) (here : server_at k.servers number ≡ Some s) (y : ThreadState) (at : thread_in s.threads y.number ≡ Some y) where

@@ -4,7 +4,7 @@ use Rattle.finish_law.specs.Below.fr_base.declared.label.Label.{Label}
 use Rattle.finish_law.specs.Below.fr_base.declared.label.Label.TheVariants as label
 use Rattle.finish_law.specs.Below.fr_base.declared.step.Fresh.TheVariants as fresh
 use Rattle.carry_law.specs.Below.read_cache.Cache.{Copy}
-use Rattle.entry_law.specs.Below.migration.Packing.{unpin_all}
+use Rattle.step_entry_law.specs.Below.entry_law.Below.migration.Packing.{unpin_all}
 use Rattle.finish_law.specs.Below.thread_state.View.{ThreadState}
 use Rattle.finish_law.specs.Below.thread_state.declared.value.Value.{Value}
 use Rattle.finish_law.specs.Below.journal.View.{EntryView}
@@ -12,14 +12,14 @@ use Rattle.finish_law.specs.Below.journal.declared.act.Act.{Act}
 use Rattle.finish_law.specs.Below.server_model.Servers.{Server}
 use Rattle.finish_law.specs.Below.server_model.Work.{Work, Hand, Site, label_all, working, with_slots, with_cache, thread_in, set_thread}
 use Rattle.finish_law.specs.Below.server_model.Events.{begin_work, begin_at}
-use Rattle.entry_law.specs.Below.coloured_heap.Heap.{Coloured}
-use Rattle.entry_law.specs.Below.coloured_heap.Changes.{stored}
-use Rattle.entry_law.specs.Below.coloured_heap.Reach.{reaches}
+use Rattle.step_entry_law.specs.Below.entry_law.Below.coloured_heap.Heap.{Coloured}
+use Rattle.step_entry_law.specs.Below.entry_law.Below.coloured_heap.Changes.{stored}
+use Rattle.step_entry_law.specs.Below.entry_law.Below.coloured_heap.Reach.{reaches}
 use Rattle.finish_law.specs.Below.heap_law.Names.{tot}
 use Rattle.finish_law.specs.Below.heap_law.Things.{Thing, stands, things_at, slot_things, copy_things, server_things}
 use Rattle.finish_law.proofs.Below.event_law.Trades.{tot-append, trade_whole}
 use Rattle.finish_law.proofs.Below.event_law.Bags.{all_standing, rest_things, of_cache, tot-without, tot-set}
-use Rattle.entry_law.proofs.Weighed.{Seen, Turned, WorkTurns, SiteTurns, marks_of, thread_seen, site_things, server_turns}
+use Rattle.step_entry_law.proofs.Below.entry_law.Weighed.{Seen, Turned, WorkTurns, SiteTurns, marks_of, thread_seen, site_things, server_turns}
 use Rattle.step_entry_law.proofs.Settled.{unpinned_unseen, StoreNothing}
 
 -- LABELS

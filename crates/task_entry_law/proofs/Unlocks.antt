@@ -18,12 +18,12 @@ use Rattle.finish_law.specs.Below.server_model.Servers.{Server, Cluster, server_
 use Rattle.finish_law.specs.Below.server_model.Work.{Work, Hand, Popped, last_of, front_of, owned_of, taken_as, then_some, pop_slot, note, send, label_all, with_slots, working, thread_in}
 use Rattle.finish_law.specs.Below.server_model.Commit.{held_of, send_content, unlock}
 use Rattle.finish_law.specs.Below.server_model.Events.{begin_work}
-use Rattle.entry_law.specs.Below.coloured_heap.Lists.{first, holds, with_each}
-use Rattle.entry_law.specs.Below.coloured_heap.Heap.{Coloured, Guarded, is_mutex, mutex_at}
-use Rattle.entry_law.specs.Below.coloured_heap.Rules as rules
-use Rattle.entry_law.proofs.Below.coloured_heap.Found.{found_each}
-use Rattle.entry_law.proofs.Below.coloured_heap.Times.{number_is, mutex_is}
-use Rattle.entry_law.proofs.Below.coloured_heap.ShownNames.{number_itself, mutex_flip}
+use Rattle.step_entry_law.specs.Below.entry_law.Below.coloured_heap.Lists.{first, holds, with_each}
+use Rattle.step_entry_law.specs.Below.entry_law.Below.coloured_heap.Heap.{Coloured, Guarded, is_mutex, mutex_at}
+use Rattle.step_entry_law.specs.Below.entry_law.Below.coloured_heap.Rules as rules
+use Rattle.step_entry_law.proofs.Below.entry_law.Below.coloured_heap.Found.{found_each}
+use Rattle.step_entry_law.proofs.Below.entry_law.Below.coloured_heap.Times.{number_is, mutex_is}
+use Rattle.step_entry_law.proofs.Below.entry_law.Below.coloured_heap.ShownNames.{number_itself, mutex_flip}
 use Rattle.finish_law.specs.Below.heap_law.Names.{tot, one, other, some, same_mutex}
 use Rattle.finish_law.specs.Below.heap_law.Things.{at_slot, Thing, locks, at_home, stands, things_at, walk_things, slot_things, temp_things, gift_things, message_things, things_of}
 use Rattle.finish_law.specs.Below.heap_law.Sight.{sight}
@@ -39,19 +39,19 @@ use Rattle.finish_law.proofs.Below.event_law.Boxes.{tot_le}
 use Rattle.finish_law.proofs.Below.event_law.Events.{tot-server}
 use Rattle.finish_law.proofs.Below.event_law.Values.{last_split}
 use Rattle.finish_law.proofs.Below.event_law.GiftsTaken.{gift_fits}
-use Rattle.entry_law.proofs.Below.still_law.Tests.{numbers}
-use Rattle.entry_law.proofs.Below.still_law.Told.{told, ones, first_told}
+use Rattle.step_entry_law.proofs.Below.entry_law.Below.still_law.Tests.{numbers}
+use Rattle.step_entry_law.proofs.Below.entry_law.Below.still_law.Told.{told, ones, first_told}
 use Rattle.finish_law.specs.Below.word_law.Unmoved.{LeavesWords}
 use Rattle.carry_law.specs.Steps.{puts_back}
 use Rattle.carry_law.proofs.Gives.{owned_goes}
-use Rattle.entry_law.proofs.Answers.{Answers, answers_of, Fits, fits, Agrees, Allowed}
-use Rattle.entry_law.proofs.Weighed.{Seen, marks_of, sends}
-use Rattle.entry_law.proofs.Shown.{if_some, holder_by, holder_is, there_in}
-use Rattle.entry_law.proofs.HeldOnce.{holders_once}
-use Rattle.entry_law.proofs.Changed.{turns_none, notes}
-use Rattle.entry_law.proofs.After.{Follows, started_still, running_still, ended_by, made_still, there_still}
-use Rattle.entry_law.proofs.Runs.{runs_one}
-use Rattle.entry_law.proofs.Applied.{server_there}
+use Rattle.step_entry_law.proofs.Below.entry_law.Answers.{Answers, answers_of, Fits, fits, Agrees, Allowed}
+use Rattle.step_entry_law.proofs.Below.entry_law.Weighed.{Seen, marks_of, sends}
+use Rattle.step_entry_law.proofs.Below.entry_law.Shown.{if_some, holder_by, holder_is, there_in}
+use Rattle.step_entry_law.proofs.Below.entry_law.HeldOnce.{holders_once}
+use Rattle.step_entry_law.proofs.Below.entry_law.Changed.{turns_none, notes}
+use Rattle.step_entry_law.proofs.Below.entry_law.After.{Follows, started_still, running_still, ended_by, made_still, there_still}
+use Rattle.step_entry_law.proofs.Below.entry_law.Runs.{runs_one}
+use Rattle.step_entry_law.proofs.Below.entry_law.Applied.{server_there}
 use Rattle.step_entry_law.proofs.PlainSteps.{lives}
 use Rattle.step_entry_law.proofs.Settled.{none_held}
 use Rattle.task_entry_law.specs.Steps.{StepsLegal, Unlocks}

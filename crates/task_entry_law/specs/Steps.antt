@@ -15,7 +15,7 @@ use Rattle.finish_law.specs.Below.server_model.Work.{thread_in, last_of}
 use Rattle.finish_law.specs.Below.type_law.ClusterTypes.{IsCoherent}
 use Rattle.finish_law.specs.Below.event_law.Laws.{FewEvents}
 use Rattle.finish_law.specs.Ends.{EndsAtHand}
-use Rattle.entry_law.specs.Entries.{EntryLegal}
+use Rattle.step_entry_law.specs.Below.entry_law.Entries.{EntryLegal}
 
 -- each step of a thread in such a state at such an instruction has a legal entry, from a coherent cluster in which few events were done
 abbrev pub StepsLegal : (ThreadState → Instr → Type 0) → Type 0

@@ -1,7 +1,7 @@
 //! Laws of the entries of steps whose place has no star.
 
 ghost use Rattle.finish_law.specs.Below.event_law.Kinds.{step_end, step_join, step_let, step_mutex};
-ghost use Rattle.entry_law.specs.Entries.{EntriesLegal, JournalGoesOn};
+ghost use Rattle.step_entry_law.specs.Below.entry_law.Entries.{EntriesLegal, JournalGoesOn};
 ghost use Rattle.task_entry_law.specs.Steps.{DropsPlain, EndsClean, Pairs, Spawns, StepsLegal, TakesGift, Unlocks};
 
 /// From a sound cluster with few events the entry of a step of these kinds is legal in each coloured heap that the cluster stands for, and leads to one that it stands for

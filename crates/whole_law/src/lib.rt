@@ -3,4 +3,6 @@
 
 mod laws;
 
+// who stands on whole runs stands on single events too
+pub use coherence_law::events_keep_coherence;
 pub use laws::{programs_are_left, programs_run_right};

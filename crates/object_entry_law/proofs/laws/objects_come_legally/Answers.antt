@@ -1,4 +1,4 @@
-use Rattle.coherence_law.specs.Below.event_law.Kinds.{moved}
+use Rattle.whole_law.specs.Below.event_law.Kinds.{moved}
 use Rattle.object_entry_law.proofs.laws.objects_come_legally.Goals as goal
 use Rattle.object_entry_law.proofs.Comes.{moves_legal}
 use Rattle.object_entry_law.proofs.Onward.{onward}

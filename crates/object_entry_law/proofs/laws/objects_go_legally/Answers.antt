@@ -1,4 +1,4 @@
-use Rattle.coherence_law.specs.Below.event_law.Kinds.{drop}
+use Rattle.whole_law.specs.Below.event_law.Kinds.{drop}
 use Rattle.object_entry_law.proofs.laws.objects_go_legally.Goals as goal
 use Rattle.object_entry_law.proofs.Goes.{drops_legal}
 use Rattle.object_entry_law.proofs.Onward.{onward}

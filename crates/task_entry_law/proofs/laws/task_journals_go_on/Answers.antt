@@ -1,5 +1,5 @@
 use Rattle.finish_law.specs.Below.event_law.Kinds.{step_end, step_join, step_let, step_mutex}
-use Rattle.entry_law.proofs.Continued.{continues}
+use Rattle.step_entry_law.proofs.Below.entry_law.Continued.{continues}
 use Rattle.task_entry_law.proofs.laws.task_journals_go_on.Goals as goal
 use Rattle.task_entry_law.proofs.Lets.{lets_legal}
 use Rattle.task_entry_law.proofs.Joins.{joins_legal}
