@@ -1,0 +1,17 @@
+pub mod Standing
+pub mod Dropping
+pub mod Variables
+pub mod Storing
+pub mod Places
+pub mod Holding
+pub mod Answering
+pub mod GivingUp
+pub mod Lays
+pub mod Lying
+pub mod Doing
+pub mod Ready
+pub mod Marked
+pub mod Writes
+pub mod Moves
+pub mod Assigns
+pub mod Through
