@@ -1,0 +1,4 @@
+pub mod Below
+pub mod Changes
+pub mod Steps
+pub mod Events
