@@ -88,7 +88,7 @@ star_grows j h s h2 s2 e = by (value_at h s) e
     by (Some v) f = at v (nat_lt j h.thread.passed) refl f
 
 -- nor do stars of which one asks
-stars_grow : (d j : ℕ) (h : Hand) (s : Spot) (h2 : Hand) → write_stars d j h s ≡ requested h2 → h.thread.passed ≤ h2.thread.passed
+pub stars_grow : (d j : ℕ) (h : Hand) (s : Spot) (h2 : Hand) → write_stars d j h s ≡ requested h2 → h.thread.passed ≤ h2.thread.passed
 stars_grow zero j h s h2 e = absurd (cc e)
 stars_grow (suc d) j h s h2 e = by (write_star j h s) refl e (λ h1 s1 f. stars_grow d (j + 1) h1 s1 h2 f)
   where
