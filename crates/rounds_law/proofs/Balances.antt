@@ -26,14 +26,16 @@ use Rattle.ending_law.specs.Below.heap_law.Coherent.{IsSound}
 use Rattle.ending_law.proofs.Below.heap_law.Names.{left_none, right_none}
 use Rattle.limit_law.proofs.Below.event_law.Askers.{other_none}
 use Rattle.run_law.specs.Runs.{run_of, EachKeepsCoherence}
+use Rattle.ending_law.specs.Below.event_law.Laws.{Gives}
 use Rattle.rounds_law.specs.Order.{AreSameServers}
+use Rattle.rounds_law.specs.Choosing.{IsChosen, IsChosenIn, AreChosen}
 use Rattle.rounds_law.specs.UnderWay.{IsUnderWay, CanMove}
 use Rattle.rounds_law.proofs.Items.{at_end}
 use Rattle.rounds_law.proofs.Numbered.{AreFrom, found_there, changed_there, number_kept, all_waiting, all_come, outboxes_more}
 use Rattle.rounds_law.proofs.Mirrored.{mirrored}
 use Rattle.rounds_law.proofs.Standing.{AllStand, all_stand, cluster, One, one}
 use Rattle.rounds_law.proofs.Works.{AreWays}
-use Rattle.rounds_law.proofs.OneRound.{first_none, second_none, runs_on, stand_both, Split, split}
+use Rattle.rounds_law.proofs.OneRound.{first_none, second_none, runs_on, chosen_on, stand_both, Split, split}
 use Rattle.rounds_law.proofs.Clusters.{finish, numbered_too, handed, handed_sent, handed_length}
 use Rattle.rounds_law.proofs.Chosen.{IsInOrder, sound_order, sound_numbers}
 use Rattle.rounds_law.proofs.UnderWay.{Laws, Led, ways, in_order_too, Onward, led, leads, stand, turns_in_range}
@@ -248,6 +250,16 @@ module _ (l : Laws) (keeps : EachKeepsCoherence) (r : Run) (u : IsUnderWay r) wh
       run_to : run_of (cluster code o u.ran.servers) (it.event ∷ []) ≡ Some (cluster code o new_ran, it.entry ∷ [])
       run_to = ap (λ b. run_of (cluster code o b) (it.event ∷ [])) stood.is ∙ ap (λ y. then_some y (λ (d : Cluster × EntryView). Some (d.0, d.1 ∷ []))) it.applied
 
+      -- a driver chooses it there
+      chosen_there : IsChosen o s w → AreChosen (it.event ∷ []) (cluster code o u.ran.servers)
+      chosen_there c = subst (λ b. AreChosen (it.event ∷ []) (cluster code o b)) (sym stood.is) (first, subst (λ y. Gives (λ (d : Cluster × EntryView). AreChosen [] d.0) y) (sym it.applied) tt)
+        where
+          first : IsChosenIn (cluster code o ran) it.event
+          first y found =
+              let one : Some stood.mine ≡ Some y = sym there ∙ ap (λ i. server_at ran i) (sym it.at) ∙ found in
+              let same : stood.mine ≡ y = cc in
+              subst (λ b. IsChosen o b it.event.what) same (it.chosen c)
+
       as_long : length r.generators ≡ length moved
       as_long =
           let a = length-append before (s ∷ after) in
@@ -257,8 +269,8 @@ module _ (l : Laws) (keeps : EachKeepsCoherence) (r : Run) (u : IsUnderWay r) wh
           let e = u.generators in
           omega (arith, a, b, c, d, e)
 
-      pub event_goes_on : length r.journal + 1 ≤ o.turns → Onward r (option_map (λ d. record r { cluster = d.0; journal = r.journal ++ d.1 ∷ [] }) (apply r.cluster (record { server = s.rest.number; what = w })))
-      event_goes_on less =
+      pub event_goes_on : IsChosen o s w → length r.journal + 1 ≤ o.turns → Onward r (option_map (λ d. record r { cluster = d.0; journal = r.journal ++ d.1 ∷ [] }) (apply r.cluster (record { server = s.rest.number; what = w })))
+      event_goes_on chosen less =
           let entries = length-append r.journal (it.entry ∷ []) in
           record {
             run = then_run;
@@ -268,6 +280,7 @@ module _ (l : Laws) (keeps : EachKeepsCoherence) (r : Run) (u : IsUnderWay r) wh
               ran = cluster code o new_ran;
               leads = runs_on u.events (it.event ∷ []) (start_of code o) (cluster code o u.ran.servers) (cluster code o new_ran) r.journal (it.entry ∷ []) (leads l keeps r u) run_to;
               coherent = (its_ways.keeps (length r.journal) ran new_ran it.event it.entry good few it.applied).coherent;
+              chosen = chosen_on u.events (it.event ∷ []) (start_of code o) (cluster code o u.ran.servers) r.journal (leads l keeps r u) u.chosen (chosen_there chosen);
               same = record { code = refl; options = refl; servers = still_same };
               sent = handed_sent it.more (before ++ it.new ∷ after);
               generators = as_long;
@@ -321,7 +334,7 @@ module _ (l : Laws) (keeps : EachKeepsCoherence) (r : Run) (u : IsUnderWay r) wh
       let range = turns_in_range o u.within in
       let on = leaves_on p.before p.mine p.after p.is x.thread x.target p.moves (omega (arith, target, loaded, all)) (λ q. move.apart (q ∙ same)) in
       subst (λ i. Onward r (option_map (λ d. record r { cluster = d.0; journal = r.journal ++ d.1 ∷ [] }) (apply r.cluster (record { server = i; what = Migrate x.thread x.target })))) same
-      (event_goes_on p.before p.mine p.after p.is (Migrate x.thread x.target) on (omega (arith, turns, range, left)) (omega (arith, turns, left)))
+      (event_goes_on p.before p.mine p.after p.is (Migrate x.thread x.target) on (omega (arith, turns, range, left)) p.moves (omega (arith, turns, left)))
 
   pub shift_can_move : BalanceMoves → 1 ≤ events_left r → (x : Shift) → balance (loads r.cluster.servers) ≡ Some x → CanMove r x
   shift_can_move moves left x e =

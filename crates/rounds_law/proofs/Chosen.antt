@@ -22,6 +22,7 @@ use Rattle.ending_law.specs.Below.heap_law.Naming.{rising, rising_from, numbers_
 use Rattle.ending_law.specs.Below.heap_law.Coherent.{IsSound}
 use Rattle.ending_law.proofs.Below.heap_law.Names.{left_none, right_none}
 use Rattle.limit_law.proofs.Below.event_law.Askers.{other_none}
+use Rattle.rounds_law.specs.Choosing.{IsChosen}
 use Rattle.rounds_law.proofs.Numbered.{AreFrom}
 
 -- COPIES
@@ -159,6 +160,47 @@ module _ (o : Options) (s : Server) (order : IsInOrder s) where
           let drawn : Drawn = record { what = Evict w; generator = g } in
           let same : drawn ≡ d = cc in
           subst (λ (v : Drawn). enabled o s v.what ≡ true) same (due_goes w q)
+
+-- it is one that a driver chooses
+module _ (o : Options) (s : Server) where
+  candidate_chosen : (i : ℕ) (w : What) → candidate s i ≡ Some w → IsChosen o s w
+  candidate_chosen i w e = by (nat_lt i (length s.rest.inbox)) e
+    where
+      second : (x : Option ℕ) → option_map (λ t. Step t) x ≡ Some w → IsChosen o s w
+      second None h = absurd (cc h)
+      second (Some t) h = let same : Step t ≡ w = cc in subst (λ v. IsChosen o s v) same tt
+
+      by : (b : Bool) → (if b then Some (Deliver i) else option_map (λ t. Step t) (slice_get (runnable s) (i - length s.rest.inbox))) ≡ Some w → IsChosen o s w
+      by true h = let same : Deliver i ≡ w = cc in subst (λ v. IsChosen o s v) same tt
+      by false h = second (slice_get (runnable s) (i - length s.rest.inbox)) h
+
+  drawn_chosen : (word : ℕ × Lcg) (n : ℕ) (d : Drawn) → drawn_from s word n ≡ Some d → IsChosen o s d.what
+  drawn_chosen word zero d e = absurd (cc e)
+  drawn_chosen word (suc n) d e = by (candidate s (word.0 % suc n)) refl e
+    where
+      by : (x : Option What) → candidate s (word.0 % suc n) ≡ x → option_map (λ w. record { what = w; generator = word.1 }) x ≡ Some d → IsChosen o s d.what
+      by None q h = absurd (cc h)
+      by (Some w) q h =
+          let drawn : Drawn = record { what = w; generator = word.1 } in
+          let same : drawn ≡ d = cc in
+          subst (λ (v : Drawn). IsChosen o s v.what) same (candidate_chosen (word.0 % suc n) w q)
+
+  due_chosen : (w : ℕ) → due o s ≡ Some w → IsChosen o s (Evict w)
+  due_chosen w e = by (nat_lt o.cache (length s.rest.cache)) refl e
+    where
+      by : (b : Bool) → nat_lt o.cache (length s.rest.cache) ≡ b → (if b then oldest_unused s.rest.cache else None) ≡ Some w → o.cache < length s.rest.cache
+      by true q h = grind (arith, nat_tests, q)
+      by false q h = absurd (cc h)
+
+  pub next_chosen : (g : Lcg) (d : Drawn) → next o s g ≡ Some d → IsChosen o s d.what
+  next_chosen g d e = by (due o s) refl e
+    where
+      by : (x : Option ℕ) → due o s ≡ x → due_or_drawn x s g ≡ Some d → IsChosen o s d.what
+      by None q h = drawn_chosen (pcg32 g) (candidates s) d h
+      by (Some w) q h =
+          let drawn : Drawn = record { what = Evict w; generator = g } in
+          let same : drawn ≡ d = cc in
+          subst (λ (v : Drawn). IsChosen o s v.what) same (due_chosen w q)
 
 -- SOUND CLUSTERS
 

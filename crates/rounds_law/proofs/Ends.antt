@@ -117,6 +117,7 @@ starts_under_way starts code table o is_table within = record {
   ran = start_of code o;
   leads = refl;
   coherent = starts code table o is_table within;
+  chosen = tt;
   same = record { code = refl; options = refl; servers = servers_themselves (start_of code o).servers };
   sent = start_outboxes o;
   generators = generators_as_many o.choice 0 o.servers ∙ sym (main_as_many (empty_servers o 0 o.servers) ∙ servers_as_many o 0 o.servers);

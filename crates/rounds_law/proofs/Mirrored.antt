@@ -1,5 +1,5 @@
 -- An event of a server is one of each server that differs from it in its messages alone, among which the same one waits.
-use Rattle.std.proofs.Common.{◌≡◌, ℕ, true, false, List, [], ◌++◌, Option, Some, None, refl, sym, ap, subst, ◌∙◌, arith, append-nil}
+use Rattle.std.proofs.Common.{◌≡◌, ℕ, ◌<◌, length, true, false, List, [], ◌++◌, Option, Some, None, refl, sym, ap, subst, ◌∙◌, arith, append-nil}
 use Rattle.std.specs.Prelude.{slice_get, remove, option_map}
 use Rattle.std.proofs.lemmas.Bool.Decides.{nat_tests}
 use Rattle.std.proofs.lemmas.Option.{slice_get_within}
@@ -11,8 +11,10 @@ use Rattle.ending_law.specs.Below.server_model.declared.event.What.{What}
 use Rattle.ending_law.specs.Below.server_model.declared.event.What.TheVariants.{Step, Deliver, Evict, Migrate}
 use Rattle.ending_law.specs.Below.server_model.Servers.{Server}
 use Rattle.ending_law.specs.Below.server_model.Work.{then_some}
+use Rattle.ending_law.specs.Below.server_model.Questions.{movable_in}
 use Rattle.ending_law.specs.Below.server_model.Events.{left_by, deliver_message, received, enabled, does}
 use Rattle.rounds_law.specs.Order.{SameItems}
+use Rattle.rounds_law.specs.Choosing.{IsChosen}
 use Rattle.rounds_law.proofs.Items.{taken, in_front, taken_in_front, stands_there}
 use Rattle.rounds_law.proofs.BehindEvents.{server_behind, done_behind, brought, brings, delivers, others}
 
@@ -45,10 +47,12 @@ pub record Mirrored (code : List Instr) (o : Options) (under : List Message) (s 
   pub does_there : does code o z what ≡ option_map (done_behind there z.rest.outbox) made
   pub waiting : SameItems (here ++ under) there
   pub on : enabled o z what ≡ true
+  -- a driver chooses it there too
+  pub chosen : IsChosen o s w → IsChosen o z what
 
 module _ (code : List Instr) (o : Options) (under : List Message) (s z : Server) (same : bare z ≡ bare s) (waiting : SameItems (s.rest.inbox ++ under) z.rest.inbox) where
-  quiet : (w : What) → delivers w ≡ false → enabled o z w ≡ true → Mirrored code o under s z w
-  quiet w e on = record {
+  quiet : (w : What) → delivers w ≡ false → enabled o z w ≡ true → (IsChosen o s w → IsChosen o z w) → Mirrored code o under s z w
+  quiet w e on chosen = record {
     what = w;
     made = does code o (bare s) w;
     here = s.rest.inbox;
@@ -57,6 +61,7 @@ module _ (code : List Instr) (o : Options) (under : List Message) (s z : Server)
     does_there = does_bare code o w z e ∙ ap (λ b. option_map (done_behind z.rest.inbox z.rest.outbox) (does code o b w)) same;
     waiting = waiting;
     on = on;
+    chosen = chosen;
   }
 
   delivering : (i : ℕ) (m : Message) → slice_get s.rest.inbox i ≡ Some m → Mirrored code o under s z (Deliver i)
@@ -71,10 +76,11 @@ module _ (code : List Instr) (o : Options) (under : List Message) (s z : Server)
         does_there = brings_bare code o t.at m z t.item ∙ ap (λ b. option_map (done_behind (remove z.rest.inbox t.at) z.rest.outbox) (brought code m b)) same;
         waiting = subst (λ l. SameItems l (remove z.rest.inbox t.at)) (taken_in_front s.rest.inbox under i m e) t.rest;
         on = (let less = slice_get_within z.rest.inbox t.at m t.item in grind (arith, nat_tests, less));
+        chosen = λ c. c;
       }
 
   pub mirrored : (w : What) → enabled o s w ≡ true → Mirrored code o under s z w
   mirrored (Deliver i) on = let m = stands_there s.rest.inbox i (grind (arith, nat_tests, on)) in delivering i m.0 m.1
-  mirrored (Step t) on = quiet (Step t) refl (ap (λ b. enabled o b (Step t)) same ∙ on)
-  mirrored (Evict w) on = quiet (Evict w) refl (ap (λ b. enabled o b (Evict w)) same ∙ on)
-  mirrored (Migrate t target) on = quiet (Migrate t target) refl (ap (λ b. enabled o b (Migrate t target)) same ∙ on)
+  mirrored (Step t) on = quiet (Step t) refl (ap (λ b. enabled o b (Step t)) same ∙ on) (λ c. c)
+  mirrored (Evict w) on = quiet (Evict w) refl (ap (λ b. enabled o b (Evict w)) same ∙ on) (λ c. subst (λ (b : Server). o.cache < length b.rest.cache) (sym same) c)
+  mirrored (Migrate t target) on = quiet (Migrate t target) refl (ap (λ b. enabled o b (Migrate t target)) same ∙ on) (λ c. subst (λ (b : Server). movable_in b.threads ≡ Some t) (sym same) c)

@@ -11,7 +11,9 @@ use Rattle.ending_law.specs.Below.server_model.Servers.{Sent, Server, Cluster}
 use Rattle.ending_law.specs.Below.server_model.Work.{then_some}
 use Rattle.ending_law.specs.Below.server_model.Clusters.{apply, outboxes}
 use Rattle.drive_model.specs.Rounds.{Round, no_entries, before_round, round_of}
+use Rattle.ending_law.specs.Below.event_law.Laws.{Gives}
 use Rattle.run_law.specs.Runs.{run_of}
+use Rattle.rounds_law.specs.Choosing.{AreChosen}
 use Rattle.rounds_law.proofs.Standing.{Stands, AllStand, cluster}
 use Rattle.rounds_law.proofs.Works.{AreWays, Works, works}
 
@@ -52,6 +54,27 @@ runs_on (v ∷ es) fs k k2 k3 xs ys e f = by (apply k v) (λ c zs q. runs_on es 
         → then_some o (λ d. option_map (entered d.1) (run_of d.0 es)) ≡ Some (k2, xs) → then_some o (λ d. option_map (entered d.1) (run_of d.0 (es ++ fs))) ≡ Some (k3, xs ++ ys)
     by None go g = absurd (cc g)
     by (Some d) go g = later d (run_of d.0 es) refl g (go d.0)
+
+-- those of both are chosen
+pub chosen_on : (es fs : List Event) (k k2 : Cluster) (xs : List EntryView) → run_of k es ≡ Some (k2, xs) → AreChosen es k → AreChosen fs k2 → AreChosen (es ++ fs) k
+chosen_on [] fs k k2 xs e a b =
+    let both : (k, []) ≡ (k2, xs) = cc in
+    let same : k ≡ k2 = ap (λ (p : Cluster × List EntryView). p.0) both in
+    subst (AreChosen fs) (sym same) b
+chosen_on (v ∷ es) fs k k2 xs e a b = (a.0, by (apply k v) (λ c zs q f. chosen_on es fs c k2 zs q f b) e a.1)
+  where
+    later : (d : Cluster × EntryView) (o : Option (Cluster × List EntryView)) → run_of d.0 es ≡ o → option_map (entered d.1) o ≡ Some (k2, xs)
+        → ((zs : List EntryView) → run_of d.0 es ≡ Some (k2, zs) → AreChosen (es ++ fs) d.0) → AreChosen (es ++ fs) d.0
+    later d None q g go = absurd (cc g)
+    later d (Some r) q g go =
+        let both : (r.0, d.1 ∷ r.1) ≡ (k2, xs) = cc in
+        let same : r.0 ≡ k2 = ap (λ (p : Cluster × List EntryView). p.0) both in
+        go r.1 (q ∙ ap (λ c. Some (c, r.1)) same)
+
+    by : (o : Option (Cluster × EntryView)) → ((c : Cluster) (zs : List EntryView) → run_of c es ≡ Some (k2, zs) → AreChosen es c → AreChosen (es ++ fs) c)
+        → then_some o (λ d. option_map (entered d.1) (run_of d.0 es)) ≡ Some (k2, xs) → Gives (λ (d : Cluster × EntryView). AreChosen es d.0) o → Gives (λ (d : Cluster × EntryView). AreChosen (es ++ fs) d.0) o
+    by None go g f = tt
+    by (Some d) go g f = later d (run_of d.0 es) refl g (λ zs q. go d.0 zs q f)
 
 -- as many entries as events
 pub as_many : (es : List Event) (k k2 : Cluster) (xs : List EntryView) → run_of k es ≡ Some (k2, xs) → length xs ≡ length es
@@ -116,6 +139,7 @@ module _ (code : List Instr) (o : Options) (Good : ℕ → List Server → Type 
     pub more : List Sent
     pub sent : outboxes round.servers ≡ more
     pub events : List Event
+    pub chosen : AreChosen events (cluster code o (front ++ back))
     pub before : List Server
     pub after : List Server
     pub runs : run_of (cluster code o (front ++ back)) events ≡ Some (cluster code o (before ++ after), round.entries)
@@ -134,6 +158,7 @@ module _ (code : List Instr) (o : Options) (Good : ℕ → List Server → Type 
         more = [];
         sent = refl;
         events = [];
+        chosen = tt;
         before = front;
         after = [];
         runs = refl;
@@ -166,6 +191,7 @@ module _ (code : List Instr) (o : Options) (Good : ℕ → List Server → Type 
         more = w.more ++ r.more;
         sent = ap (λ l. l ++ outboxes r.round.servers) (w.sent ∙ ap (λ l. l ++ w.more) quiet) ∙ ap (λ l. w.more ++ l) r.sent;
         events = w.events ++ r.events;
+        chosen = chosen_on w.events r.events (cluster code o (front ++ z ∷ back)) (cluster code o ((w.before ++ w.mine ∷ []) ++ w.after)) w.done.entries (w.runs ∙ ap (λ l. Some (cluster code o l, w.done.entries)) (sym joined)) w.chosen r.chosen;
         before = p.front;
         after = p.mine ∷ r.after;
         runs = runs_on w.events r.events (cluster code o (front ++ z ∷ back)) (cluster code o ((w.before ++ w.mine ∷ []) ++ w.after)) (cluster code o (p.front ++ p.mine ∷ r.after)) w.done.entries r.round.entries

@@ -13,6 +13,7 @@ use Rattle.ending_law.specs.Below.server_model.Events.{does}
 use Rattle.ending_law.specs.Below.server_model.Clusters.{with_server, accept_all, with_outbox, hand_over_newer, done_at, apply}
 use Rattle.ending_law.specs.Below.server_model.Laws.{messages_to, with_waiting}
 use Rattle.rounds_law.specs.Order.{SameItems}
+use Rattle.rounds_law.specs.Choosing.{IsChosen}
 use Rattle.rounds_law.proofs.Items.{grown, come_between}
 use Rattle.rounds_law.proofs.BehindEvents.{done_behind}
 use Rattle.rounds_law.proofs.Numbered.{AreFrom, found_there, changed_there, number_kept, all_waiting, waiting_append, to_more, all_come}
@@ -59,6 +60,8 @@ module _ (code : List Instr) (o : Options) where
 
   pub record One (xs : List Sent) (front back : List Server) (s z : Server) (w : What) : Type 0 where
     pub event : Event
+    pub at : event.server ≡ z.rest.number
+    pub chosen : IsChosen o s w → IsChosen o z event.what
     pub new : Server
     pub entry : EntryView
     pub done : does code o s w ≡ Some (new, entry)
@@ -104,6 +107,8 @@ module _ (code : List Instr) (o : Options) where
           ∙ waiting_append more front (kept ∷ back) in
           record {
             event = ev;
+            at = refl;
+            chosen = m.chosen;
             new = new;
             entry = b.1;
             done = here_is;

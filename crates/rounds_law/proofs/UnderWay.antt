@@ -33,7 +33,7 @@ use Rattle.rounds_law.proofs.Numbered.{AreFrom}
 use Rattle.rounds_law.proofs.Mirrored.{bare}
 use Rattle.rounds_law.proofs.Standing.{AllStand, cluster}
 use Rattle.rounds_law.proofs.Works.{AreWays, works}
-use Rattle.rounds_law.proofs.OneRound.{runs_on, as_many, none_behind, split, Rounds, rounds_of}
+use Rattle.rounds_law.proofs.OneRound.{runs_on, chosen_on, as_many, none_behind, split, Rounds, rounds_of}
 use Rattle.rounds_law.proofs.Clusters.{begin, finish, numbered_too, handed, handed_sent, handed_length}
 use Rattle.rounds_law.proofs.Chosen.{IsInOrder, next_enabled, sound_order, sound_numbers}
 
@@ -204,6 +204,7 @@ module _ (l : Laws) (keeps : EachKeepsCoherence) (r : Run) (u : IsUnderWay r) wh
           ran = cluster code o x.after;
           leads = runs_on u.events x.events (start_of code o) (cluster code o zs) (cluster code o x.after) r.journal x.round.entries leads runs;
           coherent = subst (λ b. IsCoherent (cluster code o b)) after x.good.coherent;
+          chosen = chosen_on u.events x.events (start_of code o) (cluster code o zs) r.journal leads u.chosen x.chosen;
           same = record { code = refl; options = refl; servers = subst (λ (c : Cluster). AreSameServers c.servers x.after) (sym over) (finish (outboxes worked) worked x.after stood) };
           sent = subst (λ (c : Cluster). outboxes c.servers ≡ []) (sym over) (handed_sent (outboxes worked) worked);
           generators = x.generators ∙ subst (λ (c : Cluster). length worked ≡ length c.servers) (sym over) (sym (handed_length (outboxes worked) worked));

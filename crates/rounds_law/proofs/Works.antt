@@ -7,18 +7,21 @@ use Rattle.ending_law.specs.Below.fr_base.declared.settings.Options.{Options}
 use Rattle.ending_law.specs.Below.journal.View.{EntryView}
 use Rattle.ending_law.specs.Below.server_model.declared.event.Event.{Event}
 use Rattle.ending_law.specs.Below.server_model.declared.event.What.{What}
-use Rattle.ending_law.specs.Below.server_model.Servers.{Sent, Server, server_at}
+use Rattle.ending_law.specs.Below.server_model.Servers.{Sent, Server, Cluster, server_at}
 use Rattle.ending_law.specs.Below.server_model.Work.{then_some}
 use Rattle.ending_law.specs.Below.server_model.Events.{enabled, does}
 use Rattle.ending_law.specs.Below.server_model.Clusters.{apply}
 use Rattle.ending_law.specs.Below.server_model.Laws.{messages_to}
 use Rattle.drive_model.specs.Choice.{Drawn, next}
 use Rattle.drive_model.specs.Rounds.{Worked, nothing_done, after_entry, work_on, work}
+use Rattle.ending_law.specs.Below.event_law.Laws.{Gives}
 use Rattle.run_law.specs.Runs.{run_of}
+use Rattle.rounds_law.specs.Choosing.{IsChosen, IsChosenIn, AreChosen}
 use Rattle.rounds_law.specs.Working.{HasSmallCounts, goes_where, CanWork}
 use Rattle.rounds_law.proofs.Numbered.{AreFrom, found_there, all_waiting}
 use Rattle.rounds_law.proofs.Mirrored.{bare, mirrored}
 use Rattle.rounds_law.proofs.Standing.{Stands, AllStand, all_stand, cluster, One, one}
+use Rattle.rounds_law.proofs.Chosen.{next_chosen}
 
 -- what is asked of the clusters to which a run comes, after so many events of at most so many
 pub record AreWays (code : List Instr) (o : Options) (Good : ℕ → List Server → Type 0) (most : ℕ) : Type 0 where
@@ -41,6 +44,7 @@ module _ (code : List Instr) (o : Options) (Good : ℕ → List Server → Type 
     pub more : List Sent
     pub sent : done.server.rest.outbox ≡ s.rest.outbox ++ more
     pub events : List Event
+    pub chosen : AreChosen events (cluster code o (front ++ z ∷ back))
     pub before : List Server
     pub mine : Server
     pub after : List Server
@@ -64,6 +68,7 @@ module _ (code : List Instr) (o : Options) (Good : ℕ → List Server → Type 
         more = [];
         sent = sym (append-nil s.rest.outbox);
         events = [];
+        chosen = tt;
         before = front;
         mine = z;
         after = back;
@@ -75,9 +80,9 @@ module _ (code : List Instr) (o : Options) (Good : ℕ → List Server → Type 
       }
 
   -- an event, and then some more
-  goes : (m n : ℕ) (xs : List Sent) (ps ss front back : List Server) (s z : Server) (g : Lcg) (d : Drawn) (x : One code o xs front back s z d.what) → next o s g ≡ Some d → enabled o s d.what ≡ true → HasSmallCounts code s
+  goes : (m n : ℕ) (xs : List Sent) (ps ss front back : List Server) (s z : Server) (g : Lcg) (d : Drawn) (x : One code o xs front back s z d.what) → next o s g ≡ Some d → IsChosenIn (cluster code o (front ++ z ∷ back)) x.event → enabled o s d.what ≡ true → HasSmallCounts code s
       → Works m (suc n) (xs ++ x.more) ps ss (all_waiting x.more front) (all_waiting x.more back) x.new x.mine d.generator → Works (suc m) n xs ps ss front back s z g
-  goes m n xs ps ss front back s z g d x drawn on small r =
+  goes m n xs ps ss front back s z g d x drawn chosen on small r =
       let assoc = append_assoc xs x.more r.more in
       let count : suc n + length r.done.entries ≡ n + suc (length r.done.entries) = omega arith in
       let few = r.few in
@@ -89,6 +94,7 @@ module _ (code : List Instr) (o : Options) (Good : ℕ → List Server → Type 
         more = x.more ++ r.more;
         sent = r.sent ∙ ap (λ l. l ++ r.more) x.sent ∙ append_assoc s.rest.outbox x.more r.more;
         events = x.event ∷ r.events;
+        chosen = (chosen, subst (λ y. Gives (λ (c : Cluster × EntryView). AreChosen r.events c.0) y) (sym x.applied) r.chosen);
         before = r.before;
         mine = r.mine;
         after = r.after;
@@ -116,6 +122,13 @@ module _ (code : List Instr) (o : Options) (Good : ℕ → List Server → Type 
       less : n < most
       less = omega (arith, budget)
 
+      -- it finds that server
+      chosen_there : (v : Event) → v.server ≡ z.rest.number → IsChosen o z v.what → IsChosenIn (cluster code o (front ++ z ∷ back)) v
+      chosen_there v at c y found =
+          let one : Some z ≡ Some y = sym there ∙ ap (λ i. server_at (front ++ z ∷ back) i) (sym at) ∙ found in
+          let same : z ≡ y = cc in
+          subst (λ b. IsChosen o b v.what) same c
+
       event : (w : What) → enabled o s w ≡ true → One code o xs front back s z w
       event w on =
           let mir = mirrored code o (messages_to s.rest.number xs) s z st.same st.waiting w on in
@@ -126,7 +139,7 @@ module _ (code : List Instr) (o : Options) (Good : ℕ → List Server → Type 
       by (Some d) e =
           let on = ways.chosen n (front ++ z ∷ back) z s g d good there st.same e in
           let x = event d.what on in
-          goes m n xs ps ss front back s z g d x e on (ways.small n (front ++ z ∷ back) z s good less there st.same)
+          goes m n xs ps ss front back s z g d x e (chosen_there x.event x.at (x.chosen (next_chosen o s g d e))) on (ways.small n (front ++ z ∷ back) z s good less there st.same)
           (go (suc n) (xs ++ x.more) ps ss (all_waiting x.more front) (all_waiting x.more back) x.new x.mine d.generator (omega (arith, budget))
           (ways.keeps n (front ++ z ∷ back) (all_waiting x.more front ++ x.mine ∷ all_waiting x.more back) x.event x.entry good less x.applied) x.stands (all_stand xs x.more ps front a) (all_stand xs x.more ss back b))
 

@@ -1,3 +1,4 @@
 pub mod Order
+pub mod Choosing
 pub mod Working
 pub mod UnderWay

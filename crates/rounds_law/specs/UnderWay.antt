@@ -19,6 +19,7 @@ use Rattle.ending_law.specs.Below.heap_law.Naming.{options_out}
 use Rattle.start_law.specs.Below.type_law.ClusterTypes.{IsCoherent}
 use Rattle.run_law.specs.Runs.{run_of, EachKeepsCoherence}
 use Rattle.rounds_law.specs.Order.{IsSameCluster}
+use Rattle.rounds_law.specs.Choosing.{AreChosen}
 use Rattle.rounds_law.specs.Working.{HasSmallCounts, CanWork}
 
 -- a run in rounds, from the start of its code on, between two rounds
@@ -28,6 +29,8 @@ pub record IsUnderWay (r : Run) : Type 0 where
   pub ran : Cluster
   pub leads : run_of (start_of r.cluster.code r.cluster.options) events ≡ Some (ran, r.journal)
   pub coherent : IsCoherent ran
+  -- each is one that a driver chooses
+  pub chosen : AreChosen events (start_of r.cluster.code r.cluster.options)
   -- the run's own is the same but for the order in which messages wait
   pub same : IsSameCluster r.cluster ran
   pub sent : outboxes r.cluster.servers ≡ []
