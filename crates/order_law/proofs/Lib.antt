@@ -1,0 +1,5 @@
+pub mod Births
+pub mod Total
+pub mod Orders
+pub mod Blocks
+pub mod Trees
