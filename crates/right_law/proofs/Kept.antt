@@ -3,12 +3,12 @@ use Rattle.std.proofs.Common.{◌≡◌, ℕ, zero, suc, ◌+◌, ◌≤◌, len
 use Rattle.std.specs.Prelude.{if◌then◌else◌, option_map}
 use Rattle.table_law.specs.Below.fr_base.declared.instruction.Instr.{Instr}
 use Rattle.table_law.specs.Below.fr_base.declared.settings.Options.{Options}
-use Rattle.coherence_law.specs.Below.journal.View.{EntryView}
-use Rattle.coherence_law.specs.Below.server_model.declared.event.Event.{Event}
-use Rattle.coherence_law.specs.Below.server_model.declared.event.What.TheVariants.{Migrate}
-use Rattle.coherence_law.specs.Below.server_model.Servers.{Server, Cluster, server_at}
-use Rattle.coherence_law.specs.Below.server_model.Work.{then_some}
-use Rattle.coherence_law.specs.Below.server_model.Clusters.{apply, hand_over_newer, done_at}
+use Rattle.lead_law.specs.Below.whole_law.Below.journal.View.{EntryView}
+use Rattle.lead_law.specs.Below.whole_law.Below.server_model.declared.event.Event.{Event}
+use Rattle.lead_law.specs.Below.whole_law.Below.server_model.declared.event.What.TheVariants.{Migrate}
+use Rattle.lead_law.specs.Below.whole_law.Below.server_model.Servers.{Server, Cluster, server_at}
+use Rattle.lead_law.specs.Below.whole_law.Below.server_model.Work.{then_some}
+use Rattle.lead_law.specs.Below.whole_law.Below.server_model.Clusters.{apply, hand_over_newer, done_at}
 use Rattle.drive_model.specs.Balance.{Shift, loads, balance}
 use Rattle.drive_model.specs.Rounds.{Run, Round, round_of, events_left, after_round, round, shifted, is_balanced, balanced, is_done, rounds_from, rounds, run_start}
 use Rattle.drive_model.specs.Laws.{JournalsBounded}

@@ -15,20 +15,24 @@ use Rattle.table_law.proofs.Generations.{its_code}
 use Rattle.table_law.proofs.SourceTerms.{resolve_source}
 use Rattle.table_law.specs.Tables.{ProgramsHaveTables}
 use Rattle.table_law.specs.Below.fr_code.CodeTable.{IsTable}
-use Rattle.coherence_law.specs.Below.journal.View.{EntryView}
-use Rattle.coherence_law.specs.Below.server_model.declared.event.Event.{Event}
-use Rattle.coherence_law.specs.Below.server_model.Servers.{Cluster, start_of}
-use Rattle.coherence_law.specs.Below.server_model.Clusters.{apply}
+use Rattle.lead_law.specs.Below.whole_law.Below.journal.View.{EntryView}
+use Rattle.lead_law.specs.Below.whole_law.Below.server_model.declared.event.Event.{Event}
+use Rattle.lead_law.specs.Below.whole_law.Below.server_model.Servers.{Cluster, start_of}
+use Rattle.lead_law.specs.Below.whole_law.Below.server_model.Clusters.{apply}
 use Rattle.drive_model.specs.Ending.{ending as ending_of, is_going}
 use Rattle.drive_model.specs.Laws.{JournalsBounded}
 use Rattle.drive_model.specs.Rounds.{Run, events_left, is_done}
-use Rattle.coherence_law.specs.Below.heap_law.Naming.{options_out}
-use Rattle.coherence_law.specs.Below.heap_law.Names.{other}
-use Rattle.coherence_law.specs.Below.event_law.Laws.{Gives}
-use Rattle.coherence_law.proofs.Below.event_law.Results.{given_by, then_gives, over_gives}
-use Rattle.run_law.specs.Runs.{run_of, EachKeepsCoherence}
-use Rattle.rounds_law.specs.UnderWay.{IsUnderWay, HasEnded, RoundsEnd, EndsAreExact}
-use Rattle.whole_law.specs.Programs.{Given, RunsRight, ProgramsRunRight}
+use Rattle.lead_law.specs.Below.whole_law.Below.heap_law.Naming.{options_out}
+use Rattle.lead_law.specs.Below.whole_law.Below.heap_law.Names.{other}
+use Rattle.lead_law.specs.Below.whole_law.Below.event_law.Laws.{Gives}
+use Rattle.lead_law.proofs.Below.whole_law.Below.event_law.Results.{given_by, then_gives, over_gives}
+use Rattle.lead_law.specs.Below.run_law.Runs.{run_of, EachKeepsCoherence, EachEventIsRight}
+use Rattle.driven_law.specs.Below.rounds_law.UnderWay.{IsUnderWay, HasEnded, RoundsEnd, EndsAreExact}
+use Rattle.lead_law.specs.Below.whole_law.Programs.{Given, RunsRight, ProgramsRunRight}
+use Rattle.lead_law.specs.Below.code_meaning.LeftByItsCode.{LeftByItsCode}
+use Rattle.lead_law.specs.Below.coloured_heap.Driven.{is_driven}
+use Rattle.lead_law.specs.Leads.{EachProgramIsLeft}
+use Rattle.driven_law.specs.Driving.{RunsInRoundsAreDriven}
 use Rattle.right_law.specs.Right.{IsRight, RunsInRoundsAreRight}
 use Rattle.right_law.proofs.Kept.{Keeps, rounds_keep}
 
@@ -90,7 +94,7 @@ Led = Cluster × List EntryView
 last_turn : (r : Run) → is_done r ≡ true → is_going (ending_of r.cluster) ≡ true → events_left r ≡ 0
 last_turn r done going = eqb-true (events_left r) 0 (sym (ap (λ b. not b || events_left r == 0) going) ∙ done)
 
-module _ (bounded : JournalsBounded) (keeps : EachKeepsCoherence) (tables : ProgramsHaveTables) (ends : RoundsEnd) (exact : EndsAreExact) (rights : ProgramsRunRight) where
+module _ (bounded : JournalsBounded) (keeps : EachKeepsCoherence) (tables : ProgramsHaveTables) (ends : RoundsEnd) (exact : EndsAreExact) (rights : ProgramsRunRight) (events : EachEventIsRight) (lefts : EachProgramIsLeft) (drives : RunsInRoundsAreDriven) where
   -- a run in rounds that has ended, of a given program
   by_end : (t : Term) (o : Options) (code : List Instr) (run : Run) (g : IsGiven t code o) (e : HasEnded (Some run)) → e.run ≡ run → Keeps code o run → options_out o ≡ 0 → IsRight t o run.cluster run.journal
   by_end t o code run g e same kept within =
@@ -107,6 +111,8 @@ module _ (bounded : JournalsBounded) (keeps : EachKeepsCoherence) (tables : Prog
         led = u.ran;
         same = u.same;
         right = given_by (RunsRight g.given) (run_of (start_of g.given.code g.given.options) u.events) (u.ran, run.journal) (rights g.given u.events few) led;
+        left = given_by (λ (d : Led). LeftByItsCode d.0 d.1) (run_of (start_of g.given.code g.given.options) u.events) (u.ran, run.journal) (lefts g.given u.events (omega (arith, few))) led;
+        driven = ap (λ (q : Options). is_driven q run.journal) (sym kept.options) ∙ drives events run u;
         exact = λ over. exact run u over;
         turns = λ going.
             let none = last_turn run done going in

@@ -10,13 +10,15 @@ use Rattle.table_law.specs.Below.fr_typing.Typing.{Types}
 use Rattle.table_law.specs.Below.fr_plain.Resolve.{program}
 use Rattle.table_law.specs.Bare.{bare}
 use Rattle.table_law.specs.CodeOf.{code_of}
-use Rattle.coherence_law.specs.Below.journal.View.{EntryView}
-use Rattle.coherence_law.specs.Below.server_model.Servers.{Cluster}
+use Rattle.lead_law.specs.Below.whole_law.Below.journal.View.{EntryView}
+use Rattle.lead_law.specs.Below.whole_law.Below.server_model.Servers.{Cluster}
 use Rattle.drive_model.specs.Ending.{ending, is_going}
 use Rattle.drive_model.specs.Rounds.{Run, rounds}
-use Rattle.coherence_law.specs.Below.heap_law.Naming.{options_out}
-use Rattle.rounds_law.specs.Order.{IsSameCluster}
-use Rattle.whole_law.specs.Programs.{Given, RunsRight}
+use Rattle.lead_law.specs.Below.whole_law.Below.heap_law.Naming.{options_out}
+use Rattle.driven_law.specs.Below.rounds_law.Order.{IsSameCluster}
+use Rattle.lead_law.specs.Below.whole_law.Programs.{Given, RunsRight}
+use Rattle.lead_law.specs.Below.code_meaning.LeftByItsCode.{LeftByItsCode}
+use Rattle.lead_law.specs.Below.coloured_heap.Driven.{is_driven}
 
 -- a cluster and the journal that led there are those of a right run of this program under these options
 pub record IsRight (t : Term) (o : Options) (k : Cluster) (es : List EntryView) : Type 0 where
@@ -31,6 +33,11 @@ pub record IsRight (t : Term) (o : Options) (k : Cluster) (es : List EntryView) 
   -- order, with the journal's labels and prints; the messages that wait and those that were delivered are together as many as the journal's
   -- acts send; and where it is finished nothing is left
   pub right : RunsRight given (led, es)
+  -- and it is what the journal leaves: the journal is legal, each of its entries reaches what it loads and stores, and the words, owners, copies,
+  -- messages and events that it leaves are the cluster's
+  pub left : LeftByItsCode led es
+  -- the journal is one that a driver can leave: each copy that is evicted was too many, and between two moves of a thread it does a plain step
+  pub driven : is_driven o es ≡ true
   -- where the run has come to an end, they lead to this very cluster
   pub exact : is_going (ending k) ≡ false → led ≡ k
   -- and else it has as many events as it may
