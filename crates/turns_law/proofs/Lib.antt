@@ -1,0 +1,3 @@
+pub mod Entries
+pub mod Few
+pub mod Rounds
