@@ -34,9 +34,9 @@ use thread_state::{Phase, Thread};
 pub struct Server {
     code: Arc<Code>,
     options: Options,
-    // without acts and labels between two events
-    work: Work,
-    threads: Threads,
+    // without acts and labels between two events; in boxes, so that a server that is moved is small
+    work: Box<Work>,
+    threads: Box<Threads>,
     // for the slots of new threads
     spares: Spares,
     // how many events it has done
@@ -53,20 +53,20 @@ impl Model for Server {
 
     ghost view = { λ s. record {
       state = record {
-        rest = s.work.state.rest;
-        threads = states s.threads;
+        rest = s.work.value.state.rest;
+        threads = states s.threads.value;
         events = s.events;
       };
       code = (arc_value s.code).items;
       options = s.options;
-      inbox_room = s.work.inbox_room;
-      room = s.work.room;
-      copies = s.work.copies;
-      places = s.threads;
+      inbox_room = s.work.value.inbox_room;
+      room = s.work.value.room;
+      copies = s.work.value.copies;
+      places = s.threads.value;
       spares = s.spares;
     } };
 
-    ghost invariant = { λ s. (s.work.state.acts ≡ []) × (s.work.state.labels ≡ []) × (0 < s.options.servers) };
+    ghost invariant = { λ s. (s.work.value.state.acts ≡ []) × (s.work.value.state.labels ≡ []) × (0 < s.options.servers) };
 }
 
 // The threads of a server at the start: the main thread at server 0.
@@ -109,8 +109,8 @@ impl Server {
         Ok(Server {
             code: code.clone()?,
             options: *options,
-            work: Work::new(alloc, server, options),
-            threads: first_threads(alloc, server)?,
+            work: Box::new(alloc, Work::new(alloc, server, options))?,
+            threads: Box::new(alloc, first_threads(alloc, server)?)?,
             spares: Spares::new(alloc),
             events: 0,
         })
@@ -122,18 +122,18 @@ impl Server {
     pub fn enabled(&self, what: What) -> bool
         ensures { result ≡ enabled self.now.options self.now.state what }
     {
+        let work: &Work = &self.work;
         match &what {
             What::Step(thread) => match self.threads.get(*thread) {
                 Some(thread) => can_step(thread),
                 None => false,
             },
-            What::Deliver(at) => *at < self.work.inbox.len(),
-            What::Evict(word) => self.work.cache.hit(*word).is_some()
-                && self.work.cache.users(*word) == 0,
+            What::Deliver(at) => *at < work.inbox.len(),
+            What::Evict(word) => work.cache.hit(*word).is_some() && work.cache.users(*word) == 0,
             What::Migrate(thread, target) => match self.threads.get(*thread) {
                 Some(thread) => is_ready(thread)
                     && *target < self.options.servers
-                    && *target != self.work.number,
+                    && *target != work.number,
                 None => false,
             },
         }
@@ -178,29 +178,31 @@ impl Server {
     {
         let events = self.events;
         self.events += 1;
+        let work: &mut Work = &mut self.work;
+        let threads: &mut Threads = &mut self.threads;
         match what {
             What::Step(thread) => {
                 let done = step_at(
-                    &mut self.work,
-                    &mut self.threads,
+                    work,
+                    threads,
                     &mut self.spares,
                     &self.code,
                     self.options.servers,
                     thread,
                 );
-                self.work.entry(Some(thread), done)
+                work.entry(Some(thread), done)
             }
             What::Deliver(at) => {
-                deliver(&mut self.work, &mut self.threads, &self.code, at, events);
-                self.work.entry(None, None)
+                deliver(work, threads, &self.code, at, events);
+                work.entry(None, None)
             }
             What::Evict(word) => {
-                evict_at(&mut self.work, &self.threads, word, events);
-                self.work.entry(None, None)
+                evict_at(work, threads, word, events);
+                work.entry(None, None)
             }
             What::Migrate(thread, target) => {
-                migrate_at(&mut self.work, &mut self.threads, thread, target, events);
-                self.work.entry(Some(thread), None)
+                migrate_at(work, threads, thread, target, events);
+                work.entry(Some(thread), None)
             }
         }
     }
@@ -212,10 +214,11 @@ impl Server {
         ensures kept { (self.new.code ≡ self.old.code) × (self.new.options ≡ self.old.options) }
         ensures room { self.new.inbox_room ≡ self.old.inbox_room }
     {
-        if self.work.outbox.len() == 0 {
+        let work: &mut Work = &mut self.work;
+        if work.outbox.len() == 0 {
             return None;
         }
-        Some(self.work.outbox.take(0))
+        Some(work.outbox.take(0))
     }
 
     /// Puts a message last in the list of waiting ones; where memory is wanting, it comes back and nothing changes.
@@ -246,14 +249,16 @@ impl Server {
     pub fn waiting(&self) -> usize
         ensures { result ≡ length self.now.state.rest.inbox }
     {
-        self.work.inbox.len()
+        let work: &Work = &self.work;
+        work.inbox.len()
     }
 
     /// The message that waits at that place, from 0, the oldest first; `None` exactly past the end.
     pub fn message(&self, at: usize) -> Option<&Message>
         ensures { option_map (λ m. m.now) result ≡ slice_get self.now.state.rest.inbox at }
     {
-        self.work.inbox.at(at)
+        let work: &Work = &self.work;
+        work.inbox.at(at)
     }
 
     /// The oldest cached word that nobody uses, exactly where the cache holds more words than the options keep; else `None`. Its eviction is
@@ -262,8 +267,9 @@ impl Server {
         ensures word { result ≡ due self.now.options self.now.state }
         ensures enabled { IfSome result (λ word. enabled self.now.options self.now.state (Evict word) ≡ true) }
     {
-        if self.work.cache.len() > self.options.cache as usize {
-            self.work.cache.oldest_unused()
+        let work: &Work = &self.work;
+        if work.cache.len() > self.options.cache as usize {
+            work.cache.oldest_unused()
         } else {
             None
         }
@@ -304,7 +310,8 @@ impl Server {
     pub fn retired(&self) -> u64
         ensures { result ≡ self.now.state.rest.partition.retired }
     {
-        self.work.partition.retired()
+        let work: &Work = &self.work;
+        work.partition.retired()
     }
 
     /// How many events the server has done.
@@ -325,7 +332,8 @@ impl Server {
     pub fn sending(&self) -> usize
         ensures { result ≡ length self.now.state.rest.outbox }
     {
-        self.work.outbox.len()
+        let work: &Work = &self.work;
+        work.outbox.len()
     }
 
     /// The thread at that place, from 0, among those here that wait at a lock, a join or a pair, by rising number, with what it waits
