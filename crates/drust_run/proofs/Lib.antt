@@ -1,3 +1,4 @@
+mod Crosses
 mod EventLemmas
 mod WorkLemmas
 mod RoundLemmas

@@ -1,7 +1,9 @@
 -- A round: what the servers do one after another is the definition's.
-use Rattle.std.proofs.Common.{◌≡◌, ℕ, suc, ◌+◌, ◌-◌, ◌≤◌, ◌<◌, List, [], ◌∷◌, ◌++◌, length, Some, refl, sym, ap, subst, ◌∙◌, arith}
+use Rattle.std.proofs.Common.{◌≡◌, ℕ, zero, suc, ◌+◌, ◌-◌, ◌*◌, ◌≤◌, ◌<◌, List, [], ◌∷◌, ◌++◌, length, Some, refl, sym, ap, subst, ◌∙◌, arith}
 use Rattle.std.specs.Prelude.{⊤, ◌^◌, min, option_map, slice_index_or}
 use Rattle.std.specs.List.{AllByRecursion}
+use Rattle.std.proofs.Math.ListN.{take}
+use Rattle.std.proofs.Math.Seq.{take-append_seam}
 use Rattle.std.proofs.Math.Nat.{min-le_left, min-le_right, le-min, min-eq_left}
 use Rattle.rand_pcg.specs.Lcg.{Lcg}
 use Rattle.fr_base.specs.declared.instruction.Instr.{Instr}
@@ -13,7 +15,7 @@ use Rattle.server_model.specs.Work.{then_some}
 use Rattle.drive_model.specs.Rounds.{work, before_round, round_of}
 use Rattle.cluster_core.specs.Views.{states, AllKeep, AreNumbered, events_in}
 use Rattle.rounds_law.specs.Working.{CanWork}
-use Rattle.drust_run.specs.Desks.{Works, AreReady, WorkInOrder, WorkEach, done_at, servers_at, choices_at, entries_at, AreFresh, NoneLacks}
+use Rattle.drust_run.specs.Desks.{IsReady, EachIsReady, Works, AreReady, WorkInOrder, WorkEach, done_at, servers_at, choices_at, entries_at, AreFresh, NoneLacks}
 use Rattle.drust_run.specs.declared.desk.Desk.{Desk}
 use Rattle.drust_run.proofs.WorkLemmas.{works_keep, can_fewer}
 
@@ -101,6 +103,24 @@ abbrev pub for_each : ℕ → List Desk → ℕ
 for_each quantum [] = 0
 for_each quantum (d ∷ ds) = quantum + for_each quantum ds
 
+-- they are their number of quanta
+pub for_each_is : (quantum : ℕ) (ds : List Desk) → for_each quantum ds ≡ length ds * quantum
+for_each_is quantum [] = omega arith
+for_each_is quantum (d ∷ ds) = let rest = for_each_is quantum ds in omega (arith, rest)
+
+-- where a quantum is left for each, each is ready for a quantum
+pub each_ready : (quantum left : ℕ) (ds : List Desk) → for_each quantum ds ≤ left → AreReady quantum left ds → EachIsReady quantum ds
+each_ready quantum left [] enough r = tt
+each_ready quantum left (d ∷ ds) enough r =
+    let whole : min quantum left ≡ quantum = min-eq_left (omega (arith, enough)) in
+    (subst (λ n. IsReady n d) whole r.0, each_ready quantum left ds (omega (arith, enough)) r.1)
+
+-- so it is at its place
+pub ready_here : (n : ℕ) (ds : List Desk) (i : ℕ) (d : Desk) → i < length ds → EachIsReady n ds → IsReady n (slice_index_or ds i d)
+ready_here n [] i d below r = absurd (let bad : 1 ≤ 0 = omega (arith, below) in omega (arith, bad))
+ready_here n (x ∷ ds) zero d below r = r.0
+ready_here n (x ∷ ds) (suc i) d below r = ready_here n ds i d (omega (arith, below)) r.1
+
 -- where a quantum is left for each, each does a quantum whichever comes first
 pub each_in_order : (quantum left : ℕ) (ds es : List Desk) → for_each quantum ds ≤ left → WorkEach quantum ds es → NoneLacks es → WorkInOrder quantum left ds es
 each_in_order quantum left [] [] enough works none = tt
@@ -118,3 +138,7 @@ each_at n [] [] long at = tt
 each_at n [] (e ∷ es) long at = absurd (let bad : 1 ≤ 0 = omega (arith, long) in omega (arith, bad))
 each_at n (d ∷ ds) [] long at = absurd (let bad : 1 ≤ 0 = omega (arith, long) in omega (arith, bad))
 each_at n (d ∷ ds) (e ∷ es) long at = (at 0 d (omega arith), each_at n ds es (omega (arith, long)) (λ i x within. at (suc i) x (omega (arith, within))))
+
+-- a list that is written back whole
+pub written_back : {X : Type 0} (n : ℕ) (xs rest : List X) → length xs ≡ n → take n (xs ++ rest) ≡ xs
+written_back n xs rest long = subst (λ k. take k (xs ++ rest) ≡ xs) long (take-append_seam xs rest)

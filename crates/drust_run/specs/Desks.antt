@@ -34,6 +34,11 @@ WorkInOrder quantum left [] [] = ⊤
 WorkInOrder quantum left (d ∷ ds) (e ∷ es) = Works (min quantum left) d e × WorkInOrder quantum (left - length e.entries.items) ds es
 WorkInOrder quantum left ds es = ⊥
 
+-- each can do so many
+abbrev pub EachIsReady : ℕ → List Desk → Type 0
+EachIsReady n [] = ⊤
+EachIsReady n (d ∷ ds) = IsReady n d × EachIsReady n ds
+
 -- each at most so many
 abbrev pub WorkEach : ℕ → List Desk → List Desk → Type 0
 WorkEach n [] [] = ⊤

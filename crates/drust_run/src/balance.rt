@@ -80,6 +80,7 @@ fn shift(alloc: Global, drive: Drive, number: u64) -> Result<Drive, NoMemory>
         cluster,
         choices,
         mut journal,
+        beside,
     } = drive;
     let (checked, mut servers) = cluster.into_servers();
     let loads = loads_of(alloc, &servers)?;
@@ -88,6 +89,7 @@ fn shift(alloc: Global, drive: Drive, number: u64) -> Result<Drive, NoMemory>
             cluster: Cluster::from_servers(checked, servers),
             choices,
             journal,
+            beside,
         });
     };
     journal.push(act_at(&mut servers, source, &what)?)?;
@@ -97,6 +99,7 @@ fn shift(alloc: Global, drive: Drive, number: u64) -> Result<Drive, NoMemory>
         cluster,
         choices,
         journal,
+        beside,
     })
 }
 

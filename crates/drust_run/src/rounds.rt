@@ -21,8 +21,7 @@ use crate::drive::Drive;
 use crate::ran::Ran;
 use crate::round::round;
 use borrow_check::Checked;
-use cluster_core::Cluster;
-use coherence_law::events_keep_coherence;
+use cluster_core::{Cluster, events_keep_coherence};
 use controller::Choice;
 use drust_io::Gate;
 use fr_base::{Ending, Ending3, NoMemory, Options};
@@ -43,7 +42,7 @@ fn choices_of(alloc: Global, options: &Options) -> Result<Vec<Choice>, NoMemory>
     Ok(choices)
 }
 
-// The start of a run.
+// The start of a run. What there is to do isn't known yet, so its first round has all workers.
 fn start(alloc: Global, checked: &Arc<Checked>, options: &Options) -> Result<Drive, NoMemory>
     requires options { options_out options.now ≡ 0 }
     ensures code { IfOk result (λ d. bare d.cluster.state.code ≡ code_of (program (term_of (arc_value checked.now).arena))) }
@@ -57,6 +56,7 @@ fn start(alloc: Global, checked: &Arc<Checked>, options: &Options) -> Result<Dri
         cluster: Cluster::new(alloc, checked, options)?,
         choices: choices_of(alloc, options)?,
         journal: Journal::new(alloc),
+        beside: u64::MAX,
     })
 }
 
@@ -79,7 +79,13 @@ fn ended(ending: Ending3) -> Ending
 }
 
 // Round after round, from the first one on, until the run is done.
-fn drive_on<G: Gate>(alloc: Global, start: Drive, turns: u64, gate: &G) -> Result<Drive, NoMemory>
+fn drive_on<G: Gate + Sync, R: Threads + Sync>(
+    rt: &R,
+    alloc: Global,
+    start: Drive,
+    turns: u64,
+    gate: &G,
+) -> Result<Drive, NoMemory>
     requires each { EachKeepsCoherence }
     requires way { IsUnderWay (run_of start) }
     requires counted { events_in start.cluster.state.servers ≡ length start.journal.items }
@@ -94,7 +100,7 @@ fn drive_on<G: Gate>(alloc: Global, start: Drive, turns: u64, gate: &G) -> Resul
         if is_done(&drive) {
             return Ok(drive);
         }
-        drive = round(alloc, drive, gate)?;
+        drive = round(rt, alloc, drive, gate)?;
         drive = even_out(alloc, drive, before + 1)?;
     }
     Ok(drive)
@@ -103,7 +109,7 @@ fn drive_on<G: Gate>(alloc: Global, start: Drive, turns: u64, gate: &G) -> Resul
 /// Runs a checked program in rounds, under options in their ranges. What it leaves is the definition's run of the program's code, whatever the number of
 /// workers is. Want of memory is the only refusal. It takes time in the number of events, beside that of the servers in each round.
 pub fn run_rounds<G: Gate + Sync, R: Threads + Sync>(
-    _rt: &R,
+    rt: &R,
     alloc: Global,
     checked: &Arc<Checked>,
     options: &Options,
@@ -118,7 +124,7 @@ pub fn run_rounds<G: Gate + Sync, R: Threads + Sync>(
 {
     events_keep_coherence();
     let start = start(alloc, checked, options)?;
-    let last = drive_on(alloc, start, options.turns, gate)?;
+    let last = drive_on(rt, alloc, start, options.turns, gate)?;
     let ending = ended(last.cluster.ending());
     let Drive {
         cluster,

@@ -24,7 +24,7 @@ pub(crate) fn seat(
     ensures choices { IfOk result (λ ds. choices_at ds.items ≡ choices.items) }
     ensures fresh { IfOk result (λ ds. AreFresh ds.items) }
 {
-    let mut desks = Vec::new(alloc);
+    let mut desks = Vec::with_capacity(alloc, servers.len())?;
     let mut choices = choices.into_iter();
     'servers: for server in servers {
         let Some(choice) = choices.next() else {
@@ -73,8 +73,8 @@ pub(crate) fn rise(
     ensures choices { IfOk result (λ r. r.1.items ≡ choices_at desks.items) }
     ensures journal { OnOk result (journal.new.items ≡ journal.old.items ++ entries_at desks.items) }
 {
-    let mut servers = Vec::new(alloc);
-    let mut choices = Vec::new(alloc);
+    let mut servers = Vec::with_capacity(alloc, desks.len())?;
+    let mut choices = Vec::with_capacity(alloc, desks.len())?;
     'desks: for desk in desks {
         let Desk {
             server,

@@ -8,12 +8,14 @@ ghost use Rattle.rounds_law.specs.Working.{CanWork};
 ghost use Rattle.drust_run.specs.Desks.{IsReady, Works};
 
 use crate::desk::Desk;
+use crate::fitted::fitted;
 use controller::{Choice, next};
 use drust_io::Gate;
 use fr_base::NoMemory;
 use journal::Entry;
 use server_core::Server;
 use server_model::What;
+use std::alloc::Global;
 
 // Room for an event, and then it is done.
 pub(crate) fn act(server: &mut Server, what: &What) -> Result<Entry, NoMemory>
@@ -40,11 +42,12 @@ fn quantum(
     ensures worked { OnOk result (work server.old.code server.old.options most server.old.state choice.old ≡ Some (record { server = server.new.state; generator = choice.new; entries = entries.new.items })) }
     ensures kept { (server.new.code ≡ server.old.code) × (server.new.options ≡ server.old.options) }
 {
+    let alloc: Global = *entries.allocator();
     'events: for _ in 0..most {
         let Some(what) = next(server, choice) else {
             return Ok(());
         };
-        entries.push(act(server, &what)?)?;
+        entries.push(fitted(alloc, act(server, &what)?)?)?;
     }
     Ok(())
 }

@@ -15,8 +15,8 @@ seat-requires-clause-as_many g c =
     let vs = c.into_servers-checked.result.1.items in
     c.requires.way.generators ∙ ap (λ (k : Cluster). length k.servers) (sym c.into_servers-checked.ensures.servers) ∙ states_long vs
 
-pub in_order-requires : goal.in_order-requires
-in_order-requires g c =
+pub at_work-requires-clause-ready : goal.at_work-requires-clause-ready
+at_work-requires-clause-ready g c κs within =
     let r = run_of c.args.drive in
     let vs = c.into_servers-checked.result.1.items in
     let ds = c.in_ok-seated.seated.items in
@@ -28,11 +28,8 @@ in_order-requires g c =
     let options : c.options-options.result.now ≡ options_in (servers_at ds) =
     c.options-options.ensures ∙ ap (λ (k : Cluster). k.options) (sym c.into_servers-checked.ensures.servers) ∙ ap options_in (sym c.in_ok-seated.ensures.servers) in
     let long : c.len.result ≡ length journal = c.len.ensures in
-    record {
-      ready =
-          same_ready c.options-options.result.now (options_in (servers_at ds)) c.len.result (length journal) ds ds options long refl
-          (ready_at p ds journal c.requires.each c.rounds_go_on.ensures.servers way are c.in_ok-seated.ensures.fresh);
-    }
+    same_ready c.options-options.result.now (options_in (servers_at ds)) c.len.result (length journal) ds ds options long refl
+    (ready_at p ds journal c.requires.each c.rounds_go_on.ensures.servers way are c.in_ok-seated.ensures.fresh)
 
 pub rise-requires : goal.rise-requires
 rise-requires g c =
@@ -51,7 +48,7 @@ rise-requires g c =
     let none : NoneLacks ws = subst NoneLacks c.deref.ensures.value (c.none_lacks.ensures c.if-not-none_lacks.false) in
     let counted : events_in (states (servers_at ds)) ≡ length journal =
     ap (λ l. events_in (states l)) c.in_ok-seated.ensures.servers ∙ ap (λ (k : Cluster). events_in k.servers) c.into_servers-checked.ensures.servers ∙ c.requires.counted in
-    let works = same_works c.options-options.result.now (options_in (servers_at ds)) c.len.result (length journal) ds ds ws options long refl c.in_ok-desks.ensures in
+    let works = same_works c.options-options.result.now (options_in (servers_at ds)) c.len.result (length journal) ds ds ws options long refl (c.in_ok-desks.ensures none) in
     let worked : HasWorked p ds ws journal = has_worked p ds ws journal way are counted works none in
     record { names = worked.names }
 
@@ -72,7 +69,7 @@ from_servers-cluster-requires-clause-run g c =
     let none : NoneLacks ws = subst NoneLacks c.deref.ensures.value (c.none_lacks.ensures c.if-not-none_lacks.false) in
     let counted : events_in (states (servers_at ds)) ≡ length journal =
     ap (λ l. events_in (states l)) c.in_ok-seated.ensures.servers ∙ ap (λ (k : Cluster). events_in k.servers) c.into_servers-checked.ensures.servers ∙ c.requires.counted in
-    let works = same_works c.options-options.result.now (options_in (servers_at ds)) c.len.result (length journal) ds ds ws options long refl c.in_ok-desks.ensures in
+    let works = same_works c.options-options.result.now (options_in (servers_at ds)) c.len.result (length journal) ds ds ws options long refl (c.in_ok-desks.ensures none) in
     let worked : HasWorked p ds ws journal = has_worked p ds ws journal way are counted works none in
     subst (AreServersOf p) (sym c.in_ok-servers.ensures.servers) worked.run
 
@@ -93,7 +90,7 @@ from_servers-cluster-requires-clause-few g c =
     let none : NoneLacks ws = subst NoneLacks c.deref.ensures.value (c.none_lacks.ensures c.if-not-none_lacks.false) in
     let counted : events_in (states (servers_at ds)) ≡ length journal =
     ap (λ l. events_in (states l)) c.in_ok-seated.ensures.servers ∙ ap (λ (k : Cluster). events_in k.servers) c.into_servers-checked.ensures.servers ∙ c.requires.counted in
-    let works = same_works c.options-options.result.now (options_in (servers_at ds)) c.len.result (length journal) ds ds ws options long refl c.in_ok-desks.ensures in
+    let works = same_works c.options-options.result.now (options_in (servers_at ds)) c.len.result (length journal) ds ds ws options long refl (c.in_ok-desks.ensures none) in
     let worked : HasWorked p ds ws journal = has_worked p ds ws journal way are counted works none in
     subst (λ l. events_in (states l) ≤ 1000000000) (sym c.in_ok-servers.ensures.servers) worked.few
 
@@ -114,7 +111,7 @@ returns-clause-round g c =
     let none : NoneLacks ws = subst NoneLacks c.deref.ensures.value (c.none_lacks.ensures c.if-not-none_lacks.false) in
     let counted : events_in (states (servers_at ds)) ≡ length journal =
     ap (λ l. events_in (states l)) c.in_ok-seated.ensures.servers ∙ ap (λ (k : Cluster). events_in k.servers) c.into_servers-checked.ensures.servers ∙ c.requires.counted in
-    let works = same_works c.options-options.result.now (options_in (servers_at ds)) c.len.result (length journal) ds ds ws options long refl c.in_ok-desks.ensures in
+    let works = same_works c.options-options.result.now (options_in (servers_at ds)) c.len.result (length journal) ds ds ws options long refl (c.in_ok-desks.ensures none) in
     let worked : HasWorked p ds ws journal = has_worked p ds ws journal way are counted works none in
     let state : c.hand_over.new.self.state ≡ hand_over (cluster_of (servers_at ws)) =
     c.in_ok-hand_over.ensures.handed ∙ ap hand_over c.from_servers-cluster.ensures.state ∙ ap (λ l. hand_over (cluster_of l)) c.in_ok-servers.ensures.servers in
@@ -137,7 +134,7 @@ returns-clause-counted g c =
     let none : NoneLacks ws = subst NoneLacks c.deref.ensures.value (c.none_lacks.ensures c.if-not-none_lacks.false) in
     let counted : events_in (states (servers_at ds)) ≡ length journal =
     ap (λ l. events_in (states l)) c.in_ok-seated.ensures.servers ∙ ap (λ (k : Cluster). events_in k.servers) c.into_servers-checked.ensures.servers ∙ c.requires.counted in
-    let works = same_works c.options-options.result.now (options_in (servers_at ds)) c.len.result (length journal) ds ds ws options long refl c.in_ok-desks.ensures in
+    let works = same_works c.options-options.result.now (options_in (servers_at ds)) c.len.result (length journal) ds ds ws options long refl (c.in_ok-desks.ensures none) in
     let worked : HasWorked p ds ws journal = has_worked p ds ws journal way are counted works none in
     let state : c.hand_over.new.self.state ≡ hand_over (cluster_of (servers_at ws)) =
     c.in_ok-hand_over.ensures.handed ∙ ap hand_over c.from_servers-cluster.ensures.state ∙ ap (λ l. hand_over (cluster_of l)) c.in_ok-servers.ensures.servers in

@@ -28,10 +28,10 @@ pub returns-then-is_done-clause-program : goal.returns-then-is_done-clause-progr
 returns-then-is_done-clause-program g c = c.rounds.invariant.program
 
 pub round-requires-clause-way : goal.round-requires-clause-way
-round-requires-clause-way g c = c.rounds.invariant.way
+round-requires-clause-way g c κs within = c.rounds.invariant.way
 
 pub round-requires-clause-counted : goal.round-requires-clause-counted
-round-requires-clause-counted g c = c.rounds.invariant.counted
+round-requires-clause-counted g c κs within = c.rounds.invariant.counted
 
 pub even_out-requires-clause-way : goal.even_out-requires-clause-way
 even_out-requires-clause-way g c =

@@ -10,8 +10,8 @@ use Rattle.drust_run.proofs.seats.rise.Goals as goal
 pub desks-init : goal.desks-init
 desks-init c =
     let whole : into_iter_items c.into_iter-desk-iterator.result ≡ c.args.desks.items = search rules in
-    let servers : c.new-servers.result.items ≡ [] = search rules in
-    let choices : c.new-choices.result.items ≡ [] = search rules in
+    let servers : c.in_ok-servers.servers.items ≡ [] = search rules in
+    let choices : c.in_ok-choices.choices.items ≡ [] = search rules in
     record {
       servers = ap (λ l. l ++ servers_at (into_iter_items c.into_iter-desk-iterator.result)) servers ∙ ap servers_at whole;
       choices = ap (λ l. l ++ choices_at (into_iter_items c.into_iter-desk-iterator.result)) choices ∙ ap choices_at whole;

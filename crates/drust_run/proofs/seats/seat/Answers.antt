@@ -10,7 +10,7 @@ pub servers-init : goal.servers-init
 servers-init c =
     let servers : into_iter_items c.into_iter-server-iterator.result ≡ c.args.servers.items = search rules in
     let choices : into_iter_items c.into_iter-choices.result ≡ c.args.choices.items = search rules in
-    let none : c.new-desks.result.items ≡ [] = search rules in
+    let none : c.in_ok-desks.desks.items ≡ [] = search rules in
     record {
       servers = ap (λ l. servers_at l ++ into_iter_items c.into_iter-server-iterator.result) none ∙ servers;
       choices = ap (λ l. choices_at l ++ into_iter_items c.into_iter-choices.result) none ∙ choices;
@@ -32,7 +32,7 @@ servers-preserved c =
     let inv = c.servers.invariant in
     let servers = into_iter_items c.next.new.self in
     let choices = into_iter_items c.next-in-servers.new.self in
-    let d : Desk = record { number = c.len.result; server = c.in-Some.server; choice = c.in-Some-next.choice; entries = c.new.result; lacks = false } in
+    let d : Desk = record { number = c.len-in-servers.result; server = c.in-Some.server; choice = c.in-Some-next.choice; entries = c.new.result; lacks = false } in
     let first : into_iter_items c.servers.server-iterator ≡ c.in-Some.server ∷ servers = search rules in
     let second : into_iter_items c.servers.choices ≡ c.in-Some-next.choice ∷ choices = search rules in
     let pushed : c.push.new.self.items ≡ ds ++ d ∷ [] = c.in_ok-push.ensures.items in

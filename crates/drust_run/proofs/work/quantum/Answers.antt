@@ -68,7 +68,7 @@ events-preserved c =
     let same : others ≡ work v.code v.options n u.state c.next.new.choice =
     ap (λ x. work x u.options n u.state c.next.new.choice) c.act.ensures.kept.0 ∙ ap (λ x. work v.code x n u.state c.next.new.choice) c.act.ensures.kept.1 in
     let one : c.args.most - c.events.counter ≡ suc n = omega (arith, c.events-test.true) in
-    let entries : c.push.new.self.items ≡ c.events.entries.items ++ e ∷ [] = c.in_ok-push.ensures.items in
+    let entries : c.push.new.self.items ≡ c.events.entries.items ++ e ∷ [] = c.in_ok-push.ensures.items ∙ ap (λ x. c.events.entries.items ++ x ∷ []) c.in_ok-fitted.ensures in
     record {
       code = c.act.ensures.kept.0 ∙ inv.code;
       options = c.act.ensures.kept.1 ∙ inv.options;
