@@ -1,6 +1,6 @@
--- Words and an input have one answer, but for runs, of which each is one.
+-- Words and an input have one answer.
 use Rattle.std.proofs.Common.{◌≡◌, ℕ, ◌<◌, ◌≤◌, List, [], length, true, false, Option, Some, None, inl, inr, refl, sym, ap, ◌∙◌, subst, arith}
-use Rattle.std.specs.Prelude.{IsSome}
+use Rattle.std.specs.Prelude.{IsSome, is_some}
 use Rattle.fr_base.specs.declared.settings.Options.{Options}
 use Rattle.fr_base.specs.declared.step.Ending.{Ending}
 use Rattle.fr_base.specs.declared.step.Ending.TheVariants as ending
@@ -15,7 +15,7 @@ use Rattle.drust_cli.specs.declared.asked.Asked.{Asked}
 use Rattle.drust_cli.specs.declared.asked.Command.{Command}
 use Rattle.drust_cli.specs.declared.asked.Command.TheVariants.{Run, Replay, Gen, Load}
 use Rattle.drust_cli.specs.Asked.{asked}
-use Rattle.drust_run.specs.declared.ran.Ran.{Ran}
+use Rattle.server_answers.specs.Below.drust_run.declared.ran.Ran.{Ran}
 use Rattle.source_front.specs.Typed.{IsTyped, limit}
 use Rattle.source_front.specs.Refusals.{status_of as status_of_refusal, text_of}
 use Rattle.source_front.proofs.Refusals.{one_cause, typed_unrefused}
@@ -24,15 +24,16 @@ use Rattle.drust_top.proofs.Ranges.{asked_size}
 use Rattle.replay_answers.proofs.Replaying.{one_replied, follows_reply}
 use Rattle.server_answers.specs.Answers.{status_of, ran, refused}
 use Rattle.server_answers.specs.Answers as run_answers
-use Rattle.drust_top.specs.Headline.{Within, OfLeft, RepliesTo, Makes, reads, Answers, replied, made, words_refused, too_long, IsOfRun}
+use Rattle.server_answers.proofs.Once.{AreAlike, sources_alike, reports_alike, summaries_alike}
+use Rattle.drust_top.specs.Headline.{Within, OfLeft, RepliesTo, Makes, reads, replied, made, words_refused, too_long, IsOfRun}
 use Rattle.drust_top.specs.OneAnswer.{Agree, OneAnswer, TypedRuns, TypedFollows, LoadsRun}
 
 -- words ask for something, or for nothing
-not_both : {A : Type 0} (o : Option Asked) (a : Asked) → o ≡ Some a → o ≡ None → A
+pub not_both : {A : Type 0} (o : Option Asked) (a : Asked) → o ≡ Some a → o ≡ None → A
 not_both o a h g = let e : Some a ≡ None = sym h ∙ g in absurd cc
 
 -- words ask for one thing
-one_asked : (a b : Asked) (o : Option Asked) → o ≡ Some a → o ≡ Some b → a ≡ b
+pub one_asked : (a b : Asked) (o : Option Asked) → o ≡ Some a → o ≡ Some b → a ≡ b
 one_asked a b o h g = let e : Some a ≡ Some b = sym h ∙ g in cc
 
 -- a run has a status of one
@@ -41,19 +42,25 @@ run_status ending.Finished = inl refl
 run_status ending.Deadlocked = inr (inl refl)
 run_status ending.Unfinished = inr (inr refl)
 
+-- what tells of a run is one text for runs that left the same
+abbrev IsOneText : (Ran → List ℕ → Type 0) → Type 0
+IsOneText Tells = (q r : Ran) (x y : List ℕ) → AreAlike q r → Tells q x → Tells r y → x ≡ y
+
 -- the answers to a source that is to be run
-run_agree : (Tells : Ran → List ℕ → Type 0) (bytes : List ℕ) (o : Options) (q r : Option Ran) (s t : ℕ) (x y : List ℕ) → run_answers.Answers Tells bytes o q s x → run_answers.Answers Tells bytes o r t y → Agree q r s t x y
-run_agree Tells bytes o q r s t x y (ran p u h is told) (ran k v g as_ tells) = (run_status u.ending, run_status v.ending)
-run_agree Tells bytes o q r s t x y (ran p u h is told) (refused why g) = typed_unrefused bytes p why h g
-run_agree Tells bytes o q r s t x y (refused why h) (ran k v g as_ tells) = typed_unrefused bytes k why g h
-run_agree Tells bytes o q r s t x y (refused why h) (refused other g) = let same = one_cause bytes why other h g in (ap status_of_refusal same, ap text_of same)
+run_agree : (Tells : Ran → List ℕ → Type 0) → IsOneText Tells → (bytes : List ℕ) (o : Options) (q r : Option Ran) (s t : ℕ) (x y : List ℕ) → run_answers.Answers Tells bytes o q s x → run_answers.Answers Tells bytes o r t y → Agree q r s t x y
+run_agree Tells one_text bytes o q r s t x y (ran p u h is told) (ran k v g has tells) =
+    let alike = sources_alike bytes p k o u v h g is has in
+    record { runs = refl; status = ap status_of alike.ends; text = one_text u v x y alike told tells }
+run_agree Tells one_text bytes o q r s t x y (ran p u h is told) (refused why g) = absurd (typed_unrefused bytes p why h g)
+run_agree Tells one_text bytes o q r s t x y (refused why h) (ran k v g has tells) = absurd (typed_unrefused bytes k why g h)
+run_agree Tells one_text bytes o q r s t x y (refused why h) (refused other g) = let same = one_cause bytes why other h g in record { runs = refl; status = ap status_of_refusal same; text = ap text_of same }
 
 no_runs : (q r : Option Ran) (s t : ℕ) (x y : List ℕ) → q ≡ None → r ≡ None → (s ≡ t) × (x ≡ y) → Agree q r s t x y
-no_runs q r s t x y h g same = subst (λ o. Agree o r s t x y) (sym h) (subst (λ o. Agree None o s t x y) (sym g) same)
+no_runs q r s t x y h g same = record { runs = ap is_some (h ∙ sym g); status = same.0; text = same.1 }
 
 -- the replies to an input
 reply_agree : (c : Command) (o : Options) (bytes : List ℕ) (q r : Option Ran) (s t : ℕ) (x y : List ℕ) → RepliesTo c o bytes q s x → RepliesTo c o bytes r t y → Agree q r s t x y
-reply_agree Run o bytes q r s t x y h g = run_agree _ bytes o q r s t x y h g
+reply_agree Run o bytes q r s t x y h g = run_agree _ (reports_alike o.trace) bytes o q r s t x y h g
 reply_agree Replay o bytes q r s t x y h g = no_runs q r s t x y h.0 g.0 (one_replied bytes s t x y h.1 g.1)
 reply_agree Gen o bytes q r s t x y h g = absurd h
 reply_agree Load o bytes q r s t x y h g = absurd h
@@ -63,7 +70,7 @@ made_agree : (c : Command) (o : Options) (number size : ℕ) (q r : Option Ran) 
 made_agree Run o number size q r s t x y h g = absurd h
 made_agree Replay o number size q r s t x y h g = absurd h
 made_agree Gen o number size q r s t x y h g = no_runs q r s t x y h.0 g.0 (h.1 ∙ sym g.1, h.2 ∙ sym g.2)
-made_agree Load o number size q r s t x y h g = run_agree _ (program_text number size) o q r s t x y h g
+made_agree Load o number size q r s t x y h g = run_agree _ summaries_alike (program_text number size) o q r s t x y h g
 
 -- a command has an input or none
 apart : {A : Type 0} (c : Command) (o p : Options) (bytes : List ℕ) (number size : ℕ) (q r : Option Ran) (s t : ℕ) (x y : List ℕ) → RepliesTo c o bytes q s x → Makes c p number size r t y → A
@@ -102,14 +109,14 @@ one words bytes q r s t x y (made a h i) (too_long b g on j) =
     unread a.command a.options a.number a.size q s x (subst (λ (c : Asked). reads c.command ≡ true) same on) i
 one words bytes q r s t x y (words_refused h) (replied b g j) = not_both (asked words) b g h
 one words bytes q r s t x y (words_refused h) (made b g j) = not_both (asked words) b g h
-one words bytes q r s t x y (words_refused h) (words_refused g) = (refl, refl)
+one words bytes q r s t x y (words_refused h) (words_refused g) = no_runs None None _ _ _ _ refl refl (refl, refl)
 one words bytes q r s t x y (words_refused h) (too_long b g on j) = not_both (asked words) b g h
 one words bytes q r s t x y (too_long a h on i) (replied b g j) = within bytes j.size i
 one words bytes q r s t x y (too_long a h on i) (made b g j) =
     let same = one_asked a b (asked words) h g in
     unread b.command b.options b.number b.size r t y (subst (λ (c : Asked). reads c.command ≡ true) same on) j
 one words bytes q r s t x y (too_long a h on i) (words_refused g) = not_both (asked words) a h g
-one words bytes q r s t x y (too_long a h on i) (too_long b g onn j) = (refl, refl)
+one words bytes q r s t x y (too_long a h on i) (too_long b g onn j) = no_runs None None _ _ _ _ refl refl (refl, refl)
 
 -- a typed program's source has a run
 typed_run : (Tells : Ran → List ℕ → Type 0) (bytes : List ℕ) (o : Options) (p : Term) (r : Option Ran) (s : ℕ) (x : List ℕ) → IsTyped bytes p → run_answers.Answers Tells bytes o r s x → IsSome r × IsOfRun s

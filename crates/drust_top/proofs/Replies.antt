@@ -11,7 +11,7 @@ use Rattle.drust_cli.specs.declared.asked.Asked.{Asked}
 use Rattle.drust_cli.specs.declared.asked.Command.{Command}
 use Rattle.drust_cli.specs.declared.asked.Command.TheVariants.{Run, Replay, Gen, Load}
 use Rattle.drust_cli.specs.Asked.{asked}
-use Rattle.drust_run.specs.declared.ran.Ran.{Ran}
+use Rattle.server_answers.specs.Below.drust_run.declared.ran.Ran.{Ran}
 use Rattle.source_front.specs.Typed.{limit}
 use Rattle.source_front.specs.declared.refused.Refused.{Refused}
 use Rattle.source_front.specs.declared.refused.Refused.TheVariants.{Tokens, Grammar, Fault, Order, NoMemory}

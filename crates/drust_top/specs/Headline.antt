@@ -1,7 +1,7 @@
 -- THE HEADLINE: what the program answers. For every input that is the source of a typed program, what is written is the report of that
 -- program's run in rounds on servers, or with an order behind it, the text of its run on one heap under the order; a generated program is
 -- written, or the summary of its run in rounds. Each other answer has its cause.
-use Rattle.std.specs.Prelude.{◌≡◌, ℕ, ◌<◌, ◌≤◌, ◌⊎◌, Bool, true, false, List, length, take, codes, Option, Some, None}
+use Rattle.std.specs.Prelude.{◌≡◌, ◌≢◌, ℕ, ◌+◌, ◌*◌, ◌<◌, ◌≤◌, ◌⊎◌, Bool, true, false, List, length, take, codes, Option, Some, None}
 use Rattle.fr_base.specs.declared.settings.Options.{Options}
 use Rattle.drust_io.specs.Flow.{GoesOn}
 use Rattle.gen_load.specs.Programs.{program_text}
@@ -9,8 +9,10 @@ use Rattle.drust_cli.specs.declared.asked.Asked.{Asked}
 use Rattle.drust_cli.specs.declared.asked.Command.{Command}
 use Rattle.drust_cli.specs.declared.asked.Command.TheVariants.{Run, Replay, Gen, Load}
 use Rattle.drust_cli.specs.Asked.{asked}
-use Rattle.drust_run.specs.declared.ran.Ran.{Ran}
-use Rattle.source_front.specs.Typed.{limit}
+use Rattle.server_answers.specs.Below.drust_run.declared.ran.Ran.{Ran}
+use Rattle.fr_terms.specs.Terms.{Term}
+use Rattle.server_answers.specs.Below.size_law.Size.{nodes_of}
+use Rattle.source_front.specs.Typed.{IsTyped, limit}
 use Rattle.replay_answers.specs.Answers.{Replayed}
 use Rattle.server_answers.specs.Runs.{IsRight}
 use Rattle.server_answers.specs.Answers.{IsReportOf, IsSummaryOf}
@@ -109,7 +111,6 @@ IsSilent status = (status ≡ 6) ⊎ (status ≡ 8)
 abbrev pub IsOfInput : ℕ → Type 0
 IsOfInput status = (status ≡ 0) ⊎ (status ≡ 1) ⊎ (status ≡ 2) ⊎ (status ≡ 3) ⊎ (status ≡ 4) ⊎ (status ≡ 10)
 
--- the status that an answer with such a run leaves: where there is none, the answer's own; else one of a run
-abbrev pub IsSameCause : Option Ran → (cause status : ℕ) → Type 0
-IsSameCause None cause status = status ≡ cause
-IsSameCause (Some r) cause status = IsOfRun status
+-- WITH TURNS ENOUGH no run of a typed source is unfinished: a hundred for each of twice the nodes of its program's tree, and a hundred more
+abbrev pub NeverUnfinished : (words : List (List ℕ)) (left : Option (List ℕ)) (status : ℕ) → Type 0
+NeverUnfinished words left status = (a : Asked) (bytes : List ℕ) (t : Term) → asked words ≡ Some a → a.command ≡ Run → left ≡ Some bytes → IsTyped bytes t → 100 * (2 * nodes_of t + 1) ≤ a.options.turns → status ≢ 2

@@ -1,5 +1,5 @@
--- What follows from the causes of the answers: they exclude one another, and each but that of a run leaves one text.
-use Rattle.std.specs.Prelude.{◌≡◌, ℕ, ◌≤◌, List, length, Option, Some, None, IsSome}
+-- What follows from the causes of the answers: they exclude one another, and each leaves one text.
+use Rattle.std.specs.Prelude.{◌≡◌, ℕ, ◌≤◌, List, length, Option, Some, IsSome, is_some}
 use Rattle.fr_terms.specs.Terms.{Term}
 use Rattle.fr_plain.specs.Whole.{Stepped, plain, ending_of}
 use Rattle.fr_plain.specs.Resolve.{program}
@@ -7,17 +7,16 @@ use Rattle.journal.specs.declared.order.OrderLine.{OrderLine}
 use Rattle.drust_cli.specs.declared.asked.Asked.{Asked}
 use Rattle.drust_cli.specs.declared.asked.Command.TheVariants.{Run, Replay, Load}
 use Rattle.drust_cli.specs.Asked.{asked}
-use Rattle.drust_run.specs.declared.ran.Ran.{Ran}
+use Rattle.server_answers.specs.Below.drust_run.declared.ran.Ran.{Ran}
 use Rattle.source_front.specs.Typed.{IsTyped, limit}
 use Rattle.replay_answers.specs.Replay.{HasOrder, turns, status_of_ending}
 use Rattle.drust_top.specs.Headline.{Answers, IsOfRun}
 
--- two answers agree: with no run they are one; else both have a run and a status of one
-abbrev pub Agree : Option Ran → Option Ran → (s t : ℕ) (x y : List ℕ) → Type 0
-Agree None None s t x y = (s ≡ t) × (x ≡ y)
-Agree (Some q) (Some r) s t x y = IsOfRun s × IsOfRun t
-Agree None (Some r) s t x y = ⊥
-Agree (Some q) None s t x y = ⊥
+-- two answers agree: both tell of a run or neither does, under one status and with one text
+pub record Agree (q r : Option Ran) (s t : ℕ) (x y : List ℕ) : Type 0 where
+  pub runs : is_some q ≡ is_some r
+  pub status : s ≡ t
+  pub text : x ≡ y
 
 -- the answers to words and an input agree
 abbrev pub OneAnswer : Type 0

@@ -1,6 +1,6 @@
 //! What a call ended with.
 
-use drust_run::Ran;
+use server_answers::Ran;
 
 /// What the program ended with: 0, 1 or 2 where the text of a run is written, 3 to 10 where there is none (`drust` says when each comes),
 /// and the run that was made on servers, if there is one: there is exactly where it is told of, also where the sink failed.

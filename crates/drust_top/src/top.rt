@@ -6,19 +6,18 @@ ghost use Rattle.source_front.specs.Typed.{limit};
 ghost use Rattle.drust_io.specs.Flow.{NothingLeft, Rose};
 ghost use Rattle.drust_cli.specs.declared.asked.Asked.{Asked as AskedThere};
 ghost use Rattle.drust_cli.specs.Asked.{asked};
-ghost use Rattle.drust_run.specs.declared.ran.Ran.{Ran as RanThere};
-ghost use Rattle.drust_top.specs.Headline.{Answers, Answered, Broken, IsAnswer, IsCutShort, IsOfInput, IsOfRun, IsRightFor, IsRightOf, IsSameCause, IsSilent, IsStatus, Makes, RepliesTo, reads};
+ghost use Rattle.server_answers.specs.Below.drust_run.declared.ran.Ran.{Ran as RanThere};
+ghost use Rattle.drust_top.specs.Headline.{Answers, Answered, Broken, IsAnswer, IsCutShort, IsOfInput, IsOfRun, IsRightFor, IsRightOf, IsSilent, IsStatus, Makes, NeverUnfinished, RepliesTo, reads};
 ghost use Rattle.drust_top.specs.Inputs.{IsInput};
 
 use crate::outcome::Outcome;
 use drust_cli::{Asked, Command, WordsError, read_words};
 use drust_io::{Gate, ReadError, Sink, Source, read_all, write_all};
-use drust_run::Ran;
 use fr_base::NoMemory;
 use gen_load::generate;
 use load_law::programs_are_sources;
 use replay_answers::replay_answer;
-use server_answers::{Answer, load_answer, run_answer};
+use server_answers::{Answer, Ran, load_answer, run_answer};
 use std::alloc::Global;
 use std::sync::Wait;
 use std::thread::Threads;
@@ -219,7 +218,8 @@ fn reads(command: Command) -> bool
 /// program has a fault of types; 5, the words are refused; 6, the source failed; 7, the sink failed; 8, there was no memory; 9, the input
 /// is too long; 10, the order is refused, with the place of the first line that isn't in the format or whose steps aren't all plain steps.
 /// `Answers` has the causes of 0 to 5, 9 and 10, each with its text and with the run that is handed back: an input that a cause fits gets
-/// the status of that cause, or 6, 7 or 8; that of a typed program that is to be run gets 0, 1 or 2, or one of these. At 6 and 8 nothing is written and no run
+/// the status of that cause, or 6, 7 or 8; that of a typed program that is to be run gets 0, 1 or 2, or one of these, and never 2 with `100 * (2 * n + 1)` turns, n the
+/// nodes of its tree (`in_time`). At 6 and 8 nothing is written and no run
 /// is handed back, at 7 the first bytes of the text that would have been. The run that is handed back is right (`IsRight`): it is the
 /// program's own run on one heap under the order that is written.
 pub fn drust<S: Source, K: Sink, G: Gate + Sync, R: Threads + Wait + Sync>(
@@ -232,7 +232,8 @@ pub fn drust<S: Source, K: Sink, G: Gate + Sync, R: Threads + Wait + Sync>(
 ) -> Outcome
     ensures status { IsStatus result.status }
     ensures answered { IsAnswer result.status → Answered (map string_bytes words.now.items) (S.left source.old) result.ran result.status (K.written sink.old) (K.written sink.new) }
-    ensures from_cause { (bytes : List ℕ) (text : List ℕ) (status : ℕ) (r : Option RanThere) → S.left source.old ≡ Some bytes → Answers (map string_bytes words.now.items) (Some bytes) r status text → IsSameCause r status result.status ⊎ IsCutShort result.status }
+    ensures from_cause { (bytes : List ℕ) (text : List ℕ) (status : ℕ) (r : Option RanThere) → S.left source.old ≡ Some bytes → Answers (map string_bytes words.now.items) (Some bytes) r status text → (result.status ≡ status) ⊎ IsCutShort result.status }
+    ensures in_time { NeverUnfinished (map string_bytes words.now.items) (S.left source.old) result.status }
     ensures loads { (a : AskedThere) → asked (map string_bytes words.now.items) ≡ Some a → a.command ≡ Command.Load → IsOfRun result.status ⊎ IsCutShort result.status }
     ensures broken { result.status ≡ 7 → Broken (map string_bytes words.now.items) (S.left source.old) result.ran (K.written sink.old) (K.written sink.new) }
     ensures right { IfSome result.ran (IsRightFor (map string_bytes words.now.items) (S.left source.old)) }

@@ -1,19 +1,24 @@
 -- A run in rounds of a source's program is right.
-use Rattle.std.proofs.Common.{◌≡◌, ℕ, List, subst}
+use Rattle.std.proofs.Common.{◌≡◌, ◌≢◌, ℕ, false, List, sym, subst, ap, ◌∙◌}
 use Rattle.std.specs.Prelude.{Result, Ok, Err, IfOk}
 use Rattle.fr_base.specs.declared.settings.Options.{Options}
+use Rattle.fr_base.specs.declared.step.Ending.TheVariants as end
+use Rattle.fr_base.specs.declared.step.Ending3.{Ending3}
+use Rattle.fr_base.specs.declared.step.Ending3.TheVariants.{Finished, Deadlocked, Going}
 use Rattle.fr_base.specs.declared.memory.NoMemory.{NoMemory}
 use Rattle.borrow_check.specs.Programs.{Program}
-use Rattle.right_law.specs.Below.fr_terms.Terms.{Term}
-use Rattle.right_law.specs.Below.drive_model.Ending.{ending}
-use Rattle.right_law.specs.Below.heap_law.Naming.{options_out}
-use Rattle.right_law.specs.Right.{RunsInRoundsAreRight}
-use Rattle.right_law.specs.Right as run_law
+use Rattle.turns_law.specs.Below.right_law.Below.fr_terms.Terms.{Term}
+use Rattle.turns_law.specs.Below.right_law.Below.drive_model.Ending.{ending, is_going}
+use Rattle.turns_law.specs.Below.right_law.Below.heap_law.Naming.{options_out}
+use Rattle.turns_law.specs.Below.right_law.Right.{RunsInRoundsAreRight}
+use Rattle.turns_law.specs.Below.right_law.Right as run_law
 use Rattle.drust_run.specs.declared.ran.Ran.{Ran}
 use Rattle.drust_run.specs.Runs.{ended}
 use Rattle.drust_run.specs.Runs as left
 use Rattle.source_front.specs.Below.fr_syntax.Meanings.{term_of}
 use Rattle.source_front.specs.Typed.{IsTyped}
+use Rattle.turns_law.specs.Below.order_law.Sources.{ProgramsHaveBlocks}
+use Rattle.turns_law.specs.Turns.{RunsInRoundsComeToAnEnd}
 use Rattle.server_answers.specs.Runs.{IsRunOf, IsRight}
 
 -- what a run leaves is the run of its program
@@ -30,17 +35,28 @@ is_run p q o (Ok x) same is ends =
     })
 is_run p q o (Err e) same is ends = tt
 
-is_right : RunsInRoundsAreRight → (bytes : List ℕ) (t : Term) (o : Options) (r : Ran) → IsTyped bytes t → IsRunOf t o r → options_out o ≡ 0 → IsRight bytes o r
-is_right law bytes t o r typed is within =
+-- a run whose cluster isn't going has ended
+has_ended : (e : Ending3) → is_going e ≡ false → ended e ≢ end.Unfinished
+has_ended Finished still = λ same. absurd (cc same)
+has_ended Deadlocked still = λ same. absurd (cc same)
+has_ended Going still = absurd cc
+
+is_right : RunsInRoundsAreRight → RunsInRoundsComeToAnEnd → ProgramsHaveBlocks → (bytes : List ℕ) (t : Term) (o : Options) (r : Ran) → IsTyped bytes t → IsRunOf t o r → options_out o ≡ 0 → IsRight bytes o r
+is_right law ends blocks bytes t o r typed is within =
     let program = typed.source.program in
     let right = law t is.code o typed.kind typed.after is.run program.grammar.0 program.limits.places typed.types is.stands within is.is in
+    let body = blocks typed.source.names typed.source.ts t program.grammar in
     record {
       term = t;
       source = typed;
       right = subst (λ es. run_law.IsRight t o r.cluster.state es) is.entries (subst (λ k. run_law.IsRight t o k is.run.journal) is.cluster right);
+      enough = λ turns.
+          let still = ends t is.code o typed.kind typed.after is.run program.grammar.0 body program.limits.places typed.types is.stands within turns is.is in
+          let there : is_going (ending r.cluster.state) ≡ false = ap (λ k. is_going (ending k)) (sym is.cluster) ∙ still in
+          λ same. has_ended (ending r.cluster.state) there (sym is.ends ∙ same);
     }
 
 -- the same of what a call gives
-pub all_right : RunsInRoundsAreRight → (bytes : List ℕ) (t : Term) (o : Options) (r : Result Ran NoMemory) → IsTyped bytes t → IfOk r (IsRunOf t o) → options_out o ≡ 0 → IfOk r (IsRight bytes o)
-all_right law bytes t o (Ok x) typed is within = is_right law bytes t o x typed is within
-all_right law bytes t o (Err e) typed is within = tt
+pub all_right : RunsInRoundsAreRight → RunsInRoundsComeToAnEnd → ProgramsHaveBlocks → (bytes : List ℕ) (t : Term) (o : Options) (r : Result Ran NoMemory) → IsTyped bytes t → IfOk r (IsRunOf t o) → options_out o ≡ 0 → IfOk r (IsRight bytes o)
+all_right law ends blocks bytes t o (Ok x) typed is within = is_right law ends blocks bytes t o x typed is within
+all_right law ends blocks bytes t o (Err e) typed is within = tt

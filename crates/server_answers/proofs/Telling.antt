@@ -1,20 +1,17 @@
 -- What an answer tells.
-use Rattle.std.proofs.Common.{◌≡◌, ℕ, List, Option, Some, None, inl, inr, refl, sym, subst, string_bytes}
+use Rattle.std.proofs.Common.{◌≡◌, ℕ, List, Option, Some, None, sym, subst, string_bytes}
 use Rattle.std.specs.Prelude.{Result, Ok, Err, IfOk}
-use Rattle.fr_base.specs.declared.step.Ending.{Ending}
-use Rattle.fr_base.specs.declared.step.Ending.TheVariants as ending
 use Rattle.fr_base.specs.declared.settings.Options.{Options}
 use Rattle.fr_base.specs.declared.memory.NoMemory.{NoMemory as WantOfMemory}
-use Rattle.right_law.specs.Below.fr_terms.Terms.{Term}
+use Rattle.turns_law.specs.Below.right_law.Below.fr_terms.Terms.{Term}
 use Rattle.drust_run.specs.declared.ran.Ran.{Ran}
 use Rattle.source_front.specs.declared.refused.Refused.{Refused}
-use Rattle.source_front.specs.declared.refused.Refused.TheVariants.{Tokens, Grammar, Fault, Order, NoMemory}
 use Rattle.source_front.specs.Refusals.{HasCause, IsRefusedBy, status_of as status_of_refusal, text_of}
 use Rattle.source_front.proofs.Refusals.{has_cause}
 use Rattle.source_front.specs.Typed.{IsTyped}
 use Rattle.server_answers.specs.declared.answer.Answer.{Answer}
 use Rattle.server_answers.specs.Runs.{IsRunOf}
-use Rattle.server_answers.specs.Answers.{Answers, ran, refused, Refuses, IsReply, status_of}
+use Rattle.server_answers.specs.Answers.{Answers, ran, refused, Refuses, status_of}
 
 -- a refusal of the source
 refusal_told : (Tells : Ran → List ℕ → Type 0) (bytes : List ℕ) (o : Options) (why : Refused) (r : Option Ran) (status : ℕ) (text : List ℕ) → IsRefusedBy bytes why → Refuses why r status text → Answers Tells bytes o r status text
@@ -22,23 +19,6 @@ refusal_told Tells bytes o why r status text h g =
     let told : Answers Tells bytes o None (status_of_refusal why) (text_of why) = refused why (has_cause bytes why g.cause h) in
     subst (λ q. Answers Tells bytes o q status text) (sym g.none)
     (subst (λ s. Answers Tells bytes o None s text) (sym g.stands) (subst (λ x. Answers Tells bytes o None (status_of_refusal why) x) (sym g.says) told))
-
-run_status : (e : Ending) → IsReply (status_of e)
-run_status ending.Finished = inl refl
-run_status ending.Deadlocked = inr (inl refl)
-run_status ending.Unfinished = inr (inr (inl refl))
-
-refusal_status : (bytes : List ℕ) (why : Refused) → HasCause bytes why → IsReply (status_of_refusal why)
-refusal_status bytes (Tokens e) h = inr (inr (inr (inl refl)))
-refusal_status bytes (Grammar e) h = inr (inr (inr (inl refl)))
-refusal_status bytes (Fault p why) h = inr (inr (inr (inr refl)))
-refusal_status bytes (Order p) h = absurd h
-refusal_status bytes NoMemory h = absurd h
-
--- an answer has one of these statuses
-is_reply : (Tells : Ran → List ℕ → Type 0) (bytes : List ℕ) (o : Options) (r : Option Ran) (status : ℕ) (text : List ℕ) → Answers Tells bytes o r status text → IsReply status
-is_reply Tells bytes o r status text (ran t x typed is told) = run_status x.ending
-is_reply Tells bytes o r status text (refused why cause) = refusal_status bytes why cause
 
 -- what is made of a refusal
 pub all_refused : (Tells : Ran → List ℕ → Type 0) (bytes : List ℕ) (o : Options) (why : Refused) (r : Result Answer WantOfMemory) → IsRefusedBy bytes why → IfOk r (λ a. Refuses why a.ran a.status (string_bytes a.text))
@@ -57,8 +37,3 @@ pub all_told : (Tells : Ran → List ℕ → Type 0) (bytes : List ℕ) (o : Opt
     → IfOk r (λ a. Tells x (string_bytes a.text)) → IfOk r (λ a. Answers Tells bytes o a.ran a.status (string_bytes a.text))
 all_told Tells bytes o t x (Ok a) typed is p q s = run_told Tells bytes o t x a.ran a.status (string_bytes a.text) typed is p q s
 all_told Tells bytes o t x (Err e) typed is p q s = tt
-
--- what is made has one of these statuses
-pub all_replies : (Tells : Ran → List ℕ → Type 0) (bytes : List ℕ) (o : Options) (r : Result Answer WantOfMemory) → IfOk r (λ a. Answers Tells bytes o a.ran a.status (string_bytes a.text)) → IfOk r (λ a. IsReply a.status)
-all_replies Tells bytes o (Ok a) h = is_reply Tells bytes o a.ran a.status (string_bytes a.text) h
-all_replies Tells bytes o (Err e) h = tt

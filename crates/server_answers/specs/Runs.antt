@@ -1,14 +1,16 @@
 -- Runs of programs in rounds, on servers.
-use Rattle.std.specs.Prelude.{◌≡◌, ℕ, List, Some}
+use Rattle.std.specs.Prelude.{◌≡◌, ◌≢◌, ◌≤◌, ℕ, ◌+◌, ◌*◌, List, Some}
 use Rattle.fr_base.specs.declared.instruction.Instr.{Instr}
 use Rattle.fr_base.specs.declared.settings.Options.{Options}
-use Rattle.right_law.specs.Below.fr_terms.Terms.{Term}
-use Rattle.right_law.specs.Below.fr_plain.Resolve.{program}
-use Rattle.right_law.specs.Below.table_law.Bare.{bare}
-use Rattle.right_law.specs.Below.table_law.CodeOf.{code_of}
-use Rattle.right_law.specs.Below.drive_model.Ending.{ending}
-use Rattle.right_law.specs.Below.drive_model.Rounds.{Run, rounds}
-use Rattle.right_law.specs.Right.{IsRight as IsRightRun}
+use Rattle.turns_law.specs.Below.right_law.Below.fr_terms.Terms.{Term}
+use Rattle.turns_law.specs.Below.right_law.Below.fr_plain.Resolve.{program}
+use Rattle.turns_law.specs.Below.right_law.Below.table_law.Bare.{bare}
+use Rattle.turns_law.specs.Below.right_law.Below.table_law.CodeOf.{code_of}
+use Rattle.turns_law.specs.Below.right_law.Below.drive_model.Ending.{ending}
+use Rattle.turns_law.specs.Below.right_law.Below.drive_model.Rounds.{Run, rounds}
+use Rattle.turns_law.specs.Below.right_law.Right.{IsRight as IsRightRun}
+use Rattle.turns_law.specs.Below.size_law.Size.{nodes_of}
+use Rattle.fr_base.specs.declared.step.Ending.TheVariants as end
 use Rattle.drust_run.specs.declared.ran.Ran.{Ran}
 use Rattle.drust_run.specs.Runs.{ended}
 use Rattle.source_front.specs.Typed.{IsTyped}
@@ -29,3 +31,5 @@ pub record IsRight (bytes : List ℕ) (o : Options) (r : Ran) : Type 0 where
   pub term : Term
   pub source : IsTyped bytes term
   pub right : IsRightRun term o r.cluster.state r.journal.items
+  -- with a hundred turns for each of twice the nodes of its tree and one more, it has come to an end: it has finished, or is deadlocked
+  pub enough : 100 * (2 * nodes_of term + 1) ≤ o.turns → r.ending ≢ end.Unfinished

@@ -6,4 +6,5 @@ mod answer;
 mod run;
 
 pub use answer::Answer;
+pub use drust_run::Ran;
 pub use run::{load_answer, run_answer};

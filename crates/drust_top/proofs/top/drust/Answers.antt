@@ -2,6 +2,7 @@ use Rattle.std.proofs.Common.{◌≡◌, None, map, string_bytes, rules}
 use Rattle.drust_cli.specs.Asked.{asked}
 use Rattle.drust_top.specs.Headline.{words_refused}
 use Rattle.drust_top.proofs.FromCause.{caused, loaded}
+use Rattle.drust_top.proofs.InTime.{never_unfinished}
 use Rattle.drust_top.proofs.Ranges.{asked_options, asked_size}
 use Rattle.drust_top.proofs.top.drust.Goals as goal
 
@@ -48,3 +49,14 @@ pub returns-in-Err-BadWords-clause-broken : goal.returns-in-Err-BadWords-clause-
 returns-in-Err-BadWords-clause-broken g c = λ h.
     let none : asked (map string_bytes c.args.words.now.items) ≡ None = search rules in
     c.reply.ensures.broken (map string_bytes c.args.words.now.items) (g.S.Source.left c.args.source.now) (words_refused none) h
+
+pub returns-then-reads-clause-in_time : goal.returns-then-reads-clause-in_time
+returns-then-reads-clause-in_time g c =
+    let words = map string_bytes c.args.words.now.items in
+    never_unfinished words (g.S.Source.left c.args.source.now) c.input.result.ran c.input.result.status (g.K.Sink.written c.args.sink.now) (g.K.Sink.written c.input.new.sink) (c.input.ensures.right words c.in-Ok.ensures.asked) (c.input.ensures.answered words c.in-Ok.ensures.asked)
+
+pub returns-else-reads-clause-in_time : goal.returns-else-reads-clause-in_time
+returns-else-reads-clause-in_time g c =
+    let words = map string_bytes c.args.words.now.items in
+    let left = g.S.Source.left c.args.source.now in
+    never_unfinished words left c.generated.result.ran c.generated.result.status (g.K.Sink.written c.args.sink.now) (g.K.Sink.written c.generated.new.sink) (c.generated.ensures.right words left c.in-Ok.ensures.asked) (c.generated.ensures.answered words left c.in-Ok.ensures.asked)
