@@ -8,7 +8,7 @@ use crate::program_cases::{
 };
 use crate::served_cases::{NO_WORDS, READ, WRITTEN};
 use crate::shared_cases::{MUTEX_ORDERS, PAIR_ORDERS, REFUSED_SHARED_ORDERS, SHARED_ORDERS};
-use drust_io::{MemorySink, MemorySource, NoGate};
+use drust_io::{Gate, MemorySink, MemorySource, NoGate};
 use drust_top::drust;
 use std::alloc::Global;
 use std::process::Abort;
@@ -25,9 +25,9 @@ const FIRST_REPORT: &str =
 const EMPTY_REPORT: &str =
     "ended finished\nprints 0\norder 1\n0.0 1\nsteps 1\nevents 1\nissued 0\nrenewed 0\nhits 0\nevictions 0\nmessages 0\n";
 
-// How many bytes a call of the source gives or one of the sink takes, and which calls of the source and of the sink fail.
+/// How many bytes a call of the source gives or one of the sink takes, and which calls of the source and of the sink fail.
 #[derive(Clone, Copy)]
-struct Devices {
+pub struct Devices {
     most: usize,
     reads: &'static [u64],
     writes: &'static [u64],
@@ -40,7 +40,8 @@ const SMALL: Devices = Devices {
     writes: &[],
 };
 
-const LARGE: Devices = Devices {
+/// No call fails, and each gives or takes much.
+pub const LARGE: Devices = Devices {
     most: 4096,
     ..SMALL
 };
@@ -96,7 +97,25 @@ fn words_of(alloc: Global, texts: &[&str]) -> Result<Vec<String>, Fail> {
     Ok(words)
 }
 
-// The status and the bytes that are written for words and an input.
+/// The status and the bytes that are written for words and an input, where each server's work comes by that gate.
+pub fn answer_by<G: Gate + Sync, R: Threads + Wait + Abort + Sync>(
+    rt: &R,
+    alloc: Global,
+    words: &[&str],
+    input: &[u8],
+    devices: &Devices,
+    gate: &G,
+) -> Result<(u8, Vec<u8>), Fail> {
+    let most = devices.most;
+    assert!(rt; most > 0);
+    let words = words_of(alloc, words)?;
+    let mut source = MemorySource::new(input.to_vec(alloc)?, most, devices.reads.to_vec(alloc)?);
+    let mut sink = MemorySink::new(alloc, most, devices.writes.to_vec(alloc)?);
+    let outcome = drust(rt, alloc, &words, &mut source, &mut sink, gate);
+    Ok((outcome.status, sink.bytes().to_vec(alloc)?))
+}
+
+// The same, where each comes at once.
 fn answer<R: Threads + Wait + Abort + Sync>(
     rt: &R,
     alloc: Global,
@@ -104,13 +123,7 @@ fn answer<R: Threads + Wait + Abort + Sync>(
     input: &[u8],
     devices: &Devices,
 ) -> Result<(u8, Vec<u8>), Fail> {
-    let most = devices.most;
-    assert!(rt; most > 0);
-    let words = words_of(alloc, words)?;
-    let mut source = MemorySource::new(input.to_vec(alloc)?, most, devices.reads.to_vec(alloc)?);
-    let mut sink = MemorySink::new(alloc, most, devices.writes.to_vec(alloc)?);
-    let outcome = drust(rt, alloc, &words, &mut source, &mut sink, &NoGate);
-    Ok((outcome.status, sink.bytes().to_vec(alloc)?))
+    answer_by(rt, alloc, words, input, devices, &NoGate)
 }
 
 // Words and an input are answered with this status and this text.

@@ -11,3 +11,5 @@ mod program_cases;
 mod served_cases;
 #[cfg(test)]
 mod shared_cases;
+#[cfg(test)]
+mod workers;
