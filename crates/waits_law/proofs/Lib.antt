@@ -3,3 +3,9 @@ pub mod Waiting
 pub mod Contents
 pub mod Locks
 pub mod Deadlocks
+pub mod Rising
+pub mod PlainWaits
+pub mod ClusterWaits
+pub mod Places
+pub mod Ends
+pub mod Stands

@@ -3,4 +3,4 @@
 
 mod laws;
 
-pub use laws::{locks_wait, waits_agree};
+pub use laws::{locks_wait, programs_stand_there, waits_agree};
