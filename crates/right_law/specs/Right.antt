@@ -2,6 +2,7 @@
 use Rattle.std.specs.Prelude.{◌≡◌, true, false, List, [], length, Some}
 use Rattle.table_law.specs.Below.fr_base.declared.instruction.Instr.{Instr}
 use Rattle.table_law.specs.Below.fr_base.declared.settings.Options.{Options}
+use Rattle.table_law.specs.Below.fr_base.declared.step.Ending3.TheVariants.{Deadlocked}
 use Rattle.table_law.specs.Below.fr_terms.Terms.{Term, block_t, IsBlock}
 use Rattle.table_law.specs.Below.fr_terms.Limits.{HasShortPlaces}
 use Rattle.table_law.specs.Below.fr_typing.Kinds.{Kind}
@@ -19,6 +20,7 @@ use Rattle.driven_law.specs.Below.rounds_law.Order.{IsSameCluster}
 use Rattle.lead_law.specs.Below.whole_law.Programs.{Given, RunsRight}
 use Rattle.lead_law.specs.Below.code_meaning.LeftByItsCode.{LeftByItsCode}
 use Rattle.lead_law.specs.Below.coloured_heap.Driven.{is_driven}
+use Rattle.waits_law.specs.Stands.{StandsThere, WaitsThere, EndsThere}
 
 -- a cluster and the journal that led there are those of a right run of this program under these options
 pub record IsRight (t : Term) (o : Options) (k : Cluster) (es : List EntryView) : Type 0 where
@@ -36,12 +38,19 @@ pub record IsRight (t : Term) (o : Options) (k : Cluster) (es : List EntryView) 
   -- and it is what the journal leaves: the journal is legal, each of its entries reaches what it loads and stores, and the words, owners, copies,
   -- messages and events that it leaves are the cluster's
   pub left : LeftByItsCode led es
+  -- the program's own terms come under the journal's order to that cluster's one heap: the same threads, each at a term for which its code there
+  -- stands and with the same slots, over the same objects and mutexes
+  pub stands : StandsThere (program t) led es
   -- the journal is one that a driver can leave: each copy that is evicted was too many, and between two moves of a thread it does a plain step
   pub driven : is_driven o es ≡ true
   -- where the run has come to an end, they lead to this very cluster
   pub exact : is_going (ending k) ≡ false → led ≡ k
   -- and else it has as many events as it may
   pub turns : is_going (ending k) ≡ true → length es ≡ o.turns
+  -- where it has come to an end, so have the program's own terms: they have finished, or are deadlocked
+  pub ends : is_going (ending k) ≡ false → EndsThere (program t) k es
+  -- where it is deadlocked, the list of its threads that wait, with what each waits for, is that of those terms
+  pub waits : ending k ≡ Deadlocked → WaitsThere (program t) k es
 
 -- each run in rounds of whatever code of a typed program
 abbrev pub RunsInRoundsAreRight : Type 0
