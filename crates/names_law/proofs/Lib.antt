@@ -1,0 +1,9 @@
+pub mod Heaps
+pub mod Acts
+pub mod Threads
+pub mod Steps
+pub mod Places
+pub mod Numbered
+pub mod Left
+pub mod Explored
+pub mod Alike
