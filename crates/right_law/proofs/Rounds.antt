@@ -28,11 +28,12 @@ use Rattle.lead_law.specs.Below.whole_law.Below.heap_law.Names.{other}
 use Rattle.lead_law.specs.Below.whole_law.Below.event_law.Laws.{Gives}
 use Rattle.lead_law.proofs.Below.whole_law.Below.event_law.Results.{given_by, then_gives, over_gives}
 use Rattle.lead_law.specs.Below.run_law.Runs.{run_of, EachKeepsCoherence, EachEventIsRight}
-use Rattle.driven_law.specs.Below.rounds_law.UnderWay.{IsUnderWay, HasEnded, RoundsEnd, EndsAreExact}
+use Rattle.driven_law.specs.Below.rounds_law.UnderWay.{IsUnderWay, HasEnded, RoundsEnd}
 use Rattle.lead_law.specs.Below.whole_law.Programs.{Given, RunsRight, ProgramsRunRight}
 use Rattle.lead_law.specs.Below.code_meaning.LeftByItsCode.{LeftByItsCode}
 use Rattle.lead_law.specs.Below.coloured_heap.Driven.{is_driven}
 use Rattle.lead_law.specs.Leads.{EachProgramIsLeft}
+use Rattle.right_order_law.specs.Laws.{RightInAnyOrder, LeftInAnyOrder}
 use Rattle.driven_law.specs.Driving.{RunsInRoundsAreDriven}
 use Rattle.waits_law.specs.Stands.{WaitsThere, EndsThere, ProgramsStandThere, DeadlocksWaitThere, ProgramsEndThere}
 use Rattle.right_law.specs.Right.{IsRight, RunsInRoundsAreRight}
@@ -96,7 +97,7 @@ Led = Cluster × List EntryView
 last_turn : (r : Run) → is_done r ≡ true → is_going (ending_of r.cluster) ≡ true → events_left r ≡ 0
 last_turn r done going = eqb-true (events_left r) 0 (sym (ap (λ b. not b || events_left r == 0) going) ∙ done)
 
-module _ (bounded : JournalsBounded) (keeps : EachKeepsCoherence) (tables : ProgramsHaveTables) (ends : RoundsEnd) (exact : EndsAreExact) (rights : ProgramsRunRight) (events : EachEventIsRight) (lefts : EachProgramIsLeft) (drives : RunsInRoundsAreDriven) (stand : ProgramsStandThere) (wait : DeadlocksWaitThere) (stop : ProgramsEndThere) where
+module _ (bounded : JournalsBounded) (keeps : EachKeepsCoherence) (tables : ProgramsHaveTables) (ends : RoundsEnd) (rights : ProgramsRunRight) (events : EachEventIsRight) (lefts : EachProgramIsLeft) (right_too : RightInAnyOrder) (left_too : LeftInAnyOrder) (drives : RunsInRoundsAreDriven) (stand : ProgramsStandThere) (wait : DeadlocksWaitThere) (stop : ProgramsEndThere) where
   -- a run in rounds that has ended, of a given program
   by_end : (t : Term) (o : Options) (code : List Instr) (run : Run) (g : IsGiven t code o) (e : HasEnded (Some run)) → e.run ≡ run → Keeps code o run → options_out o ≡ 0 → IsRight t o run.cluster run.journal
   by_end t o code run g e same kept within =
@@ -106,27 +107,21 @@ module _ (bounded : JournalsBounded) (keeps : EachKeepsCoherence) (tables : Prog
       ap (λ c. run_of (start_of c g.given.options) u.events) (g.coded ∙ sym kept.coded) ∙ ap (λ q. run_of (start_of run.cluster.code q) u.events) (g.options ∙ sym kept.options) ∙ u.leads in
       let long : length run.journal ≡ length u.events = given_by (λ (d : Led). length d.1 ≡ length u.events) (run_of (start_of g.given.code g.given.options) u.events) (u.ran, run.journal) (entries_long u.events (start_of g.given.code g.given.options)) led in
       let few : length u.events + 1 < 2 ^ 31 = omega (arith, long, kept.entries, few_turns o within) in
-      let right : RunsRight g.given (u.ran, run.journal) = given_by (RunsRight g.given) (run_of (start_of g.given.code g.given.options) u.events) (u.ran, run.journal) (rights g.given u.events few) led in
-      let left : LeftByItsCode u.ran run.journal =
-      given_by (λ (d : Led). LeftByItsCode d.0 d.1) (run_of (start_of g.given.code g.given.options) u.events) (u.ran, run.journal) (lefts g.given u.events (omega (arith, few))) led in
-      let coded : IsCodeOf u.ran.code (program t) = subst (λ c. IsCodeOf c (program t)) (g.coded ∙ sym kept.coded ∙ sym u.same.code) (subst (λ b. IsCodeOf g.given.code (program b)) g.term g.given.is) in
+      let there : RunsRight g.given (u.ran, run.journal) = given_by (RunsRight g.given) (run_of (start_of g.given.code g.given.options) u.events) (u.ran, run.journal) (rights g.given u.events few) led in
+      let right : RunsRight g.given (run.cluster, run.journal) = right_too g.given run.cluster u.ran run.journal u.same (omega (arith, there.left.events, long, few)) there in
+      let left : LeftByItsCode run.cluster run.journal =
+      left_too run.cluster u.ran run.journal u.same there.coherent (given_by (λ (d : Led). LeftByItsCode d.0 d.1) (run_of (start_of g.given.code g.given.options) u.events) (u.ran, run.journal) (lefts g.given u.events (omega (arith, few))) led) in
+      let coded : IsCodeOf run.cluster.code (program t) = subst (λ c. IsCodeOf c (program t)) (g.coded ∙ sym kept.coded) (subst (λ b. IsCodeOf g.given.code (program b)) g.term g.given.is) in
       record {
         given = g.given;
         term = g.term;
         options = g.options;
-        led = u.ran;
-        same = u.same;
         right = right;
         left = left;
-        stands = stand (program t) u.ran run.journal coded left.plain;
+        stands = stand (program t) run.cluster run.journal coded left.plain;
         driven = ap (λ (q : Options). is_driven q run.journal) (sym kept.options) ∙ drives events run u;
-        exact = λ over. exact run u over;
-        ends = λ over.
-            let very : u.ran ≡ run.cluster = exact run u over in
-            subst (λ k. EndsThere (program t) k run.journal) very (stop (program t) u.ran run.journal coded left.plain right.coherent (ap (λ k. is_going (ending_of k)) very ∙ over));
-        waits = λ dead.
-            let very : u.ran ≡ run.cluster = exact run u (ap is_going dead) in
-            subst (λ k. WaitsThere (program t) k run.journal) very (wait (program t) u.ran run.journal coded left.plain right.coherent (ap ending_of very ∙ dead));
+        ends = λ over. stop (program t) run.cluster run.journal coded left.plain right.coherent over;
+        waits = λ dead. wait (program t) run.cluster run.journal coded left.plain right.coherent dead;
         turns = λ going.
             let none = last_turn run done going in
             let limit : run.cluster.options.turns ≡ o.turns = ap (λ (q : Options). q.turns) kept.options in

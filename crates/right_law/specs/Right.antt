@@ -16,7 +16,6 @@ use Rattle.lead_law.specs.Below.whole_law.Below.server_model.Servers.{Cluster}
 use Rattle.drive_model.specs.Ending.{ending, is_going}
 use Rattle.drive_model.specs.Rounds.{Run, rounds}
 use Rattle.lead_law.specs.Below.whole_law.Below.heap_law.Naming.{options_out}
-use Rattle.driven_law.specs.Below.rounds_law.Order.{IsSameCluster}
 use Rattle.lead_law.specs.Below.whole_law.Programs.{Given, RunsRight}
 use Rattle.lead_law.specs.Below.code_meaning.LeftByItsCode.{LeftByItsCode}
 use Rattle.lead_law.specs.Below.coloured_heap.Driven.{is_driven}
@@ -27,25 +26,19 @@ pub record IsRight (t : Term) (o : Options) (k : Cluster) (es : List EntryView) 
   pub given : Given
   pub term : block_t given.at given.items ≡ t
   pub options : given.options ≡ o
-  -- events of its servers, one after another and each with its messages handed over, with the same journal; they lead to a cluster that is this
-  -- one but for the order in which messages wait
-  pub led : Cluster
-  pub same : IsSameCluster k led
-  -- that cluster is coherent and the journal is right: the program's own plain run, of its terms on one heap, is there under the journal's
-  -- order, with the journal's labels and prints; the messages that wait and those that were delivered are together as many as the journal's
-  -- acts send; and where it is finished nothing is left
-  pub right : RunsRight given (led, es)
+  -- it is coherent and the journal is right: the program's own plain run, of its terms on one heap, is there under the journal's order, with the
+  -- journal's labels and prints; the messages that wait and those that were delivered are together as many as the journal's acts send; and where
+  -- it is finished nothing is left
+  pub right : RunsRight given (k, es)
   -- and it is what the journal leaves: the journal is legal, each of its entries reaches what it loads and stores, and the words, owners, copies,
   -- messages and events that it leaves are the cluster's
-  pub left : LeftByItsCode led es
+  pub left : LeftByItsCode k es
   -- the program's own terms come under the journal's order to that cluster's one heap: the same threads, each at a term for which its code there
   -- stands and with the same slots, over the same objects and mutexes
-  pub stands : StandsThere (program t) led es
+  pub stands : StandsThere (program t) k es
   -- the journal is one that a driver can leave: each copy that is evicted was too many, and between two moves of a thread it does a plain step
   pub driven : is_driven o es ≡ true
-  -- where the run has come to an end, they lead to this very cluster
-  pub exact : is_going (ending k) ≡ false → led ≡ k
-  -- and else it has as many events as it may
+  -- where the run would go on, it has as many events as it may
   pub turns : is_going (ending k) ≡ true → length es ≡ o.turns
   -- where it has come to an end, so have the program's own terms: they have finished, or are deadlocked
   pub ends : is_going (ending k) ≡ false → EndsThere (program t) k es

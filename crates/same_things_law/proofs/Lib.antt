@@ -1,0 +1,10 @@
+pub mod Reordered
+pub mod Places
+pub mod Gathering
+pub mod Sights
+pub mod Memory
+pub mod Walks
+pub mod Asked
+pub mod Parts
+pub mod Words
+pub mod Sound

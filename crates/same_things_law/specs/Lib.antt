@@ -1,0 +1,2 @@
+pub mod SameThings
+pub mod Laws
