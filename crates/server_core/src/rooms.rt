@@ -12,7 +12,7 @@ ghost use Rattle.server_model.specs.Prepare.{assigned};
 use fr_base::{Code, Instr, Lval, NoMemory, ThreadNo};
 use heap_partition::{Cell, Owned};
 use server_msgs::Message;
-use server_parts::{Spares, Threads, Work};
+use server_parts::{Spares, Threads, Work, has_items};
 use thread_state::{Thread, Value};
 
 // How many stars a mutable reference that ends has.
@@ -96,8 +96,12 @@ pub(crate) fn step_room(
         return Ok(());
     };
     let stars = stars_at(instr, standing);
+    let has_items = has_items(standing, stars + 2);
     work.reserve(5 * stars + 7)?;
     slots_room(spares, instr)?;
+    if has_items {
+        return Ok(());
+    }
     threads.reserve_lists(thread, stars + 2)
 }
 

@@ -207,18 +207,25 @@ impl Server {
         }
     }
 
-    /// Takes out the first message to another server, with that server; `None` exactly where there is none. It takes some forty
-    /// steps, however many messages there are, and no memory.
+    /// The lists of an entry that isn't needed any more are there for those of the next event, so that `room` needn't make them anew. What the server
+    /// stands for is unchanged. It takes time linear in the entry's acts and labels, and no memory.
+    pub fn reuse(&mut self, entry: Entry)
+        ensures state { self.new.state ≡ self.old.state }
+        ensures kept { (self.new.code ≡ self.old.code) × (self.new.options ≡ self.old.options) }
+        ensures inbox_room { self.new.inbox_room ≡ self.old.inbox_room }
+    {
+        let Entry { acts, labels, .. } = entry;
+        self.work.reuse(acts, labels);
+    }
+
+    /// Takes out the first message to another server, with that server; `None` exactly where there is none. No memory.
     pub fn outbox(&mut self) -> Option<(u8, Message)>
         ensures taken { taken_out self.old.state ≡ (option_map sending result, self.new.state) }
         ensures kept { (self.new.code ≡ self.old.code) × (self.new.options ≡ self.old.options) }
         ensures room { self.new.inbox_room ≡ self.old.inbox_room }
     {
         let work: &mut Work = &mut self.work;
-        if work.outbox.len() == 0 {
-            return None;
-        }
-        Some(work.outbox.take(0))
+        work.outbox.pop_front()
     }
 
     /// Puts a message last in the list of waiting ones; where memory is wanting, it comes back and nothing changes.

@@ -18,7 +18,7 @@ pub use needing::access_of;
 pub use places::{cell_at, load_at, plain_of, pointer_of, put_at, put_slot, set_pointer, value_at};
 pub use spares::Spares;
 pub use spot::Spot;
-pub use threads::{Threads, can_step};
+pub use threads::{Threads, can_step, has_items};
 pub use uses::use_word;
 pub use words::{issue_colour, issue_renewal, issue_tint, place};
 pub use work::Work;

@@ -99,8 +99,8 @@ fn spare<T>(items: &Vec<T>) -> usize
     items.capacity() - items.len()
 }
 
-// Whether so many items more fit in each list of the thread.
-fn has_items(thread: &Thread, n: usize) -> bool
+/// Whether so many items more fit in each list of the thread. No memory.
+pub fn has_items(thread: &Thread, n: usize) -> bool
     ensures yes { IsTrue result → n ≤ thread.now.room }
     ensures no { result ≡ false → thread.now.room < n }
 {

@@ -18,6 +18,7 @@ use rank_map::Queue;
 use read_cache::Cache;
 use server_msgs::Message;
 use std::alloc::Global;
+use std::collections::VecDeque;
 use std::marker::Model;
 use std::mem;
 
@@ -38,8 +39,8 @@ pub struct Work {
     pub tasks: Tasks,
     /// The messages that wait here.
     pub inbox: Queue<Message>,
-    /// The messages to other servers.
-    pub outbox: Queue<(u8, Message)>,
+    /// The messages to other servers, the first one first.
+    pub outbox: VecDeque<(u8, Message)>,
     /// How many threads it has started.
     pub started: u32,
     /// The acts of the event so far.
@@ -54,7 +55,8 @@ pub struct Work {
 }
 
 impl Model for Work {
-    ghost use Rattle.std.specs.Prelude.{◌≡◌, ◌+◌, ◌≤◌, [], length};
+    ghost use Rattle.std.specs.Prelude.{◌≡◌, ◌+◌, ◌-◌, ◌≤◌, [], length};
+    ghost use Rattle.std.specs.VecDeque.{deque_capacity, deque_len};
     ghost use Rattle.server_parts.specs.Works.{WorkView, HasRooms, sendings};
 
     ghost Value = { WorkView };
@@ -79,7 +81,7 @@ impl Model for Work {
       inbox_room = w.inbox.room;
     } };
 
-    ghost invariant = { λ w. HasRooms w.room w.inbox.room w.outbox.room w.partition.room w.mutexes.room.mutexes w.mutexes.room.threads w.tasks.room w.acts.spare w.labels.spare × (w.asked.items ≡ []) × (length w.acts.items + w.room ≤ w.asked.spare) };
+    ghost invariant = { λ w. HasRooms w.room w.inbox.room (deque_capacity w.outbox - deque_len w.outbox) w.partition.room w.mutexes.room.mutexes w.mutexes.room.threads w.tasks.room w.acts.spare w.labels.spare × (w.asked.items ≡ []) × (length w.acts.items + w.room ≤ w.asked.spare) };
 }
 
 // Whether an act is a hop.
@@ -131,7 +133,7 @@ impl Work {
             mutexes: Mutexes::new(alloc, number),
             tasks: Tasks::new(alloc),
             inbox: Queue::new(alloc),
-            outbox: Queue::new(alloc),
+            outbox: VecDeque::new(alloc),
             started: 0,
             acts: Acts::new(alloc),
             labels: Labels::new(alloc),
@@ -227,7 +229,10 @@ impl Work {
         if target == self.number {
             self.inbox.push(message);
         } else {
-            self.outbox.push((target, message));
+            match self.outbox.push_back((target, message)) {
+                Ok(()) => {}
+                Err(_) => unreachable!(),
+            }
         }
         self.room -= 1;
     }
@@ -301,6 +306,21 @@ impl Work {
             acts,
             labels,
         }
+    }
+
+    /// Lists whose acts and labels aren't needed any more are there for those of the next event, with the room that they have; nothing is noted.
+    /// The state is unchanged. It takes time linear in what stands in them.
+    pub fn reuse(&mut self, acts: Acts, labels: Labels)
+        requires nothing { (self.old.state.acts ≡ []) × (self.old.state.labels ≡ []) }
+        ensures state { self.new.state ≡ self.old.state }
+        ensures copies { self.new.copies ≡ self.old.copies }
+        ensures inbox_room { self.new.inbox_room ≡ self.old.inbox_room }
+    {
+        self.room = 0;
+        self.acts = acts;
+        self.acts.clear();
+        self.labels = labels;
+        self.labels.clear();
     }
 
     /// An owned value goes: whoever has what it leads to is told.
