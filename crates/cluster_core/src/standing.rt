@@ -9,15 +9,6 @@ ghost use Rattle.cluster_core.specs.Views.{states};
 use fr_base::Ending3;
 use server_core::Server;
 
-// Of some servers: whether no message waits, in an inbox or an outbox; whether all threads are over; whether each is over or waits at a lock, a join or a
-// pair.
-#[derive(Clone, Copy)]
-pub(crate) struct Standing {
-    quiet: bool,
-    over: bool,
-    stopped: bool,
-}
-
 // Whether no message waits there.
 fn is_quiet(server: &Server) -> bool
     ensures { result ≡ is_quiet server.now.state }
@@ -40,39 +31,45 @@ fn is_stopped(server: &Server) -> bool
     active == 0 || server.waits_at((active - 1) as usize).is_some()
 }
 
-// How the servers stand together.
-fn together(servers: &[Server]) -> Standing
-    ensures quiet { result.quiet ≡ no_message (states servers.now) }
-    ensures over { result.over ≡ all_in is_over (states servers.now) }
-    ensures stopped { result.stopped ≡ all_in is_stopped (states servers.now) }
+// Whether no message waits at some servers.
+fn no_message(servers: &[Server]) -> bool
+    ensures { result ≡ no_message (states servers.now) }
 {
     match servers {
-        [] => Standing {
-            quiet: true,
-            over: true,
-            stopped: true,
-        },
-        [server, rest @ ..] => {
-            let others = together(rest);
-            Standing {
-                quiet: is_quiet(server) && others.quiet,
-                over: all_over(server) && others.over,
-                stopped: is_stopped(server) && others.stopped,
-            }
-        }
+        [] => true,
+        [server, rest @ ..] => is_quiet(server) && no_message(rest),
     }
 }
 
-// Whether the servers have come to an end, can't go on, or do.
+// Whether all threads of some servers are over.
+fn are_over(servers: &[Server]) -> bool
+    ensures { result ≡ all_in is_over (states servers.now) }
+{
+    match servers {
+        [] => true,
+        [server, rest @ ..] => all_over(server) && are_over(rest),
+    }
+}
+
+// Whether each thread of some servers that isn't over waits at a lock, a join or a pair.
+fn are_stopped(servers: &[Server]) -> bool
+    ensures { result ≡ all_in is_stopped (states servers.now) }
+{
+    match servers {
+        [] => true,
+        [server, rest @ ..] => is_stopped(server) && are_stopped(rest),
+    }
+}
+
+// Whether the servers have come to an end, can't go on, or do: no more is asked than tells it.
 pub(crate) fn ending_of(servers: &[Server]) -> Ending3
     ensures { result ≡ ending_of (no_message (states servers.now)) (all_in is_over (states servers.now)) (all_in is_stopped (states servers.now)) }
 {
-    let stands = together(servers);
-    if !stands.quiet {
+    if !no_message(servers) {
         Ending3::Going
-    } else if stands.over {
+    } else if are_over(servers) {
         Ending3::Finished
-    } else if stands.stopped {
+    } else if are_stopped(servers) {
         Ending3::Deadlocked
     } else {
         Ending3::Going
