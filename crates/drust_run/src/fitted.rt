@@ -19,8 +19,8 @@ fn copied<T: Copy + Drop>(alloc: Global, items: &[T]) -> Result<List<T>, NoMemor
 }
 
 // The same entry, whose lists are hardly longer than what stands in them.
-pub(crate) fn fitted(alloc: Global, entry: Entry) -> Result<Entry, NoMemory>
-    ensures { IfOk result (λ e. e ≡ entry) }
+pub(crate) fn fitted(alloc: Global, entry: &Entry) -> Result<Entry, NoMemory>
+    ensures { IfOk result (λ e. e ≡ entry.now) }
 {
     let acts = copied(alloc, entry.acts.as_slice())?;
     let labels = copied(alloc, entry.labels.as_slice())?;

@@ -29,6 +29,20 @@ pub(crate) fn act(server: &mut Server, what: &What) -> Result<Entry, NoMemory>
     Ok(server.act(*what))
 }
 
+// The same, with the entry in lists hardly longer than what stands in them; the server uses again those in which it wrote.
+fn act_fitted(alloc: Global, server: &mut Server, what: &What) -> Result<Entry, NoMemory>
+    requires enabled { enabled server.old.options server.old.state what.now ≡ true }
+    requires result { IsSome (does server.old.code server.old.options server.old.state what.now) }
+    requires counts { CountsLeft server.old.state }
+    ensures done { IfOk result (λ e. does server.old.code server.old.options server.old.state what.now ≡ Some (server.new.state, e)) }
+    ensures kept { (server.new.code ≡ server.old.code) × (server.new.options ≡ server.old.options) }
+{
+    let written = act(server, what)?;
+    let entry = fitted(alloc, &written)?;
+    server.reuse(written);
+    Ok(entry)
+}
+
 // At most so many events of a server, each the next one, until it has none.
 fn quantum(
     server: &mut Server,
@@ -47,7 +61,7 @@ fn quantum(
         let Some(what) = next(server, choice) else {
             return Ok(());
         };
-        entries.push(fitted(alloc, act(server, &what)?)?)?;
+        entries.push(act_fitted(alloc, server, &what)?)?;
     }
     Ok(())
 }

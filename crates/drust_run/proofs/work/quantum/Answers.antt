@@ -36,44 +36,44 @@ returns-in_default-clause-worked c =
 pub returns-in_default-clause-kept : goal.returns-in_default-clause-kept
 returns-in_default-clause-kept c = (c.events.invariant.code, c.events.invariant.options)
 
-pub act-requires-clause-result : goal.act-requires-clause-result
-act-requires-clause-result c =
+pub act_fitted-requires-clause-result : goal.act_fitted-requires-clause-result
+act_fitted-requires-clause-result c =
     let inv = c.events.invariant in
     let can = next_can c.args.most c.events.counter c.events.server c.events.choice c.in-Some.what c.next.new.choice c.events-test.true (omega (arith, ap length inv.code, c.requires.short)) inv.able c.in-Some.ensures.next in
     can.result
 
-pub act-requires-clause-counts : goal.act-requires-clause-counts
-act-requires-clause-counts c =
+pub act_fitted-requires-clause-counts : goal.act_fitted-requires-clause-counts
+act_fitted-requires-clause-counts c =
     let inv = c.events.invariant in
     let can = next_can c.args.most c.events.counter c.events.server c.events.choice c.in-Some.what c.next.new.choice c.events-test.true (omega (arith, ap length inv.code, c.requires.short)) inv.able c.in-Some.ensures.next in
     can.counts
 
-pub returns-in_err-act-clause-kept : goal.returns-in_err-act-clause-kept
-returns-in_err-act-clause-kept c = (c.act.ensures.kept.0 ∙ c.events.invariant.code, c.act.ensures.kept.1 ∙ c.events.invariant.options)
+pub returns-in_err-act_fitted-clause-kept : goal.returns-in_err-act_fitted-clause-kept
+returns-in_err-act_fitted-clause-kept c = (c.act_fitted.ensures.kept.0 ∙ c.events.invariant.code, c.act_fitted.ensures.kept.1 ∙ c.events.invariant.options)
 
 pub returns-in_err-push-clause-kept : goal.returns-in_err-push-clause-kept
-returns-in_err-push-clause-kept c = (c.act.ensures.kept.0 ∙ c.events.invariant.code, c.act.ensures.kept.1 ∙ c.events.invariant.options)
+returns-in_err-push-clause-kept c = (c.act_fitted.ensures.kept.0 ∙ c.events.invariant.code, c.act_fitted.ensures.kept.1 ∙ c.events.invariant.options)
 
 pub events-preserved : goal.events-preserved
 events-preserved c =
     let v = c.events.server in
-    let u = c.act.new.server in
+    let u = c.act_fitted.new.server in
     let n = c.args.most - (c.events.counter + 1) in
-    let e = c.in_ok-act.field-0 in
+    let e = c.in_ok-act_fitted.field-0 in
     let inv = c.events.invariant in
     let can = next_can c.args.most c.events.counter v c.events.choice c.in-Some.what c.next.new.choice c.events-test.true (omega (arith, ap length inv.code, c.requires.short)) inv.able c.in-Some.ensures.next in
-    let done : does v.code v.options v.state c.in-Some.what ≡ Some (u.state, e) = c.in_ok-act.ensures.done in
+    let done : does v.code v.options v.state c.in-Some.what ≡ Some (u.state, e) = c.in_ok-act_fitted.ensures.done in
     let after : CanWork v.code v.options n u.state c.next.new.choice = can.onward u.state e done in
     let others = work u.code u.options n u.state c.next.new.choice in
     let same : others ≡ work v.code v.options n u.state c.next.new.choice =
-    ap (λ x. work x u.options n u.state c.next.new.choice) c.act.ensures.kept.0 ∙ ap (λ x. work v.code x n u.state c.next.new.choice) c.act.ensures.kept.1 in
+    ap (λ x. work x u.options n u.state c.next.new.choice) c.act_fitted.ensures.kept.0 ∙ ap (λ x. work v.code x n u.state c.next.new.choice) c.act_fitted.ensures.kept.1 in
     let one : c.args.most - c.events.counter ≡ suc n = omega (arith, c.events-test.true) in
-    let entries : c.push.new.self.items ≡ c.events.entries.items ++ e ∷ [] = c.in_ok-push.ensures.items ∙ ap (λ x. c.events.entries.items ++ x ∷ []) c.in_ok-fitted.ensures in
+    let entries : c.push.new.self.items ≡ c.events.entries.items ++ e ∷ [] = c.in_ok-push.ensures.items in
     record {
-      code = c.act.ensures.kept.0 ∙ inv.code;
-      options = c.act.ensures.kept.1 ∙ inv.options;
+      code = c.act_fitted.ensures.kept.0 ∙ inv.code;
+      options = c.act_fitted.ensures.kept.1 ∙ inv.options;
       within = omega (arith, c.events-test.true);
-      able = subst (λ x. CanWork x u.options n u.state c.next.new.choice) (sym c.act.ensures.kept.0) (subst (λ x. CanWork v.code x n u.state c.next.new.choice) (sym c.act.ensures.kept.1) after);
+      able = subst (λ x. CanWork x u.options n u.state c.next.new.choice) (sym c.act_fitted.ensures.kept.0) (subst (λ x. CanWork v.code x n u.state c.next.new.choice) (sym c.act_fitted.ensures.kept.1) after);
       same =
           ap (λ l. option_map (with_before l) others) entries
           ∙ ap (option_map (with_before (c.events.entries.items ++ e ∷ []))) same
