@@ -1,12 +1,12 @@
 """How the benchmarks time a program."""
 import os, subprocess, time
 
-def timed(command, text="", processor=False):
-    """The best of five runs with that text on standard input: its seconds, or its processor seconds, which other work on the machine
+def timed(command, text="", processor=False, runs=5):
+    """The best of so many runs with that text on standard input: its seconds, or its processor seconds, which other work on the machine
     changes less; of the last run the exit status and the output; and the most memory that any of them took, in bytes (never less than
     this interpreter's own, since they start as copies of it)."""
     best, peak = None, 0
-    for _ in range(5):
+    for _ in range(runs):
         start = time.perf_counter()
         process = subprocess.Popen(command, stdin=subprocess.PIPE, stdout=subprocess.PIPE)
         process.stdin.write(text.encode())
