@@ -14,8 +14,6 @@ use Rattle.fr_base.specs.declared.step.Ending3.TheVariants.{Finished, Deadlocked
 use Rattle.journal.specs.View.{EntryView}
 use Rattle.server_model.specs.Servers.{Cluster}
 use Rattle.drive_model.specs.Rounds.{Run, rounds}
-use Rattle.type_law.specs.ClusterTypes.{IsCoherent}
-use Rattle.rounds_law.specs.Order.{IsSameCluster}
 
 -- the cluster and the journal are those of the run, by the definition, of the program's code, but for the room of its lists
 pub record IsRunOf (p : Program) (o : Options) (k : Cluster) (journal : List EntryView) : Type 0 where
@@ -25,12 +23,6 @@ pub record IsRunOf (p : Program) (o : Options) (k : Cluster) (journal : List Ent
   pub is : rounds code o ≡ Some run
   pub cluster : run.cluster ≡ k
   pub entries : run.journal ≡ journal
-
--- it is coherent, with its messages in some order in which they could wait
-pub record IsCoherentButOrder (k : Cluster) : Type 0 where
-  pub other : Cluster
-  pub coherent : IsCoherent other
-  pub same : IsSameCluster k other
 
 -- how a run ended whose cluster stands so: one that goes on is unfinished
 abbrev pub ended : Ending3 → Ending

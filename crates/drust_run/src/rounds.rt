@@ -12,9 +12,10 @@ ghost use Rattle.cluster_core.specs.Views.{events_in};
 ghost use Rattle.drive_model.specs.Ending.{ending};
 ghost use Rattle.drive_model.specs.Rounds.{generators_from, run_start, is_done, rounds_from};
 ghost use Rattle.run_law.specs.Runs.{EachKeepsCoherence};
+ghost use Rattle.type_law.specs.ClusterTypes.{IsCoherent};
 ghost use Rattle.rounds_law.specs.UnderWay.{IsUnderWay};
 ghost use Rattle.drust_run.specs.Drives.{run_of};
-ghost use Rattle.drust_run.specs.Runs.{IsCoherentButOrder, IsRunOf, ended};
+ghost use Rattle.drust_run.specs.Runs.{IsRunOf, ended};
 
 use crate::balance::even_out;
 use crate::drive::Drive;
@@ -30,6 +31,7 @@ use rounds_law::{rounds_go_on, starts_are_under_way};
 use std::alloc::Global;
 use std::sync::Arc;
 use std::thread::Threads;
+use waiting_order_law::coherent_in_any_order;
 
 // The generators of so many servers.
 fn choices_of(alloc: Global, options: &Options) -> Result<Vec<Choice>, NoMemory>
@@ -118,11 +120,12 @@ pub fn run_rounds<G: Gate + Sync, R: Threads + Sync>(
     requires options { options_out options.now ≡ 0 }
     ensures run { IfOk result (λ ran. IsRunOf (arc_value checked.now) options.now ran.cluster.state ran.journal.items) }
     ensures ending { IfOk result (λ ran. ran.ending ≡ ended (ending ran.cluster.state)) }
-    ensures coherent { IfOk result (λ ran. IsCoherentButOrder ran.cluster.state) }
+    ensures coherent { IfOk result (λ ran. IsCoherent ran.cluster.state) }
     ensures sent { IfOk result (λ ran. outboxes ran.cluster.state.servers ≡ []) }
     ensures program { IfOk result (λ ran. ran.cluster.program ≡ arc_value checked.now) }
 {
     events_keep_coherence();
+    coherent_in_any_order();
     let start = start(alloc, checked, options)?;
     let last = drive_on(rt, alloc, start, options.turns, gate)?;
     let ending = ended(last.cluster.ending());

@@ -16,7 +16,7 @@ returns-clause-run g c = record {
 pub returns-clause-coherent : goal.returns-clause-coherent
 returns-clause-coherent g c =
     let way = c.in_ok-last.ensures.way in
-    record { other = way.ran; coherent = way.coherent; same = way.same }
+    c.coherent_in_any_order.ensures.coherent c.in_ok-last.last.cluster.state way.ran way.same way.coherent
 
 pub returns-clause-sent : goal.returns-clause-sent
 returns-clause-sent g c = let way = c.in_ok-last.ensures.way in way.sent
