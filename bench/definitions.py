@@ -29,7 +29,15 @@ class File:
         current = None
         with open(path, encoding="utf-8") as file:
             text = uncommented(file.read())
+        base = 0
         for line in text.split("\n"):
+            # what stands in a module with parameters stands two blanks further in
+            indent = len(line) - len(line.lstrip())
+            base = min(base, indent) if line.strip() else base
+            if line[base:].startswith("module "):
+                base += 2
+                continue
+            line = line[base:]
             found = IMPORT.match(line.strip())
             if found and not line.startswith(" "):
                 is_pub, module, names, other = found.groups()
