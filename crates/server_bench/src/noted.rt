@@ -51,7 +51,7 @@ impl Noted {
         }
     }
 
-    // Keeps an entry, where they are kept.
+    // Keeps an entry, where they are kept. A journal takes none that does a plain step of no thread, and no event has such an entry.
     fn keep(&mut self, entry: Entry) -> Result<(), NoMemory> {
         match &mut self.journal {
             Some(journal) if entry.done.is_none() || entry.thread.is_some() => journal.push(entry),

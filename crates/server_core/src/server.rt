@@ -218,7 +218,7 @@ impl Server {
         self.work.reuse(acts, labels);
     }
 
-    /// Takes out the first message to another server, with that server; `None` exactly where there is none. No memory.
+    /// Takes out the first message to another server, with that server; `None` exactly where there is none. It takes constant time and no memory.
     pub fn outbox(&mut self) -> Option<(u8, Message)>
         ensures taken { taken_out self.old.state ≡ (option_map sending result, self.new.state) }
         ensures kept { (self.new.code ≡ self.old.code) × (self.new.options ≡ self.old.options) }
