@@ -38,7 +38,7 @@ enum Do {
 }
 
 // What is done at which key, the item that comes out, and the keys of the items that are there then, by their ranks.
-const STEPS: [(Do, u64, Option<u64>, &[u64]); 7] = [
+const STEPS: [(Do, u64, Option<u64>, &[u64]); 14] = [
     (Do::Put(50), 5, None, &[5]),
     (Do::Put(30), 3, None, &[3, 5]),
     (Do::Put(90), LAST, None, &[3, 5, LAST]),
@@ -46,6 +46,15 @@ const STEPS: [(Do, u64, Option<u64>, &[u64]); 7] = [
     (Do::Take(false), 5, Some(50), &[3, LAST]),
     (Do::Take(true), 3, Some(31), &[LAST]),
     (Do::Put(51), 5, None, &[5, LAST]),
+    // keys at the edges of blocks of sixteen
+    (Do::Put(150), 15, None, &[5, 15, LAST]),
+    (Do::Put(320), 32, None, &[5, 15, 32, LAST]),
+    (Do::Put(160), 16, None, &[5, 15, 16, 32, LAST]),
+    // the last places of two blocks go
+    (Do::Take(true), 16, Some(160), &[5, 15, 32, LAST]),
+    (Do::Take(true), 5, Some(51), &[15, 32, LAST]),
+    (Do::Take(true), 15, Some(150), &[32, LAST]),
+    (Do::Put(161), 16, None, &[16, 32, LAST]),
 ];
 
 #[test]
@@ -73,6 +82,27 @@ fn finds_by_key_and_by_rank(rt: HostRuntime) -> Result<(), Fail> {
             None => None,
         };
         assert_eq!(rt; there, kept);
+    }
+    Ok(())
+}
+
+// So many keys, a prime number.
+const MANY: u64 = 257;
+
+#[test]
+fn fills_and_empties_in_other_orders(rt: HostRuntime) -> Result<(), Fail> {
+    let mut map = RankMap::new(rt.alloc());
+    for turn in 0..MANY {
+        assert_eq!(rt; put(&mut map, turn * 37 % MANY, turn)?, None);
+    }
+    for turn in 0..MANY {
+        assert_eq!(rt; map.nth(turn as usize), Some(turn));
+    }
+    for turn in 0..MANY {
+        let key = turn * 101 % MANY;
+        // 37 times 132 is 1 more than a multiple of 257
+        assert_eq!(rt; take(&mut map, key, true)?, Some(key * 132 % MANY));
+        assert_eq!(rt; map.len() as u64, MANY - 1 - turn);
     }
     Ok(())
 }

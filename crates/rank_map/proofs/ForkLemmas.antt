@@ -1,10 +1,10 @@
 -- What the two parts of a fork say of all its places.
-use Rattle.std.proofs.Common.{◌≡◌, ℕ, ◌+◌, ◌-◌, ◌<◌, ◌≤◌, ◌^◌, Bool, true, false, true≢false, nat_lt, ◌==◌, is_some, if◌then◌else◌, List, [], ◌∷◌, ◌++◌, length, slice_get, Option, None, Some, Box, Result, Ok, Err, OnOk, OnErr, refl, sym, subst, ap, ◌∙◌, arith, length-append}
-use Rattle.std.proofs.lemmas.Bool.{eqb-true, eq-eqb, lt-ltb, le-ltb, ltb-true, ltb-false}
+use Rattle.std.proofs.Common.{◌≡◌, ℕ, ◌+◌, ◌-◌, ◌<◌, ◌≤◌, ◌^◌, Bool, true, false, true≢false, nat_lt, is_some, if◌then◌else◌, List, [], ◌∷◌, ◌++◌, length, slice_get, Option, None, Some, Box, Result, Ok, Err, OnOk, OnErr, refl, sym, subst, ap, ◌∙◌, arith, length-append}
+use Rattle.std.proofs.lemmas.Bool.{lt-ltb, le-ltb, ltb-true, ltb-false}
 use Rattle.std.specs.declared.alloc.Global.{Global}
 use Rattle.rank_map.specs.Places.{Place, place_at, item_in, has_place, item_at, with_place, count_of, entries, Rises}
 use Rattle.rank_map.specs.declared.tree.Fork.{Fork as Parts}
-use Rattle.rank_map.specs.declared.tree.Leaf.{Leaf as One}
+use Rattle.rank_map.specs.Blocks.{BlockView}
 use Rattle.rank_map.specs.declared.tree.Node.{Node}
 use Rattle.rank_map.specs.declared.tree.Node.TheVariants.{Leaf, Fork}
 use Rattle.rank_map.specs.Nodes.{IsFork, IsNode, places_in}
@@ -69,35 +69,9 @@ pub at_fork : {T : Type 0} {v : List (Place T)} {node : Node T} {fork : Box (Par
 at_fork {v = v} view_is good is same =
     subst (λ f. AtFork v f.from f.middle f.to f.count f.low f.high) (sym same) (record { places = sym view_is ∙ ap places_in is; fork = subst IsNode is good })
 
-leaf_key : {T : Type 0} (key k : ℕ) (x : Option T) → has_place (record { key = key; item = x } ∷ []) k ≡ true → key ≡ k
-leaf_key key k x h = by (key == k) refl
-  where
-    by : (b : Bool) → (key == k) ≡ b → key ≡ k
-    by true e = eqb-true key k e
-    by false e = absurd (true≢false (sym h ∙ ap (λ b. is_some (if b then Some x else None)) e))
-
--- a leaf's item is that of the key that has a place
-pub leaf_item : {T : Type 0} {v : List (Place T)} {node : Node T} {leaf : Box (One T) Global} {l : One T} (k : ℕ) → places_in node ≡ v → node ≡ Leaf leaf → l ≡ leaf.value → has_place v k ≡ true → l.item ≡ item_at v k
-leaf_item {T} {v} {node} {leaf} {l} k view_is is same there = subst (λ ps. has_place ps k ≡ true → l.item ≡ item_at ps k) all here there
-  where
-    all : record { key = l.key; item = l.item } ∷ [] ≡ v
-    all = ap (λ o. record { key = o.key; item = o.item } ∷ []) same ∙ sym (ap places_in is) ∙ view_is
-
-    here : has_place (record { key = l.key; item = l.item } ∷ []) k ≡ true → l.item ≡ item_at (record { key = l.key; item = l.item } ∷ []) k
-    here h = rw (eq-eqb l.key k (leaf_key l.key k l.item h)) refl
-
--- and another item there is another place
-pub leaf_swapped : {T : Type 0} {v : List (Place T)} {node : Node T} {leaf : Box (One T) Global} {l : One T} {x y : Option T} (k : ℕ) → places_in node ≡ v → node ≡ Leaf leaf → l ≡ leaf.value → has_place v k ≡ true → y ≡ x
-    → record { key = l.key; item = y } ∷ [] ≡ with_place v k (Some x)
-leaf_swapped {T} {v} {node} {leaf} {l} {x} {y} k view_is is same there now = subst (λ ps. has_place ps k ≡ true → record { key = l.key; item = y } ∷ [] ≡ with_place ps k (Some x)) all here there
-  where
-    all : record { key = l.key; item = l.item } ∷ [] ≡ v
-    all = ap (λ o. record { key = o.key; item = o.item } ∷ []) same ∙ sym (ap places_in is) ∙ view_is
-
-    here : has_place (record { key = l.key; item = l.item } ∷ []) k ≡ true → record { key = l.key; item = y } ∷ [] ≡ with_place (record { key = l.key; item = l.item } ∷ []) k (Some x)
-    here h =
-        let key = leaf_key l.key k l.item h in
-        rw (le-ltb k l.key (omega (arith, key)), eq-eqb l.key k key) (rw (now, key) refl)
+-- a leaf's places are its block's
+pub at_leaf : {T : Type 0} {v : List (Place T)} {node : Node T} {block : BlockView T} → places_in node ≡ v → node ≡ Leaf block → block.places ≡ v
+at_leaf view_is is = sym (ap places_in is) ∙ view_is
 
 -- what a tree is seen as once one of its parts was changed at a key
 pub record IsSeen {T : Type 0} (v : List (Place T)) (k : ℕ) (new : Option (Option T)) (from middle to items : ℕ) (low high : List (Place T)) : Type 0 where

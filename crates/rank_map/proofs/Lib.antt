@@ -2,4 +2,5 @@ pub mod PlaceLemmas
 pub mod RankLemmas
 pub mod MarkLemmas
 mod ForkLemmas
+mod BlockLemmas
 mod QueueLemmas

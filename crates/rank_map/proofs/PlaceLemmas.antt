@@ -115,7 +115,7 @@ with_high (p ∷ ps) qs low middle k new r h =
     let bound = rises_bounds ps (p.key + 1) middle r.1 in
     rw (le-ltb k p.key (omega (arith, h, bound)), differ p.key k (λ e. omega (arith, e, h, bound))) (ap (λ xs. p ∷ xs) (with_high ps qs (p.key + 1) middle k new r.1 h))
 
-first_rises : {T : Type 0} (k : ℕ) (new : Option (Option T)) (ps : List (Place T)) (low high : ℕ) → low ≤ k → Rises (k + 1) high ps → Rises low high (put_first k new ps)
+pub first_rises : {T : Type 0} (k : ℕ) (new : Option (Option T)) (ps : List (Place T)) (low high : ℕ) → low ≤ k → Rises (k + 1) high ps → Rises low high (put_first k new ps)
 first_rises k None ps low high h r = rises_lower ps low (k + 1) high (omega (arith, h)) r
 first_rises k (Some x) ps low high h r = (h, r)
 
@@ -149,7 +149,7 @@ first_count : {T : Type 0} (k : ℕ) (x : Option T) (es : List (Entry T)) → le
 first_count k None es = omega arith
 first_count k (Some x) es = omega arith
 
-put_count : {T : Type 0} (k : ℕ) (new : Option (Option T)) (ps : List (Place T)) → length (entries (put_first k new ps)) ≡ count_of (item_in new) + length (entries ps)
+pub put_count : {T : Type 0} (k : ℕ) (new : Option (Option T)) (ps : List (Place T)) → length (entries (put_first k new ps)) ≡ count_of (item_in new) + length (entries ps)
 put_count k None ps = omega arith
 put_count k (Some x) ps = first_count k x (entries ps)
 

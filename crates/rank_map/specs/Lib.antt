@@ -1,4 +1,5 @@
 pub mod Places
+pub mod Blocks
 pub mod Nodes
 pub mod Queues
 pub mod Marks

@@ -2,6 +2,7 @@
 //! queue from whose middle items can be taken (both this project's own).
 #![tactic(auto)]
 
+mod block;
 mod map;
 mod queue;
 mod tree;

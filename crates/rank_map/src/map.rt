@@ -115,6 +115,8 @@ impl<T: Drop> RankMap<T> {
         ensures item { result ≡ item_at self.old key }
         ensures places { self.new ≡ with_place self.old key None }
     {
-        self.tree.remove(key)
+        let mut standing = None;
+        self.tree.remove(key, &mut standing);
+        standing
     }
 }

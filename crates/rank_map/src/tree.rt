@@ -3,6 +3,7 @@
 ghost use Rattle.std.specs.Prelude.{◌≡◌, ◌+◌, ◌^◌, ◌<◌, ◌≤◌, [], ◌∷◌, ◌++◌, true, false, None, Some, length, option_map, slice_get, IsTrue, IfOk, OnOk, OnErr};
 ghost use Rattle.rank_map.specs.Places.{place_at, has_place, item_in, item_at, with_place, count_of, entries, Rises};
 
+use crate::block::{Block, count_of};
 use crate::map::KEYS;
 use fr_base::NoMemory;
 use std::alloc::Global;
@@ -21,15 +22,9 @@ pub(crate) struct Tree<T> {
 enum Node<T> {
     // No place, which is so only of a whole tree.
     Empty,
-    Leaf(Box<Leaf<T>>),
+    // never without a place
+    Leaf(Block<T>),
     Fork(Box<Fork<T>>),
-}
-
-// One place.
-#[derive(Drop)]
-struct Leaf<T> {
-    key: u64,
-    item: Option<T>,
 }
 
 // The places below the middle, and those from there on. All keys are among those from `from` on and below `to`: these are the keys
@@ -64,13 +59,6 @@ impl<T> Model for Tree<T> {
     ghost size_decreases = { λ a h. Prim.grind (arith, length-append) };
 }
 
-// One item, or none.
-fn count_of<T>(item: &Option<T>) -> usize
-    ensures { result ≡ count_of item.now }
-{
-    usize::from(item.is_some())
-}
-
 // The number above `low` and not above `high` that has the most zeros at its end.
 fn middle(low: u64, high: u64) -> u64
     requires { low < high }
@@ -89,9 +77,10 @@ fn make_leaf<T: Drop>(alloc: Global, key: u64) -> Result<Tree<T>, NoMemory>
     requires few { key < 2 ^ 40 }
     ensures { IfOk result (λ tree. tree ≡ record { key = key; item = None } ∷ []) }
 {
-    let leaf = Box::new(alloc, Leaf { key, item: None })?;
+    let mut block = Block::new(alloc, key)?;
+    block.reserve(key);
     Ok(Tree {
-        node: Node::Leaf(leaf),
+        node: Node::Leaf(block),
     })
 }
 
@@ -132,7 +121,7 @@ impl<T: Drop> Tree<T> {
     {
         match &self.node {
             Node::Empty => 0,
-            Node::Leaf(leaf) => usize::from(leaf.item.is_some()),
+            Node::Leaf(block) => block.len(),
             Node::Fork(fork) => fork.count,
         }
     }
@@ -143,8 +132,7 @@ impl<T: Drop> Tree<T> {
     {
         match &self.node {
             Node::Empty => None,
-            Node::Leaf(leaf) if key == leaf.key => Some(&leaf.item),
-            Node::Leaf(_) => None,
+            Node::Leaf(block) => block.place(key),
             Node::Fork(fork) => {
                 let fork = &**fork;
                 if key < fork.middle {
@@ -162,7 +150,7 @@ impl<T: Drop> Tree<T> {
     {
         match &self.node {
             Node::Empty => None,
-            Node::Leaf(leaf) => (at == 0 && leaf.item.is_some()).then_some(leaf.key),
+            Node::Leaf(block) => block.nth(at),
             Node::Fork(fork) => {
                 let fork = &**fork;
                 let below = fork.low.len();
@@ -187,13 +175,15 @@ impl<T: Drop> Tree<T> {
                 *self = make_leaf(alloc, key)?;
                 Ok(())
             }
-            Node::Leaf(leaf) => {
-                let leaf = &mut **leaf;
-                let at = leaf.key;
-                if key < at {
-                    self.add_below(alloc, key, at, at + 1)
+            Node::Leaf(block) => {
+                let (from, to) = block.range();
+                if key < from {
+                    self.add_below(alloc, key, from, to)
+                } else if to <= key {
+                    self.add_above(alloc, key, from, to)
                 } else {
-                    self.add_above(alloc, key, at, at + 1)
+                    block.reserve(key);
+                    Ok(())
                 }
             }
             Node::Fork(fork) => {
@@ -290,7 +280,7 @@ impl<T: Drop> Tree<T> {
     {
         match &mut self.node {
             Node::Empty => unreachable!(),
-            Node::Leaf(leaf) => mem::swap(&mut leaf.item, item),
+            Node::Leaf(block) => block.swap(key, item),
             Node::Fork(fork) => {
                 let fork = &mut **fork;
                 let more = count_of(item);
@@ -305,39 +295,38 @@ impl<T: Drop> Tree<T> {
         }
     }
 
-    // Takes a key's place out with its item. There is such a place.
-    pub(crate) fn remove(&mut self, key: u64) -> Option<T>
+    // Takes a key's place out, and its item. There is such a place.
+    pub(crate) fn remove(&mut self, key: u64, item: &mut Option<T>)
         requires place { has_place self.old key ≡ true }
-        ensures item { result ≡ item_at self.old key }
+        ensures item { item.new ≡ item_at self.old key }
         ensures places { self.new ≡ with_place self.old key None }
     {
         match &mut self.node {
             Node::Empty => unreachable!(),
-            Node::Leaf(leaf) => {
-                let item = leaf.item.take();
-                self.node = Node::Empty;
-                item
+            Node::Leaf(block) => {
+                block.remove(key, item);
+                if block.is_empty() {
+                    self.node = Node::Empty;
+                }
             }
             Node::Fork(fork) => {
                 let fork = &mut **fork;
                 if key < fork.middle {
-                    let item = fork.low.remove(key);
+                    fork.low.remove(key, item);
                     if fork.low.is_empty() {
                         let rest = mem::replace(&mut fork.high, Tree::new());
                         *self = rest;
                     } else {
-                        fork.count -= count_of(&item);
+                        fork.count -= count_of(item);
                     }
-                    item
                 } else {
-                    let item = fork.high.remove(key);
+                    fork.high.remove(key, item);
                     if fork.high.is_empty() {
                         let rest = mem::replace(&mut fork.low, Tree::new());
                         *self = rest;
                     } else {
-                        fork.count -= count_of(&item);
+                        fork.count -= count_of(item);
                     }
-                    item
                 }
             }
         }

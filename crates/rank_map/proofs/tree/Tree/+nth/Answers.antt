@@ -6,7 +6,7 @@ pub returns-then-at-below : goal.returns-then-at-below
 returns-then-at-below g t c =
     let f = at_fork c.self.view_is c.self.invariant c.in-Fork.is c.deref-fork.ensures in
     let here = low_rank c.args.at f (subst (λ n. c.args.at < n) c.len-below.ensures c.if-at-below.true) in
-    cc (c.nth.ensures, here)
+    cc (c.nth-then-at-below.ensures, here)
 
 pub returns-else-at-below : goal.returns-else-at-below
 returns-else-at-below g t c =

@@ -5,7 +5,7 @@ pub returns-then-key-fork : goal.returns-then-key-fork
 returns-then-key-fork g t c =
     let f = at_fork c.self.view_is c.self.invariant c.in-Fork.is c.deref-fork.ensures in
     let here = low_item c.args.key f c.if-key-fork.true in
-    cc (c.place.ensures, here)
+    cc (c.place-then-key-fork.ensures, here)
 
 pub returns-else-key-fork : goal.returns-else-key-fork
 returns-else-key-fork g t c =

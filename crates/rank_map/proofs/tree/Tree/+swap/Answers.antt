@@ -1,7 +1,7 @@
 use Rattle.std.proofs.Common.{◌+◌, ◌-◌, is_some, Some, sym, ap, ◌∙◌, rules, arith}
-use Rattle.rank_map.specs.Places.{item_in}
+use Rattle.rank_map.specs.Places.{item_in, item_at, with_place}
 use Rattle.rank_map.proofs.PlaceLemmas.{count_most, with_some}
-use Rattle.rank_map.proofs.ForkLemmas.{at_fork, low_less, high_less, low_item, high_item, low_seen, high_seen, low_counted, high_counted, leaf_item, leaf_swapped}
+use Rattle.rank_map.proofs.ForkLemmas.{at_fork, low_less, high_less, low_item, high_item, low_seen, high_seen, low_counted, high_counted, at_leaf}
 use Rattle.rank_map.proofs.tree.Tree.+swap.Goals as goal
 use Rattle.rank_map.proofs.tree.Tree.+swap.Goals.{in-Leaf, in-Fork+then-key-fork, in-Fork+else-key-fork}
 
@@ -42,7 +42,7 @@ overflow_sub-fork-else-key-fork g t c =
 pub invariant_of-self : goal.invariant_of-self
 invariant_of-self g t c =
     elim c.match-self.branch [
-      | in-Leaf w ↦ search rules
+      | in-Leaf w ↦ rw (w.self-inside-is, w.swap.ensures.places) (with_some w.in-Leaf.block.places c.args.key c.args.item.now)
       | in-Fork+then-key-fork w ↦
           let f = at_fork c.self.view_is c.self.invariant w.in-Fork.is w.deref_mut-fork.ensures.value in
           let fits = low_counted f c.requires.place w.if-key-fork.true w.swap-then-key-fork.ensures.item in
@@ -58,7 +58,7 @@ invariant_of-self g t c =
 pub returns-clause-item : goal.returns-clause-item
 returns-clause-item g t c =
     elim c.match-self.branch [
-      | in-Leaf w ↦ rw w.item-is (w.swap.ensures.y_after ∙ leaf_item c.args.key c.self.view_is w.in-Leaf.is w.deref_mut.ensures.value c.requires.place)
+      | in-Leaf w ↦ rw w.item-is (w.swap.ensures.item ∙ ap (λ ps. item_at ps c.args.key) (at_leaf c.self.view_is w.in-Leaf.is))
       | in-Fork+then-key-fork w ↦
           let f = at_fork c.self.view_is c.self.invariant w.in-Fork.is w.deref_mut-fork.ensures.value in
           rw w.item-is (w.swap-then-key-fork.ensures.item ∙ sym (ap item_in (low_item c.args.key f w.if-key-fork.true)))
@@ -70,7 +70,7 @@ returns-clause-item g t c =
 pub returns-clause-places : goal.returns-clause-places
 returns-clause-places g t c =
     elim c.match-self.branch [
-      | in-Leaf w ↦ rw w.self-inside-is (leaf_swapped c.args.key c.self.view_is w.in-Leaf.is w.deref_mut.ensures.value c.requires.place w.swap.ensures.x_after)
+      | in-Leaf w ↦ rw w.self-inside-is (w.swap.ensures.places ∙ ap (λ ps. with_place ps c.args.key (Some c.args.item.now)) (at_leaf c.self.view_is w.in-Leaf.is))
       | in-Fork+then-key-fork w ↦
           let f = at_fork c.self.view_is c.self.invariant w.in-Fork.is w.deref_mut-fork.ensures.value in
           let fits = low_counted f c.requires.place w.if-key-fork.true w.swap-then-key-fork.ensures.item in
