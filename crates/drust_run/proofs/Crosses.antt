@@ -13,7 +13,7 @@ use Rattle.journal.proofs.act.Act.TheSendSync as act
 use Rattle.journal.proofs.entry.Entry.TheSendSync as entry
 use Rattle.mutex_home.proofs.mutexes.Mutexes.TheSendSync as mutexes
 use Rattle.owner_box.proofs.partition.Partition.TheSendSync as partition
-use Rattle.rank_map.proofs.tree.Leaf.TheSendSync as leaf
+use Rattle.rank_map.proofs.block.Block.TheSendSync as block
 use Rattle.rank_map.proofs.tree.Tree.TheLaws.TheKnot.{send-Tree}
 use Rattle.read_cache.proofs.slot.Slot.TheSendSync as slot
 use Rattle.server_msgs.proofs.message.Message.TheSendSync as message
@@ -30,7 +30,7 @@ use Rattle.drust_run.specs.contracts.desk.Desk as desk
 
 -- each part whole, since a `search` that goes down through all of them runs out of steps
 map_send : (T : RattleType) → IsSend T → IsSend (map.the_field T).row
-map_send T s = search (crosses, sendable, send-Tree, leaf.the_field_send, leaf.the_send) depth 30
+map_send T s = search (crosses, sendable, send-Tree, block.the_field_send, block.the_send) depth 30
 
 queue_send : (T : RattleType) → IsSend T → IsSend (queue.the_field T).row
 queue_send T s = let a = map_send T s in search (crosses, sendable) depth 30

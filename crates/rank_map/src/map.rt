@@ -14,9 +14,12 @@ pub(crate) const KEYS: u64 = 1 << 40;
 /// Items by key, in the order of their keys; keys are below 2^40. An item stands at a place, and only making a place takes memory.
 /// Contracts see the places by rising key, each free or with its item.
 ///
-/// A call takes at most as many steps as a key has bits, 40, and some twelve where a thousand keys stand side by side; `len` takes one.
-/// No item is moved but the one that comes or goes. (A trie by the bits of the keys that counts its items at each fork. A fork stands
-/// only where keys part, so there is one fewer than there are places.)
+/// A call takes at most as many steps as a key has higher bits, 36, and some six where a thousand keys stand side by side, and `nth`
+/// sixteen more; `len` takes one. No item is moved but the one that comes or goes.
+///
+/// Sixteen keys that stand side by side have one block of memory, with room for an item of each: it is taken with the first of their
+/// places, and given back with the last. (A trie by the higher bits of the keys, which counts its items at each fork. A fork stands only
+/// where keys part, so there is one fewer than there are blocks.)
 #[derive(Drop)]
 pub struct RankMap<T> {
     tree: Tree<T>,
@@ -74,7 +77,7 @@ impl<T: Drop> RankMap<T> {
         self.tree.nth(at)
     }
 
-    /// Makes a free place for a key, where it has none; a refusal changes nothing.
+    /// Makes a free place for a key, where it has none; a refusal changes nothing. It takes no memory where the key's block is there.
     pub fn reserve(&mut self, key: u64) -> Result<(), NoMemory>
         requires few { key < 2 ^ 40 }
         ensures place { OnOk result (self.new ≡ with_free self.old key) }
@@ -109,7 +112,7 @@ impl<T: Drop> RankMap<T> {
         standing
     }
 
-    /// Takes a key's place out with its item, and gives its memory back. There is such a place.
+    /// Takes a key's place out with its item. The last place of a block gives its memory back. There is such a place.
     pub fn remove(&mut self, key: u64) -> Option<T>
         requires place { has_place self.old key ≡ true }
         ensures item { result ≡ item_at self.old key }

@@ -11,8 +11,9 @@ use std::marker::Model;
 /// Items in the order in which they came, any of which can be taken out. Contracts see the items as `items`, and beside them as
 /// `room` how many more fit without memory.
 ///
-/// A call takes at most some forty steps, and some twelve where a thousand items wait; no item is moved but the one that comes or goes. 2^40 items fit
-/// over a queue's whole life. (A map from a running number to the item.)
+/// A call takes at most some fifty steps, and some twenty where a thousand items wait; no item is moved but the one that comes or goes.
+/// The memory of sixteen items that came one after the other is given back with the last of them. 2^40 items fit over a queue's whole
+/// life. (A map from a running number to the item.)
 #[derive(Drop)]
 pub struct Queue<T> {
     map: RankMap<T>,
