@@ -5,8 +5,6 @@
 mod cache;
 mod laws;
 mod slot;
-#[cfg(test)]
-mod tests;
 
 pub use cache::Cache;
 pub use laws::cache_computes;

@@ -1,9 +1,9 @@
 //! Copies filled, used and evicted.
 
-use super::*;
 use fr_base::{ObjNo, ThreadNo};
 use global_addr::Word;
 use heap_partition::{Cell, Owned};
+use read_cache::Cache;
 use std::test::Fail;
 
 fn cell(number: u64) -> Cell {
