@@ -30,7 +30,7 @@ use Rattle.drust_run.specs.contracts.desk.Desk as desk
 
 -- each part whole, since a `search` that goes down through all of them runs out of steps
 map_send : (T : RattleType) → IsSend T → IsSend (map.the_field T).row
-map_send T s = search (crosses, sendable, send-Tree, block.the_field_send, block.the_send) depth 30
+map_send T s = search (crosses, sendable, send-Tree, block.the_send) depth 30
 
 queue_send : (T : RattleType) → IsSend T → IsSend (queue.the_field T).row
 queue_send T s = let a = map_send T s in search (crosses, sendable) depth 30
