@@ -1,11 +1,13 @@
 /* Refuses requests for memory of the program that it is loaded into (LD_PRELOAD), which has one thread. REFUSE has three numbers: which of its calls of malloc
-   and realloc is refused, from 1; how many calls later the next one is; and how many are refused. At the program's end it writes to
-   standard error how many calls there were and how many were refused. */
+   and realloc is refused, from 1; how many calls later the next one is; and how many are refused. At the program's end, also where that is
+   _exit, it writes to standard error how many calls there were and how many were refused. */
 #define _GNU_SOURCE
 #include <dlfcn.h>
 #include <errno.h>
 #include <stdio.h>
 #include <stdlib.h>
+#include <sys/syscall.h>
+#include <unistd.h>
 
 static void *(*next_malloc)(size_t);
 static void *(*next_realloc)(void *, size_t);
@@ -21,6 +23,12 @@ __attribute__((constructor)) static void begin(void) {
 
 __attribute__((destructor)) static void end(void) {
   dprintf(2, "%ld %ld\n", calls, refusals);
+}
+
+void _exit(int status) {
+  end();
+  syscall(SYS_exit_group, status);
+  __builtin_unreachable();
 }
 
 static int is_refused(void) {
