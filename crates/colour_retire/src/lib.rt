@@ -3,7 +3,5 @@
 #![tactic(auto)]
 
 mod colours;
-#[cfg(test)]
-mod tests;
 
 pub use colours::Colours;

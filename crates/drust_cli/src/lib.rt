@@ -5,8 +5,6 @@
 mod asked;
 mod parser;
 mod reading;
-#[cfg(test)]
-mod tests;
 mod words;
 
 pub use asked::{Asked, Command, WordsError};

@@ -8,7 +8,7 @@ use Rattle.heap_law.specs.Below.global_addr.Words.{word_of, colour_of, server_of
 use Rattle.heap_law.specs.Below.heap_partition.declared.value.Cell.{Cell}
 use Rattle.heap_law.specs.Below.heap_partition.declared.value.Owned.{Owned}
 use Rattle.heap_law.specs.Below.heap_partition.declared.value.Owned.TheVariants as owned
-use Rattle.colour_retire.specs.Colours.{picked, rest_of}
+use Rattle.heap_law.specs.Below.colour_retire.Colours.{picked, rest_of}
 use Rattle.heap_law.specs.Below.owner_box.View.{PartitionState}
 use Rattle.heap_law.specs.Below.owner_box.Partition.{cell_of, with_value, stored, put_cell, new_word, made, freed, made_again, renewed}
 use Rattle.heap_law.specs.Below.read_cache.Cache.{Copy, copy_of, with_users}

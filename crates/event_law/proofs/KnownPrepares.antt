@@ -15,9 +15,9 @@ use Rattle.heap_law.specs.Below.thread_state.declared.value.Value.{Value}
 use Rattle.heap_law.specs.Below.thread_state.declared.value.Value.TheVariants as value
 use Rattle.heap_law.specs.Below.journal.declared.act.Act.{Act}
 use Rattle.heap_law.specs.Below.journal.declared.act.Act.TheVariants as act
-use Rattle.place_walk.specs.declared.hop.Hop.{Hop}
-use Rattle.place_walk.specs.declared.hop.Hop.TheVariants as hop
-use Rattle.place_walk.specs.Hops.{read_hop, write_hop}
+use Rattle.heap_law.specs.Below.place_walk.declared.hop.Hop.{Hop}
+use Rattle.heap_law.specs.Below.place_walk.declared.hop.Hop.TheVariants as hop
+use Rattle.heap_law.specs.Below.place_walk.Hops.{read_hop, write_hop}
 use Rattle.heap_law.specs.Below.server_model.Servers.{Server}
 use Rattle.heap_law.specs.Below.server_model.Work.{Hand, note, with_cache, working, then_some, leads_here, used_once}
 use Rattle.heap_law.specs.Below.server_model.NewWords.{NewWord, can_grow, is_last, issue_tint, issue_renewal, issue_colour}

@@ -6,7 +6,7 @@ use Rattle.std.proofs.lemmas.Bool.Decides.{nat_tests}
 use Rattle.heap_law.proofs.Below.fr_typing.PlaceLemmas.{eq_cases}
 use Rattle.heap_law.specs.Below.global_addr.Words.{colour_of, address_of}
 use Rattle.heap_law.specs.Below.heap_partition.declared.value.Cell.{Cell}
-use Rattle.colour_retire.specs.Colours.{picked, rest_of}
+use Rattle.heap_law.specs.Below.colour_retire.Colours.{picked, rest_of}
 use Rattle.heap_law.specs.Below.owner_box.View.{PartitionState}
 use Rattle.heap_law.specs.Below.owner_box.Partition.{put_cell, made, freed}
 use Rattle.heap_law.specs.Below.server_model.Servers.{Rest}

@@ -16,9 +16,9 @@ use Rattle.heap_law.specs.Below.thread_state.declared.value.Value.TheVariants as
 use Rattle.heap_law.specs.Below.server_msgs.declared.message.Message.TheVariants as message
 use Rattle.heap_law.specs.Below.journal.declared.act.Act.{Act}
 use Rattle.heap_law.specs.Below.journal.declared.act.Act.TheVariants as act
-use Rattle.place_walk.specs.declared.hop.Hop.{Hop}
-use Rattle.place_walk.specs.declared.hop.Hop.TheVariants as hop
-use Rattle.place_walk.specs.Hops.{read_hop, write_hop}
+use Rattle.heap_law.specs.Below.place_walk.declared.hop.Hop.{Hop}
+use Rattle.heap_law.specs.Below.place_walk.declared.hop.Hop.TheVariants as hop
+use Rattle.heap_law.specs.Below.place_walk.Hops.{read_hop, write_hop}
 use Rattle.heap_law.specs.Below.server_model.Work.{Hand, send, note, with_cache, working, then_some}
 use Rattle.heap_law.specs.Below.server_model.NewWords.{NewWord, issue_tint, issue_renewal, issue_colour}
 use Rattle.heap_law.specs.Below.server_model.Places.{Spot, in_slot, on_top, in_cell, in_copy, nowhere, value_at, load_at, put_at, pointer_of, put_word}

@@ -1,5 +1,5 @@
 -- What this law stands on, passed on to the laws above it, which need not list that then.
-pub use Rattle.colour_retire.specs as colour_retire
+pub use Rattle.heap_law.specs.Below.colour_retire as colour_retire
 pub use Rattle.heap_law.specs.Below.coloured_heap as coloured_heap
 pub use Rattle.heap_law.specs.Below.fr_base as fr_base
 pub use Rattle.heap_law.specs.Below.fr_code as fr_code
@@ -15,7 +15,7 @@ pub use Rattle.heap_law.specs.Below.migration as migration
 pub use Rattle.heap_law.specs.Below.mut_borrow as mut_borrow
 pub use Rattle.heap_law.specs.Below.mutex_home as mutex_home
 pub use Rattle.heap_law.specs.Below.owner_box as owner_box
-pub use Rattle.place_walk.specs as place_walk
+pub use Rattle.heap_law.specs.Below.place_walk as place_walk
 pub use Rattle.heap_law.specs.Below.read_cache as read_cache
 pub use Rattle.heap_law.specs.Below.server_model as server_model
 pub use Rattle.heap_law.specs.Below.server_msgs as server_msgs

@@ -1,10 +1,10 @@
 -- A table whose entries lead each to the next: of code without jumps.
 use Rattle.std.proofs.Common.{◌≡◌, ℕ, zero, suc, ◌+◌, List, [], ◌∷◌, Option, Some, None, refl, sym, ap, ◌∙◌, subst, arith}
 use Rattle.std.specs.Prelude.{slice_get}
-use Rattle.fr_base.specs.declared.instruction.Operand.{Operand}
-use Rattle.fr_base.specs.declared.instruction.Instr.{Instr}
-use Rattle.fr_base.specs.declared.instruction.Instr.TheVariants as instr
-use Rattle.fr_typing.specs.Kinds.{Owned, Kind, own}
+use Rattle.fr_sound.specs.Below.fr_base.declared.instruction.Operand.{Operand}
+use Rattle.fr_sound.specs.Below.fr_base.declared.instruction.Instr.{Instr}
+use Rattle.fr_sound.specs.Below.fr_base.declared.instruction.Instr.TheVariants as instr
+use Rattle.fr_sound.specs.Below.fr_typing.Kinds.{Owned, Kind, own}
 use Rattle.fr_code.specs.CodeTypes.{Entry, going, Table, table_of, Takes, InstrTypes}
 use Rattle.fr_code.specs.Joins.{alone}
 use Rattle.fr_code.specs.CodeTable.{to_next, ends, Row, IsTable}

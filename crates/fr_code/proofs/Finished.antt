@@ -1,11 +1,11 @@
 -- Terms that are done, and terms in which no step was made: where they stand, and their temporary values.
 use Rattle.std.proofs.Common.{◌≡◌, ◌≢◌, ℕ, zero, suc, List, ◌∷◌, Option, refl, sym, ap, ◌∙◌, subst}
 use Rattle.std.specs.Prelude.{⊤}
-use Rattle.fr_base.specs.declared.instruction.Operand.{Operand}
-use Rattle.fr_base.specs.declared.instruction.Operand.TheVariants as operand
-use Rattle.fr_base.specs.declared.instruction.Instr.{Instr}
-use Rattle.fr_plain.specs.declared.value.Value.{Value}
-use Rattle.fr_plain.specs.Run.{Run, temp, unit_c, number, read, borrow, box_r, arith, bind, print, assign, block, spawn, join_r, mutex_r, dup, lock, locked, par, par_end, Parts, last, more, Now, going, constant, temporary, after, at_end, now, now_parts}
+use Rattle.fr_sound.specs.Below.fr_base.declared.instruction.Operand.{Operand}
+use Rattle.fr_sound.specs.Below.fr_base.declared.instruction.Operand.TheVariants as operand
+use Rattle.fr_sound.specs.Below.fr_base.declared.instruction.Instr.{Instr}
+use Rattle.fr_sound.specs.Below.fr_plain.declared.value.Value.{Value}
+use Rattle.fr_sound.specs.Below.fr_plain.Run.{Run, temp, unit_c, number, read, borrow, box_r, arith, bind, print, assign, block, spawn, join_r, mutex_r, dup, lock, locked, par, par_end, Parts, last, more, Now, going, constant, temporary, after, at_end, now, now_parts}
 use Rattle.fr_code.specs.Steps.{CodeMove, with_operand}
 use Rattle.fr_code.specs.StandsFor.{operand_of, operand_of_last, temps_in, temps_in_parts, IsSource, AreSource, Later, LaterParts, Discards, DropsAt, At, AtParts}
 

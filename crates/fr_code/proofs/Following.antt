@@ -1,16 +1,16 @@
 -- The code's next move is the term's.
 use Rattle.std.proofs.Common.{◌≡◌, ◌≢◌, ℕ, zero, suc, ◌+◌, Bool, true, false, List, [], ◌∷◌, Option, Some, None, refl, sym, ap, ◌∙◌, subst}
 use Rattle.std.specs.Prelude.{⊤, slice_get}
-use Rattle.fr_base.specs.declared.place.Lval.{Lval}
-use Rattle.fr_base.specs.declared.place.Op.{Op}
-use Rattle.fr_base.specs.declared.instruction.Operand.{Operand}
-use Rattle.fr_base.specs.declared.instruction.Operand.TheVariants as operand
-use Rattle.fr_base.specs.declared.instruction.Instr.{Instr}
-use Rattle.fr_base.specs.declared.instruction.Instr.TheVariants as instr
-use Rattle.fr_plain.specs.declared.value.Value.{Value}
-use Rattle.fr_plain.specs.MachineActs.{Act, carry, do_let, do_read, do_borrow, do_assign, do_box, do_arith, do_print, do_discard, do_drop, do_spawn, do_join, do_mutex, do_dup, do_lock, do_unlock, do_par, do_par_end}
-use Rattle.fr_plain.specs.Run.{Capture, Run, temp, unit_c, number, read, borrow, box_r, arith, bind, print, assign, block, spawn, join_r, mutex_r, dup, lock, locked, par, par_end, Parts, last, more, Now, going, constant, temporary, by_now, on_value, after, now, now_parts, Move, next, alone, block_end, move, move_parts}
-use Rattle.fr_plain.specs.Alike.{same_act, same_start, same_starts}
+use Rattle.fr_sound.specs.Below.fr_base.declared.place.Lval.{Lval}
+use Rattle.fr_sound.specs.Below.fr_base.declared.place.Op.{Op}
+use Rattle.fr_sound.specs.Below.fr_base.declared.instruction.Operand.{Operand}
+use Rattle.fr_sound.specs.Below.fr_base.declared.instruction.Operand.TheVariants as operand
+use Rattle.fr_sound.specs.Below.fr_base.declared.instruction.Instr.{Instr}
+use Rattle.fr_sound.specs.Below.fr_base.declared.instruction.Instr.TheVariants as instr
+use Rattle.fr_sound.specs.Below.fr_plain.declared.value.Value.{Value}
+use Rattle.fr_sound.specs.Below.fr_plain.MachineActs.{Act, carry, do_let, do_read, do_borrow, do_assign, do_box, do_arith, do_print, do_discard, do_drop, do_spawn, do_join, do_mutex, do_dup, do_lock, do_unlock, do_par, do_par_end}
+use Rattle.fr_sound.specs.Below.fr_plain.Run.{Capture, Run, temp, unit_c, number, read, borrow, box_r, arith, bind, print, assign, block, spawn, join_r, mutex_r, dup, lock, locked, par, par_end, Parts, last, more, Now, going, constant, temporary, by_now, on_value, after, now, now_parts, Move, next, alone, block_end, move, move_parts}
+use Rattle.fr_sound.specs.Below.fr_plain.Alike.{same_act, same_start, same_starts}
 use Rattle.fr_code.specs.Steps.{Place, captured, CodeMove, with_operand, went, quiet, loud, run_instr, code_move}
 use Rattle.fr_code.specs.StandsFor.{operand_of, operand_of_last, temps_in, temps_in_parts, IsSource, AreSource, LaterParts, Discards, DropsAt, At, AtParts, IsCodeFrom}
 use Rattle.fr_code.specs.Laws.{SameAct}

@@ -1,3 +1,4 @@
+pub mod Below
 pub mod Finished
 pub mod Following
 pub mod Settling

@@ -1,11 +1,11 @@
 -- Settling keeps what stands in the code for a term.
 use Rattle.std.proofs.Common.{◌≡◌, ℕ, zero, suc, List, [], Some, refl, sym, ap, ◌∙◌, subst}
 use Rattle.std.specs.Prelude.{slice_get}
-use Rattle.fr_base.specs.declared.instruction.Operand.{Operand}
-use Rattle.fr_base.specs.declared.instruction.Instr.{Instr}
-use Rattle.fr_base.specs.declared.instruction.Instr.TheVariants as instr
-use Rattle.fr_plain.specs.declared.value.Value.{Value}
-use Rattle.fr_plain.specs.Run.{Run, temp, unit_c, number, read, borrow, box_r, arith, bind, print, assign, block, spawn, join_r, mutex_r, dup, lock, locked, par, par_end, Parts, last, more, Now, going, constant, temporary, now, settle, settle_parts, settle_more, settle_right, close_last, close}
+use Rattle.fr_sound.specs.Below.fr_base.declared.instruction.Operand.{Operand}
+use Rattle.fr_sound.specs.Below.fr_base.declared.instruction.Instr.{Instr}
+use Rattle.fr_sound.specs.Below.fr_base.declared.instruction.Instr.TheVariants as instr
+use Rattle.fr_sound.specs.Below.fr_plain.declared.value.Value.{Value}
+use Rattle.fr_sound.specs.Below.fr_plain.Run.{Run, temp, unit_c, number, read, borrow, box_r, arith, bind, print, assign, block, spawn, join_r, mutex_r, dup, lock, locked, par, par_end, Parts, last, more, Now, going, constant, temporary, now, settle, settle_parts, settle_more, settle_right, close_last, close}
 use Rattle.fr_sound.proofs.Settling.{now_settle}
 use Rattle.fr_code.specs.StandsFor.{operand_of, operand_of_last, temps_in, temps_in_parts, IsSource, AreSource, Later, LaterParts, Discards, DropsAt, Ends, At, AtParts, Stands, IsCodeFrom}
 use Rattle.fr_code.specs.Laws.{SettlingStands}

@@ -1,14 +1,14 @@
 -- A thread and its code make the same move, also at the thread's end.
 use Rattle.std.proofs.Common.{◌≡◌, ℕ, List, [], ◌∷◌, Option, Some, None, refl, sym, ap, ◌∙◌, subst}
 use Rattle.std.specs.Prelude.{slice_get}
-use Rattle.fr_base.specs.declared.instruction.Operand.{Operand}
-use Rattle.fr_base.specs.declared.instruction.Operand.TheVariants as operand
-use Rattle.fr_base.specs.declared.instruction.Instr.{Instr}
-use Rattle.fr_base.specs.declared.instruction.Instr.TheVariants as instr
-use Rattle.fr_plain.specs.declared.value.Value.{Value}
-use Rattle.fr_plain.specs.MachineActs.{do_print}
-use Rattle.fr_plain.specs.Run.{Run, Now, going, constant, temporary, now, Move, move, terms}
-use Rattle.fr_plain.specs.Alike.{value_of, NextAlike, both_done, both_going}
+use Rattle.fr_sound.specs.Below.fr_base.declared.instruction.Operand.{Operand}
+use Rattle.fr_sound.specs.Below.fr_base.declared.instruction.Operand.TheVariants as operand
+use Rattle.fr_sound.specs.Below.fr_base.declared.instruction.Instr.{Instr}
+use Rattle.fr_sound.specs.Below.fr_base.declared.instruction.Instr.TheVariants as instr
+use Rattle.fr_sound.specs.Below.fr_plain.declared.value.Value.{Value}
+use Rattle.fr_sound.specs.Below.fr_plain.MachineActs.{do_print}
+use Rattle.fr_sound.specs.Below.fr_plain.Run.{Run, Now, going, constant, temporary, now, Move, move, terms}
+use Rattle.fr_sound.specs.Below.fr_plain.Alike.{value_of, NextAlike, both_done, both_going}
 use Rattle.fr_code.specs.Steps.{CodeAct, CodeMove, with_operand, quiet, run_instr, code_move, end_value, over_at, code_moves}
 use Rattle.fr_code.specs.StandsFor.{operand_of, temps_in, Ends, Stands}
 use Rattle.fr_code.specs.Laws.{StandsAt, MovesAlike}

@@ -1,23 +1,23 @@
 -- A typed code state: its threads' acts are typed, and its steps lead to typed states.
 use Rattle.std.proofs.Common.{◌≡◌, ℕ, List, [], Option, Some, None, refl, sym, ◌∙◌, subst}
-use Rattle.fr_base.specs.declared.step.Fresh.{Fresh}
-use Rattle.fr_base.specs.declared.instruction.Instr.{Instr}
-use Rattle.fr_terms.specs.Terms.{block_t}
-use Rattle.fr_typing.specs.Kinds.{Kind, own}
-use Rattle.fr_typing.specs.Places.{Env}
-use Rattle.fr_plain.specs.declared.value.Value.{Value}
-use Rattle.fr_plain.specs.Acts.{Act}
-use Rattle.fr_plain.specs.Run.{Run, Now, going, constant, temporary, now, Move, move, terms, Life}
-use Rattle.fr_plain.specs.Whole.{no_name, a_thread, two_threads, Thread, Whole, Stepped, thread_at, start}
-use Rattle.fr_plain.specs.Resolve.{program}
+use Rattle.fr_sound.specs.Below.fr_base.declared.step.Fresh.{Fresh}
+use Rattle.fr_sound.specs.Below.fr_base.declared.instruction.Instr.{Instr}
+use Rattle.fr_sound.specs.Below.fr_terms.Terms.{block_t}
+use Rattle.fr_sound.specs.Below.fr_typing.Kinds.{Kind, own}
+use Rattle.fr_sound.specs.Below.fr_typing.Places.{Env}
+use Rattle.fr_sound.specs.Below.fr_plain.declared.value.Value.{Value}
+use Rattle.fr_sound.specs.Below.fr_plain.Acts.{Act}
+use Rattle.fr_sound.specs.Below.fr_plain.Run.{Run, Now, going, constant, temporary, now, Move, move, terms, Life}
+use Rattle.fr_sound.specs.Below.fr_plain.Whole.{no_name, a_thread, two_threads, Thread, Whole, Stepped, thread_at, start}
+use Rattle.fr_sound.specs.Below.fr_plain.Resolve.{program}
 use Rattle.fr_sound.specs.RunTypes.{threads, RunTypes, held, o_temp, NextTypes, n_own, n_spawn}
 use Rattle.fr_sound.specs.Together.{seen_all, IsRunning, IsTypedIn, AreTyped}
 use Rattle.fr_sound.proofs.DoneTerms.{Done, d_constant, d_temporary, done}
 use Rattle.fr_sound.proofs.Redex.{goes_of, redex}
 use Rattle.fr_sound.proofs.Together.{own_names, never_stuck_together_lem}
 use Rattle.fr_sound.proofs.Starting.{starts_together_lem}
-use Rattle.fr_plain.specs.Alike.{value_of, NextAlike, both_done, both_going, LivesAlike, both_alive, both_owing, both_loose, both_ended, both_over, same_act, same_start, same_starts}
-use Rattle.fr_plain.proofs.Alike.{SameFound, same_found}
+use Rattle.fr_sound.specs.Below.fr_plain.Alike.{value_of, NextAlike, both_done, both_going, LivesAlike, both_alive, both_owing, both_loose, both_ended, both_over, same_act, same_start, same_starts}
+use Rattle.fr_sound.proofs.Below.fr_plain.Alike.{SameFound, same_found}
 use Rattle.fr_code.specs.Steps.{Place, CodeAct, CodeMove, code_move, code_moves}
 use Rattle.fr_code.specs.Machine.{CodeLife, CodeThread, CodeWhole, CodeStepped, code_step}
 use Rattle.fr_code.specs.StandsFor.{operand_of, temps_in, Stands}

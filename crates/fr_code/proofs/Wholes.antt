@@ -1,8 +1,8 @@
 -- The code runs as the term does.
 use Rattle.std.proofs.Common.{[]}
-use Rattle.fr_plain.specs.Run.{terms}
-use Rattle.fr_plain.specs.Whole.{start}
-use Rattle.fr_plain.proofs.Alike.{step_alike, run_alike, start_alike, refused_alike, ending_alike}
+use Rattle.fr_sound.specs.Below.fr_plain.Run.{terms}
+use Rattle.fr_sound.specs.Below.fr_plain.Whole.{start}
+use Rattle.fr_sound.proofs.Below.fr_plain.Alike.{step_alike, run_alike, start_alike, refused_alike, ending_alike}
 use Rattle.fr_code.specs.Steps.{code_moves}
 use Rattle.fr_code.specs.Machine.{code_start}
 use Rattle.fr_code.specs.Laws.{StandsAt, StepsAlike, RefusalsAlike, EndingsAlike, StartsAlike, RunsAlike}

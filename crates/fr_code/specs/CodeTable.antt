@@ -1,9 +1,9 @@
 -- The table of a code: what typing knows before each instruction to which it knows a way, by the typing of instructions (this project's rule).
 use Rattle.std.specs.Prelude.{◌≡◌, ℕ, ◌+◌, List, [], ◌∷◌, Some, slice_get}
-use Rattle.fr_base.specs.declared.instruction.Operand.{Operand}
-use Rattle.fr_base.specs.declared.instruction.Instr.{Instr}
-use Rattle.fr_base.specs.declared.instruction.Instr.TheVariants as instr
-use Rattle.fr_typing.specs.Kinds.{Owned, Kind, own}
+use Rattle.fr_sound.specs.Below.fr_base.declared.instruction.Operand.{Operand}
+use Rattle.fr_sound.specs.Below.fr_base.declared.instruction.Instr.{Instr}
+use Rattle.fr_sound.specs.Below.fr_base.declared.instruction.Instr.TheVariants as instr
+use Rattle.fr_sound.specs.Below.fr_typing.Kinds.{Owned, Kind, own}
 use Rattle.fr_code.specs.CodeTypes.{Entry, going, Table, Takes, InstrTypes}
 use Rattle.fr_code.specs.Joins.{JoinsTo}
 

@@ -2,19 +2,19 @@
 -- no names; an environment's names are any that typing would take. All checks are those that typing makes of terms.
 use Rattle.std.specs.Prelude.{◌≡◌, ◌≤◌, ℕ, ℤ, Bool, true, false, not, ◌==◌, is_some, List, [], ◌∷◌, length, Option, Some, None, if◌then◌else◌, slice_get}
 use Rattle.std.specs.List.{list_all}
-use Rattle.fr_base.specs.declared.place.Lval.{Lval}
-use Rattle.fr_base.specs.declared.place.Op.{Op}
-use Rattle.fr_base.specs.declared.instruction.Operand.{Operand}
-use Rattle.fr_base.specs.declared.instruction.Operand.TheVariants as operand
-use Rattle.fr_base.specs.declared.instruction.Instr.{Instr}
-use Rattle.fr_base.specs.declared.instruction.Instr.TheVariants as instr
-use Rattle.fr_base.specs.Rooms.{WithRoom}
-use Rattle.fr_terms.specs.Terms.{Text, Captured}
-use Rattle.fr_typing.specs.Kinds.{Owned, unit, int, box, mutex, task, Kind, own, shared, mutable, Piece, whole, gone, copies}
-use Rattle.fr_typing.specs.Places.{Slot, Env, Found, found, type_at, read_blocked, write_blocked, is_own_path, put_at, slot_of}
-use Rattle.fr_typing.specs.Checks.{is_int, is_owned, is_full, is_kept_out, has_shape_of, names_from, set_through, with_lock}
-use Rattle.fr_typing.specs.Finding.{IsOpen}
-use Rattle.fr_typing.specs.Captures.{Capturer, by_spawn, by_par, Captures}
+use Rattle.fr_sound.specs.Below.fr_base.declared.place.Lval.{Lval}
+use Rattle.fr_sound.specs.Below.fr_base.declared.place.Op.{Op}
+use Rattle.fr_sound.specs.Below.fr_base.declared.instruction.Operand.{Operand}
+use Rattle.fr_sound.specs.Below.fr_base.declared.instruction.Operand.TheVariants as operand
+use Rattle.fr_sound.specs.Below.fr_base.declared.instruction.Instr.{Instr}
+use Rattle.fr_sound.specs.Below.fr_base.declared.instruction.Instr.TheVariants as instr
+use Rattle.fr_sound.specs.Below.fr_base.Rooms.{WithRoom}
+use Rattle.fr_sound.specs.Below.fr_terms.Terms.{Text, Captured}
+use Rattle.fr_sound.specs.Below.fr_typing.Kinds.{Owned, unit, int, box, mutex, task, Kind, own, shared, mutable, Piece, whole, gone, copies}
+use Rattle.fr_sound.specs.Below.fr_typing.Places.{Slot, Env, Found, found, type_at, read_blocked, write_blocked, is_own_path, put_at, slot_of}
+use Rattle.fr_sound.specs.Below.fr_typing.Checks.{is_int, is_owned, is_full, is_kept_out, has_shape_of, names_from, set_through, with_lock}
+use Rattle.fr_sound.specs.Below.fr_typing.Finding.{IsOpen}
+use Rattle.fr_sound.specs.Below.fr_typing.Captures.{Capturer, by_spawn, by_par, Captures}
 pub use Rattle.fr_sound.specs.Entries.{Entry, going, forked_at}
 
 -- ENTRIES

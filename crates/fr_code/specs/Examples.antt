@@ -1,18 +1,18 @@
 -- The codes of some small programs, each written above it.
 use Rattle.std.specs.Prelude.{ℕ, Bool, pos, true, false, List, [], ◌∷◌, ◌++◌}
-use Rattle.fr_base.specs.declared.place.Lval.{Lval}
-use Rattle.fr_base.specs.declared.place.Op.TheVariants as op
-use Rattle.fr_base.specs.declared.instruction.Operand.{Operand}
-use Rattle.fr_base.specs.declared.instruction.Operand.TheVariants as operand
-use Rattle.fr_base.specs.declared.instruction.Instr.{Instr}
-use Rattle.fr_base.specs.declared.instruction.Instr.TheVariants as instr
-use Rattle.fr_base.specs.Rooms.{WithRoom}
-use Rattle.fr_terms.specs.Terms.{Term, let_t, print_t, arith_t}
-use Rattle.fr_plain.specs.Resolve.{program}
-use Rattle.fr_plain.specs.Examples.{block, read, number, x, y, boxed}
-use Rattle.fr_plain.specs.ThreadRuns.{moved_in}
-use Rattle.fr_plain.specs.LockRuns.{constant_inside, exchanged, counted}
-use Rattle.fr_plain.specs.PairRuns.{handed_over, twice_shared}
+use Rattle.fr_sound.specs.Below.fr_base.declared.place.Lval.{Lval}
+use Rattle.fr_sound.specs.Below.fr_base.declared.place.Op.TheVariants as op
+use Rattle.fr_sound.specs.Below.fr_base.declared.instruction.Operand.{Operand}
+use Rattle.fr_sound.specs.Below.fr_base.declared.instruction.Operand.TheVariants as operand
+use Rattle.fr_sound.specs.Below.fr_base.declared.instruction.Instr.{Instr}
+use Rattle.fr_sound.specs.Below.fr_base.declared.instruction.Instr.TheVariants as instr
+use Rattle.fr_sound.specs.Below.fr_base.Rooms.{WithRoom}
+use Rattle.fr_sound.specs.Below.fr_terms.Terms.{Term, let_t, print_t, arith_t}
+use Rattle.fr_sound.specs.Below.fr_plain.Resolve.{program}
+use Rattle.fr_sound.specs.Below.fr_plain.Examples.{block, read, number, x, y, boxed}
+use Rattle.fr_sound.specs.Below.fr_plain.ThreadRuns.{moved_in}
+use Rattle.fr_sound.specs.Below.fr_plain.LockRuns.{constant_inside, exchanged, counted}
+use Rattle.fr_sound.specs.Below.fr_plain.PairRuns.{handed_over, twice_shared}
 use Rattle.fr_code.specs.StandsFor.{IsCodeOf}
 
 abbrev place : ℕ → ℕ → Lval

@@ -1,8 +1,8 @@
 -- Where several ways lead to an instruction (this project's rule; joins are Featherweight Rust's).
 use Rattle.std.specs.Prelude.{◌≡◌, Bool, is_some, List, [], ◌∷◌, map, Option, Some, None}
-use Rattle.fr_typing.specs.Kinds.{SetTest, Kind, join_kind, map_some}
-use Rattle.fr_typing.specs.Places.{Env, alike}
-use Rattle.fr_store.specs.JoinRows.{join_env}
+use Rattle.fr_sound.specs.Below.fr_typing.Kinds.{SetTest, Kind, join_kind, map_some}
+use Rattle.fr_sound.specs.Below.fr_typing.Places.{Env, alike}
+use Rattle.fr_sound.specs.Below.fr_store.JoinRows.{join_env}
 use Rattle.fr_code.specs.CodeTypes.{Entry}
 
 abbrev pub and_temp : Option Kind → Option (List Kind) → Option (List Kind)

@@ -1,14 +1,14 @@
 -- When a state of the code stands for a state of the machine that runs terms, and that both take the same steps (this project's rule).
 use Rattle.std.specs.Prelude.{◌≡◌, ℕ, List, Option}
-use Rattle.fr_base.specs.declared.step.Fresh.{Fresh}
-use Rattle.fr_base.specs.declared.instruction.Instr.{Instr}
-use Rattle.fr_plain.specs.declared.value.Value.{Value}
-use Rattle.fr_plain.specs.Run.{Run, settle, terms}
-use Rattle.fr_plain.specs.Acts.{Act}
-use Rattle.fr_plain.specs.Whole.{Whole, Stepped, Turn, step, refused, start, plain, ending_of}
-use Rattle.fr_plain.specs.Machine as machine
-use Rattle.fr_plain.specs.SamePlain.{OnceStays, SamePlain}
-use Rattle.fr_plain.specs.Alike.{Alike, SteppedAlike, ActsAlike, PlacesAlike}
+use Rattle.fr_sound.specs.Below.fr_base.declared.step.Fresh.{Fresh}
+use Rattle.fr_sound.specs.Below.fr_base.declared.instruction.Instr.{Instr}
+use Rattle.fr_sound.specs.Below.fr_plain.declared.value.Value.{Value}
+use Rattle.fr_sound.specs.Below.fr_plain.Run.{Run, settle, terms}
+use Rattle.fr_sound.specs.Below.fr_plain.Acts.{Act}
+use Rattle.fr_sound.specs.Below.fr_plain.Whole.{Whole, Stepped, Turn, step, refused, start, plain, ending_of}
+use Rattle.fr_sound.specs.Below.fr_plain.Machine as machine
+use Rattle.fr_sound.specs.Below.fr_plain.SamePlain.{OnceStays, SamePlain}
+use Rattle.fr_sound.specs.Below.fr_plain.Alike.{Alike, SteppedAlike, ActsAlike, PlacesAlike}
 use Rattle.fr_code.specs.Steps.{Place, CodeAct, code_moves}
 use Rattle.fr_code.specs.Machine.{CodeWhole, CodeStepped, code_step, code_run, code_start}
 use Rattle.fr_code.specs.StandsFor.{Stands, IsCodeOf}

@@ -1,3 +1,4 @@
+pub mod Below
 pub mod Steps
 pub mod StandsFor
 pub mod Machine

@@ -1,10 +1,10 @@
 -- The plain machine that runs code.
 use Rattle.std.specs.Prelude.{ℕ, List, [], Option}
-use Rattle.fr_base.specs.declared.step.Fresh.{Fresh}
-use Rattle.fr_base.specs.declared.instruction.Instr.{Instr}
-use Rattle.fr_plain.specs.MachineThreads.{Life, Thread, Whole}
-use Rattle.fr_plain.specs.Machine.{Stepped, Turn, step, run, start}
-use Rattle.fr_plain.specs.PlainState.{Running, PlainState}
+use Rattle.fr_sound.specs.Below.fr_base.declared.step.Fresh.{Fresh}
+use Rattle.fr_sound.specs.Below.fr_base.declared.instruction.Instr.{Instr}
+use Rattle.fr_sound.specs.Below.fr_plain.MachineThreads.{Life, Thread, Whole}
+use Rattle.fr_sound.specs.Below.fr_plain.Machine.{Stepped, Turn, step, run, start}
+use Rattle.fr_sound.specs.Below.fr_plain.PlainState.{Running, PlainState}
 use Rattle.fr_code.specs.Steps.{Place, code_moves}
 
 abbrev pub CodeLife : Type 0

@@ -1,15 +1,15 @@
 -- The steps of compiled code (this project's rule): what an instruction does with the values of its operands, and where its
 -- thread is then.
 use Rattle.std.specs.Prelude.{ℕ, ◌+◌, Bool, true, false, List, [], ◌∷◌, Option, Some, None, slice_get}
-use Rattle.fr_base.specs.declared.label.Plain.TheVariants as plain
-use Rattle.fr_base.specs.declared.instruction.Operand.{Operand}
-use Rattle.fr_base.specs.declared.instruction.Operand.TheVariants as operand
-use Rattle.fr_base.specs.declared.instruction.Instr.{Instr}
-use Rattle.fr_base.specs.declared.instruction.Instr.TheVariants as instr
-use Rattle.fr_plain.specs.declared.value.Value.{Value}
-use Rattle.fr_plain.specs.declared.value.Value.TheVariants.{Own}
-use Rattle.fr_plain.specs.MachineActs.{Capture, Act, do_let, do_read, do_borrow, do_assign, do_box, do_arith, do_print, do_discard, do_drop, do_spawn, do_join, do_mutex, do_dup, do_lock, do_unlock, do_par, do_par_end, unit}
-use Rattle.fr_plain.specs.MachineThreads.{Now, going, constant, temporary, Move, Moves}
+use Rattle.fr_sound.specs.Below.fr_base.declared.label.Plain.TheVariants as plain
+use Rattle.fr_sound.specs.Below.fr_base.declared.instruction.Operand.{Operand}
+use Rattle.fr_sound.specs.Below.fr_base.declared.instruction.Operand.TheVariants as operand
+use Rattle.fr_sound.specs.Below.fr_base.declared.instruction.Instr.{Instr}
+use Rattle.fr_sound.specs.Below.fr_base.declared.instruction.Instr.TheVariants as instr
+use Rattle.fr_sound.specs.Below.fr_plain.declared.value.Value.{Value}
+use Rattle.fr_sound.specs.Below.fr_plain.declared.value.Value.TheVariants.{Own}
+use Rattle.fr_sound.specs.Below.fr_plain.MachineActs.{Capture, Act, do_let, do_read, do_borrow, do_assign, do_box, do_arith, do_print, do_discard, do_drop, do_spawn, do_join, do_mutex, do_dup, do_lock, do_unlock, do_par, do_par_end, unit}
+use Rattle.fr_sound.specs.Below.fr_plain.MachineThreads.{Now, going, constant, temporary, Move, Moves}
 
 -- a place of a thread in the code: its next instruction, and its temporary values, the last one first
 pub record Place : Type 0 where

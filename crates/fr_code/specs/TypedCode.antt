@@ -1,22 +1,22 @@
 -- Typed states of the code: those that stand for a typed state of the plain machine (this project's rule).
 use Rattle.std.specs.Prelude.{◌≡◌, ℕ, List, [], Option, Some, None}
-use Rattle.fr_base.specs.declared.step.Fresh.{Fresh}
-use Rattle.fr_base.specs.declared.instruction.Instr.{Instr}
-use Rattle.fr_terms.specs.Terms.{block_t, Items}
-use Rattle.fr_typing.specs.Kinds.{Owned, Kind, own}
-use Rattle.fr_typing.specs.Places.{Env}
-use Rattle.fr_typing.specs.Typing.{Types}
-use Rattle.fr_plain.specs.declared.value.Value.{Value}
-use Rattle.fr_plain.specs.MachineActs.{Capture, Act, carry, do_spawn}
-use Rattle.fr_plain.specs.MachineThreads.{alive, owing, loose, thread_at}
-use Rattle.fr_plain.specs.Run.{Run, settle}
-use Rattle.fr_plain.specs.Whole.{Whole, refused}
-use Rattle.fr_plain.specs.Resolve.{program}
-use Rattle.fr_typing.specs.Threaded.{IsThreaded}
+use Rattle.fr_sound.specs.Below.fr_base.declared.step.Fresh.{Fresh}
+use Rattle.fr_sound.specs.Below.fr_base.declared.instruction.Instr.{Instr}
+use Rattle.fr_sound.specs.Below.fr_terms.Terms.{block_t, Items}
+use Rattle.fr_sound.specs.Below.fr_typing.Kinds.{Owned, Kind, own}
+use Rattle.fr_sound.specs.Below.fr_typing.Places.{Env}
+use Rattle.fr_sound.specs.Below.fr_typing.Typing.{Types}
+use Rattle.fr_sound.specs.Below.fr_plain.declared.value.Value.{Value}
+use Rattle.fr_sound.specs.Below.fr_plain.MachineActs.{Capture, Act, carry, do_spawn}
+use Rattle.fr_sound.specs.Below.fr_plain.MachineThreads.{alive, owing, loose, thread_at}
+use Rattle.fr_sound.specs.Below.fr_plain.Run.{Run, settle}
+use Rattle.fr_sound.specs.Below.fr_plain.Whole.{Whole, refused}
+use Rattle.fr_sound.specs.Below.fr_plain.Resolve.{program}
+use Rattle.fr_sound.specs.Below.fr_typing.Threaded.{IsThreaded}
 use Rattle.fr_sound.specs.RunTypes.{threads, RunCaptures, RunTypes, held, Operand, NextTypes}
 use Rattle.fr_sound.specs.Together.{seen_all, IsRunning, AreTyped}
 use Rattle.fr_code.specs.Steps.{Place, CodeAct, CodeMove, code_move, code_moves}
-use Rattle.fr_plain.specs.Alike.{value_of}
+use Rattle.fr_sound.specs.Below.fr_plain.Alike.{value_of}
 use Rattle.fr_code.specs.Machine.{CodeLife, CodeThread, CodeWhole, CodeStepped, code_step, code_start}
 use Rattle.fr_code.specs.StandsFor.{IsCodeOf}
 use Rattle.fr_code.specs.Laws.{StandsAt, StandsWhole}

@@ -1,3 +1,4 @@
+pub mod Below
 pub mod HeapLemmas
 pub mod RefusedSteps
 pub mod Alike

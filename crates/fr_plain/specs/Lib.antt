@@ -1,3 +1,4 @@
+pub mod Below
 pub mod Heap
 pub mod State
 pub mod MachineActs

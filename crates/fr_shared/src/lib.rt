@@ -8,8 +8,6 @@ mod mutexes;
 mod objects;
 mod pairs;
 mod places;
-#[cfg(test)]
-mod tests;
 
 pub use heap::{Heap, Released};
 pub use laws::{acts_change, shares_release};

@@ -1,12 +1,12 @@
 -- Each typed act of a typed state can be done, and leaves a typed state.
 use Rattle.std.proofs.Common.{◌≡◌, ℕ, suc, ◌<◌, ◌≤◌, List, [], ◌∷◌, length, Option, Some, None, refl, sym, ap, ◌∙◌, subst, arith}
 use Rattle.std.specs.Prelude.{if◌then◌else◌}
-use Rattle.fr_base.specs.declared.label.Plain.TheVariants as plain
-use Rattle.fr_base.specs.declared.place.Op.{Op}
-use Rattle.fr_terms.specs.Terms.{Text}
-use Rattle.fr_typing.specs.Kinds.{Owned, int, box, Kind, own, view, whole}
-use Rattle.fr_typing.specs.Places.{Slot, Env, AreBelow}
-use Rattle.fr_typing.proofs.PlaceLemmas.{eq_cases}
+use Rattle.fr_plain.specs.Below.fr_base.declared.label.Plain.TheVariants as plain
+use Rattle.fr_plain.specs.Below.fr_base.declared.place.Op.{Op}
+use Rattle.fr_plain.specs.Below.fr_terms.Terms.{Text}
+use Rattle.fr_plain.specs.Below.fr_typing.Kinds.{Owned, int, box, Kind, own, view, whole}
+use Rattle.fr_plain.specs.Below.fr_typing.Places.{Slot, Env, AreBelow}
+use Rattle.fr_plain.proofs.Below.fr_typing.PlaceLemmas.{eq_cases}
 use Rattle.fr_store.specs.Keys.{Key, slot_k, temp_k, content_k, result_k, hand_k}
 use Rattle.fr_store.specs.Store.{Alike, Store, Place, at_key, Val, gone_v, box_v, swap, make, drop_value}
 use Rattle.fr_store.specs.ListState.{slot_value, store_beside, put_object, drop_objects, drop_rest}

@@ -1,9 +1,9 @@
 -- Threads that share no memory lead to no common object.
 use Rattle.std.proofs.Common.{◌≡◌, ℕ, zero, suc, Bool, List, Option, Some, None, refl, sym, ap, subst, ◌∙◌}
-use Rattle.fr_base.specs.declared.label.Plain.TheVariants as plain
-use Rattle.fr_base.specs.declared.label.Label.{Label}
-use Rattle.fr_base.specs.declared.name.ObjNo.{ObjNo}
-use Rattle.fr_base.specs.declared.place.Lval.{Lval}
+use Rattle.fr_plain.specs.Below.fr_base.declared.label.Plain.TheVariants as plain
+use Rattle.fr_plain.specs.Below.fr_base.declared.label.Label.{Label}
+use Rattle.fr_plain.specs.Below.fr_base.declared.name.ObjNo.{ObjNo}
+use Rattle.fr_plain.specs.Below.fr_base.declared.place.Lval.{Lval}
 use Rattle.fr_store.specs.Keys.{Key, slot_k}
 use Rattle.fr_store.specs.Store.{Location, at_key, at_object, box_v, ref_v, Store, value_at, Place, below_key}
 use Rattle.fr_store.specs.Typed.{Tree, hole, unit_tree, int_tree, mutex_tree, task_tree, box_tree, Exact, owns, refers, KeyTypes, exact_under, some_owns, tree_under, Resolves, here, through, RefFits, Fits, Typed}

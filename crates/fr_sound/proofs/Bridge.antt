@@ -4,23 +4,23 @@ use Rattle.std.specs.Prelude.{⊤, ◌⊎◌, ◌||◌, nat_lt, nat_le, if◌the
 use Rattle.std.specs.List.{list_any}
 use Rattle.std.proofs.Common.{inl, inr}
 use Rattle.std.proofs.lemmas.Bool.{leb-false, ltb-false}
-use Rattle.fr_base.specs.declared.place.Lval.{Lval}
-use Rattle.fr_base.specs.declared.place.Op.{Op}
-use Rattle.fr_terms.specs.Terms.{Text, Captured, Spot, Term, block_t, let_t, assign_t, read_t, number_t, unit_t, box_t, print_t, borrow_t, borrow_mut_t, arith_t, join_t, mutex_t, dup_t, lock_t, spawn_t, par_t, Items, none, item}
-use Rattle.fr_typing.specs.Sequential.{IsSequential, AreSequential}
-use Rattle.fr_typing.specs.Captures.{by_spawn, Capturer, spot_of, captured_kind, captured_slot, Captures, captures_copy, captures_move, CapturesAll, captures_none, captures_next, env_left, env_new, env_of_all}
-use Rattle.fr_typing.proofs.CaptureLemmas.{capture_by, capture_all_by}
-use Rattle.fr_typing.specs.Kinds.{Owned, unit, int, box, mutex, task, same_owned, Kind, own, shared, mutable, view, Piece, whole, gone, copies}
-use Rattle.fr_typing.specs.Places.{Env, found, type_at, write_blocked, on_path, is_lent, is_mutable, is_writable, is_own_path, slot_of, same_name, put_under, put_at, Shape, owned_shape, shared_to, mutable_to, piece_shape, shape_at, AreBelow, kind_places, equal_shapes}
-use Rattle.fr_typing.specs.Checks.{place_of, is_int, is_owned, is_kept_out, has_shape_of, names_from, set_through}
-use Rattle.fr_typing.specs.Finding.{typed, env_after, is_moved, Has, IsOpen, Shows}
-use Rattle.fr_typing.specs.Typing.{typing, Types, types_number, types_unit, types_copy, types_move, types_borrow, types_borrow_mut, types_box, types_mutex, types_arith, types_print, types_let, types_assign, types_block, types_join, types_dup, types_lock, types_spawn, types_par, TypesItems, types_none, types_item}
-use Rattle.fr_typing.proofs.Agree.{typing_by}
+use Rattle.fr_plain.specs.Below.fr_base.declared.place.Lval.{Lval}
+use Rattle.fr_plain.specs.Below.fr_base.declared.place.Op.{Op}
+use Rattle.fr_plain.specs.Below.fr_terms.Terms.{Text, Captured, Spot, Term, block_t, let_t, assign_t, read_t, number_t, unit_t, box_t, print_t, borrow_t, borrow_mut_t, arith_t, join_t, mutex_t, dup_t, lock_t, spawn_t, par_t, Items, none, item}
+use Rattle.fr_plain.specs.Below.fr_typing.Sequential.{IsSequential, AreSequential}
+use Rattle.fr_plain.specs.Below.fr_typing.Captures.{by_spawn, Capturer, spot_of, captured_kind, captured_slot, Captures, captures_copy, captures_move, CapturesAll, captures_none, captures_next, env_left, env_new, env_of_all}
+use Rattle.fr_plain.proofs.Below.fr_typing.CaptureLemmas.{capture_by, capture_all_by}
+use Rattle.fr_plain.specs.Below.fr_typing.Kinds.{Owned, unit, int, box, mutex, task, same_owned, Kind, own, shared, mutable, view, Piece, whole, gone, copies}
+use Rattle.fr_plain.specs.Below.fr_typing.Places.{Env, found, type_at, write_blocked, on_path, is_lent, is_mutable, is_writable, is_own_path, slot_of, same_name, put_under, put_at, Shape, owned_shape, shared_to, mutable_to, piece_shape, shape_at, AreBelow, kind_places, equal_shapes}
+use Rattle.fr_plain.specs.Below.fr_typing.Checks.{place_of, is_int, is_owned, is_kept_out, has_shape_of, names_from, set_through}
+use Rattle.fr_plain.specs.Below.fr_typing.Finding.{typed, env_after, is_moved, Has, IsOpen, Shows}
+use Rattle.fr_plain.specs.Below.fr_typing.Typing.{typing, Types, types_number, types_unit, types_copy, types_move, types_borrow, types_borrow_mut, types_box, types_mutex, types_arith, types_print, types_let, types_assign, types_block, types_join, types_dup, types_lock, types_spawn, types_par, TypesItems, types_none, types_item}
+use Rattle.fr_plain.proofs.Below.fr_typing.Agree.{typing_by}
 use Rattle.fr_store.proofs.Below.{or_false}
 use Rattle.fr_plain.specs.declared.value.Value.{Value}
 use Rattle.fr_plain.specs.Run.{Capture, Run, unit_c, read, borrow, arith, assign, block, last as last_p, more, Now, now}
 use Rattle.fr_plain.specs.Resolve.{named, moves, lets_in, lets, before, captures, resolve, resolve_items}
-use Rattle.fr_typing.specs.Threaded.{IsThreaded, AreThreaded}
+use Rattle.fr_plain.specs.Below.fr_typing.Threaded.{IsThreaded, AreThreaded}
 use Rattle.fr_sound.specs.RunTypes.{Forms, one_thread, threads, RunCaptures, c_none, c_copy, c_move, t_spawn, t_join, Assigns, to_own, to_lent, to_variable, IsNumber, o_int, Falls, f_none, f_one, RunTypes, t_unit, t_number, t_copy, t_move, t_borrow, t_borrow_mut, t_box, t_left, t_right, t_let, t_print, t_assign, t_block, PartsTypes, p_last, p_more}
 use Rattle.fr_sound.proofs.DoneTerms.{Done, d_going, d_constant, done}
 

@@ -1,9 +1,9 @@
 -- Terms that are done, and terms without a temporary value.
 use Rattle.std.proofs.Common.{◌≡◌, ℕ, length, Option, Some, None, refl, ap, ◌∙◌}
 use Rattle.std.specs.Prelude.{⊤}
-use Rattle.fr_base.specs.declared.place.Op.{Op}
-use Rattle.fr_typing.specs.Kinds.{Kind}
-use Rattle.fr_typing.specs.Places.{Env, AreBelow, kind_places}
+use Rattle.fr_plain.specs.Below.fr_base.declared.place.Op.{Op}
+use Rattle.fr_plain.specs.Below.fr_typing.Kinds.{Kind}
+use Rattle.fr_plain.specs.Below.fr_typing.Places.{Env, AreBelow, kind_places}
 use Rattle.fr_plain.specs.declared.value.Value.{Value}
 use Rattle.fr_plain.specs.Run.{Run, temp, unit_c, number, read, borrow, box_r, arith, bind, print, assign, block, spawn, join_r, mutex_r, dup, lock, locked, par, par_end, Parts, last, more, Now, going, constant, temporary, by_now, after, at_end, now, now_parts}
 use Rattle.fr_sound.specs.RunTypes.{Forms, t_join, Falls, f_none, f_one, IsNumber, RunTypes, t_temp, t_unit, t_number, t_box, t_left, t_right, t_let, t_print, t_assign, t_block, PartsTypes, p_last, p_more, first_of, held, held_in, Operand, o_unit, o_int}

@@ -1,10 +1,10 @@
 -- The end of a thread keeps a state typed.
 use Rattle.std.specs.Prelude.{◌++◌, if◌then◌else◌}
 use Rattle.std.proofs.Common.{◌≡◌, ◌≢◌, inl, ⊎_elim, ℕ, ◌+◌, true, false, [], ◌∷◌, length, Option, Some, None, refl, sym, ap, ◌∙◌, subst, arith}
-use Rattle.fr_base.specs.declared.label.Label.TheVariants as label
-use Rattle.fr_base.specs.declared.step.Fresh.TheVariants as fresh
-use Rattle.fr_typing.specs.Kinds.{Kind, own}
-use Rattle.fr_typing.proofs.PlaceLemmas.{eq_cases}
+use Rattle.fr_plain.specs.Below.fr_base.declared.label.Label.TheVariants as label
+use Rattle.fr_plain.specs.Below.fr_base.declared.step.Fresh.TheVariants as fresh
+use Rattle.fr_plain.specs.Below.fr_typing.Kinds.{Kind, own}
+use Rattle.fr_plain.proofs.Below.fr_typing.PlaceLemmas.{eq_cases}
 use Rattle.fr_store.specs.Keys.{Key, slot_k, temp_k, content_k, result_k, hand_k}
 use Rattle.fr_store.specs.Store.{Alike, Val, gone_v, at_key, at_object, Store, value_at, swap}
 use Rattle.fr_store.specs.Typed.{hole, owns, KeyTypes, Typed}

@@ -1,11 +1,11 @@
 -- Programs that start typed.
 use Rattle.std.proofs.Common.{◌≡◌, [], refl}
-use Rattle.fr_terms.specs.Terms.{Term, block_t, Items, none}
-use Rattle.fr_typing.specs.Sequential.{AreSequential}
-use Rattle.fr_typing.specs.Kinds.{unit, own}
-use Rattle.fr_typing.specs.Finding.{typed}
-use Rattle.fr_typing.specs.Typing.{typing}
-use Rattle.fr_typing.proofs.Agree.{exactly_one_lem}
+use Rattle.fr_plain.specs.Below.fr_terms.Terms.{Term, block_t, Items, none}
+use Rattle.fr_plain.specs.Below.fr_typing.Sequential.{AreSequential}
+use Rattle.fr_plain.specs.Below.fr_typing.Kinds.{unit, own}
+use Rattle.fr_plain.specs.Below.fr_typing.Finding.{typed}
+use Rattle.fr_plain.specs.Below.fr_typing.Typing.{typing}
+use Rattle.fr_plain.proofs.Below.fr_typing.Agree.{exactly_one_lem}
 use Rattle.fr_plain.specs.Examples.{lent_inside, twice_read, again_lent, turned, left_first}
 use Rattle.fr_plain.specs.Resolve.{program}
 use Rattle.fr_plain.specs.Whole.{start}

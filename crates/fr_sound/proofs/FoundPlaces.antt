@@ -1,11 +1,11 @@
 -- Where a place leads in the plain machine is where it leads in the seen store.
 use Rattle.std.proofs.Common.{◌≡◌, ℕ, zero, suc, ◌<◌, Bool, true, false, List, [], ◌∷◌, ◌++◌, length, Option, Some, None, refl, sym, ap, ◌∙◌, subst}
 use Rattle.std.specs.Prelude.{◌==◌, if◌then◌else◌}
-use Rattle.fr_base.specs.declared.label.Plain.{Plain}
-use Rattle.fr_base.specs.declared.label.Plain.TheVariants as plain
-use Rattle.fr_base.specs.declared.place.Lval.{Lval}
-use Rattle.fr_typing.specs.Kinds.{Kind, Piece}
-use Rattle.fr_typing.specs.Places.{Env, found, type_at}
+use Rattle.fr_plain.specs.Below.fr_base.declared.label.Plain.{Plain}
+use Rattle.fr_plain.specs.Below.fr_base.declared.label.Plain.TheVariants as plain
+use Rattle.fr_plain.specs.Below.fr_base.declared.place.Lval.{Lval}
+use Rattle.fr_plain.specs.Below.fr_typing.Kinds.{Kind, Piece}
+use Rattle.fr_plain.specs.Below.fr_typing.Places.{Env, found, type_at}
 use Rattle.fr_store.specs.Keys.{slot_k}
 use Rattle.fr_store.specs.Store.{Location, at_key, at_object, Val, gone_v, Store, value_at, then_location, star_target, star_hop, walk}
 use Rattle.fr_store.specs.Store as store

@@ -1,11 +1,11 @@
 -- The type of the result of a thread that isn't there yet may be any.
 use Rattle.std.specs.Prelude.{◌==◌, if◌then◌else◌}
 use Rattle.std.proofs.Common.{◌≡◌, ◌≢◌, ⊎_elim, ℕ, true, false, List, [], ◌∷◌, length, Option, Some, None, refl, sym, ap, ◌∙◌, subst}
-use Rattle.fr_base.specs.declared.label.Plain.{Plain}
-use Rattle.fr_base.specs.declared.label.Plain.TheVariants as plain
-use Rattle.fr_typing.specs.Kinds.{Owned, Kind, own}
-use Rattle.fr_typing.specs.Places.{Env}
-use Rattle.fr_typing.proofs.PlaceLemmas.{eq_cases}
+use Rattle.fr_plain.specs.Below.fr_base.declared.label.Plain.{Plain}
+use Rattle.fr_plain.specs.Below.fr_base.declared.label.Plain.TheVariants as plain
+use Rattle.fr_plain.specs.Below.fr_typing.Kinds.{Owned, Kind, own}
+use Rattle.fr_plain.specs.Below.fr_typing.Places.{Env}
+use Rattle.fr_plain.proofs.Below.fr_typing.PlaceLemmas.{eq_cases}
 use Rattle.fr_store.specs.Keys.{slot_k, temp_k, content_k, result_k, hand_k}
 use Rattle.fr_store.specs.Store.{Alike, Val, task_v, at_key, at_object}
 use Rattle.fr_store.specs.ListState.{slot_value}

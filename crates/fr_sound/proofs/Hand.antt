@@ -2,12 +2,12 @@
 use Rattle.std.specs.Prelude.{◌⊎◌}
 use Rattle.std.proofs.Common.{◌≡◌, ◌≢◌, inl, inr, ⊎_elim, ℕ, zero, suc, ◌<◌, ◌≤◌, Bool, true, false, List, length, Option, Some, None, refl, sym, ap, ◌∙◌, subst, arith}
 use Rattle.std.specs.Prelude.{ℤ}
-use Rattle.fr_base.specs.declared.label.Plain.{Plain}
-use Rattle.fr_base.specs.declared.label.Plain.TheVariants as plain
-use Rattle.fr_base.specs.declared.name.ObjNo.{ObjNo}
-use Rattle.fr_typing.specs.Kinds.{Owned, unit, int, box, mutex, task, Kind, own, shared, mutable, view, whole}
-use Rattle.fr_typing.specs.Places.{Env, AreBelow, kind_places}
-use Rattle.fr_typing.specs.Checks.{is_owned}
+use Rattle.fr_plain.specs.Below.fr_base.declared.label.Plain.{Plain}
+use Rattle.fr_plain.specs.Below.fr_base.declared.label.Plain.TheVariants as plain
+use Rattle.fr_plain.specs.Below.fr_base.declared.name.ObjNo.{ObjNo}
+use Rattle.fr_plain.specs.Below.fr_typing.Kinds.{Owned, unit, int, box, mutex, task, Kind, own, shared, mutable, view, whole}
+use Rattle.fr_plain.specs.Below.fr_typing.Places.{Env, AreBelow, kind_places}
+use Rattle.fr_plain.specs.Below.fr_typing.Checks.{is_owned}
 use Rattle.fr_store.specs.Keys.{Key, slot_k, temp_k, content_k, result_k, hand_k}
 use Rattle.fr_store.specs.Local.{thread_of, IsOwnPlace}
 use Rattle.fr_store.proofs.Keys.{decide_number}

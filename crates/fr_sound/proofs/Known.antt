@@ -1,7 +1,7 @@
 -- Which values stand in a store after a change, and at how many places a task.
 use Rattle.std.proofs.Common.{◌≡◌, ◌≢◌, ◌⊎◌, inl, inr, ℕ, zero, suc, Option, Some, None, refl, sym, ap, ◌∙◌, subst}
 use Rattle.std.specs.Prelude.{if◌then◌else◌}
-use Rattle.fr_base.specs.declared.name.ObjNo.{ObjNo}
+use Rattle.fr_plain.specs.Below.fr_base.declared.name.ObjNo.{ObjNo}
 use Rattle.fr_store.specs.Keys.{Key}
 use Rattle.fr_store.specs.Store.{Alike, Location, at_key, at_object, Val, gone_v, unit_v, int_v, box_v, mutex_v, task_v, ref_v, Store, value_at, put_value, or_gone, swap, unbox, make, drop_link, drop_value}
 use Rattle.fr_store.specs.Typed.{Tree}

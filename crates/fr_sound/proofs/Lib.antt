@@ -1,3 +1,4 @@
+pub mod Below
 pub mod DoneTerms
 pub mod Settling
 pub mod Redex

@@ -1,9 +1,9 @@
 -- A step of a thread that goes on by an act of its own keeps a state typed.
 use Rattle.std.specs.Prelude.{◌++◌}
 use Rattle.std.proofs.Common.{◌≡◌, ℕ, List, [], length, Option, Some, None, sym, ap, ◌∙◌, subst}
-use Rattle.fr_base.specs.declared.step.Fresh.TheVariants as fresh
-use Rattle.fr_typing.specs.Kinds.{Kind}
-use Rattle.fr_typing.specs.Places.{Env}
+use Rattle.fr_plain.specs.Below.fr_base.declared.step.Fresh.TheVariants as fresh
+use Rattle.fr_plain.specs.Below.fr_typing.Kinds.{Kind}
+use Rattle.fr_plain.specs.Below.fr_typing.Places.{Env}
 use Rattle.fr_store.specs.Keys.{hand_k}
 use Rattle.fr_store.specs.Store.{at_key, gone_v, put_value}
 use Rattle.fr_store.proofs.ListState.{list_put_hand}

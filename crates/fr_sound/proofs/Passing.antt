@@ -1,11 +1,11 @@
 -- Captures: values go from a thread's slots to those of a new one, and both stay typed.
 use Rattle.std.specs.Prelude.{◌⊎◌, ◌==◌, if◌then◌else◌}
 use Rattle.std.proofs.Common.{◌≡◌, ◌≢◌, inl, inr, ℕ, suc, ◌<◌, ◌+◌, Bool, List, ◌∷◌, length, Option, Some, None, refl, sym, ap, ◌∙◌, subst, arith}
-use Rattle.fr_base.specs.declared.label.Plain.TheVariants as plain
-use Rattle.fr_terms.specs.Terms.{Text}
-use Rattle.fr_typing.specs.Kinds.{Owned, unit, int, box, mutex, task, own, whole, gone}
-use Rattle.fr_typing.specs.Places.{Env, put_at}
-use Rattle.fr_typing.proofs.PlaceLemmas.{eq_cases}
+use Rattle.fr_plain.specs.Below.fr_base.declared.label.Plain.TheVariants as plain
+use Rattle.fr_plain.specs.Below.fr_terms.Terms.{Text}
+use Rattle.fr_plain.specs.Below.fr_typing.Kinds.{Owned, unit, int, box, mutex, task, own, whole, gone}
+use Rattle.fr_plain.specs.Below.fr_typing.Places.{Env, put_at}
+use Rattle.fr_plain.proofs.Below.fr_typing.PlaceLemmas.{eq_cases}
 use Rattle.fr_store.specs.Keys.{Key, slot_k, temp_k, content_k, result_k, hand_k}
 use Rattle.fr_store.specs.Store.{Alike, Val, gone_v, unit_v, int_v, task_v, at_key, at_object, Store, Place, value_at, put_value, swap}
 use Rattle.fr_store.specs.ListState.{Objects, slot_value, key_value, store_beside}

@@ -1,11 +1,11 @@
 -- Reads and borrows: copies, moves and references come to hand.
 use Rattle.std.proofs.Common.{◌≡◌, ℕ, ◌<◌, ◌≤◌, Bool, true, false, List, [], ◌∷◌, length, Option, Some, None, refl, sym, ap, ◌∙◌, subst, arith}
-use Rattle.fr_base.specs.declared.label.Plain.{Plain}
-use Rattle.fr_base.specs.declared.label.Plain.TheVariants as plain
-use Rattle.fr_base.specs.declared.name.ObjNo.{ObjNo}
-use Rattle.fr_base.specs.declared.place.Lval.{Lval}
-use Rattle.fr_typing.specs.Kinds.{unit, int, box, mutex, task, Kind, own, shared, mutable, view, whole, gone, copies}
-use Rattle.fr_typing.specs.Places.{Env, found, type_at, put_at}
+use Rattle.fr_plain.specs.Below.fr_base.declared.label.Plain.{Plain}
+use Rattle.fr_plain.specs.Below.fr_base.declared.label.Plain.TheVariants as plain
+use Rattle.fr_plain.specs.Below.fr_base.declared.name.ObjNo.{ObjNo}
+use Rattle.fr_plain.specs.Below.fr_base.declared.place.Lval.{Lval}
+use Rattle.fr_plain.specs.Below.fr_typing.Kinds.{unit, int, box, mutex, task, Kind, own, shared, mutable, view, whole, gone, copies}
+use Rattle.fr_plain.specs.Below.fr_typing.Places.{Env, found, type_at, put_at}
 use Rattle.fr_store.specs.Keys.{slot_k, hand_k}
 use Rattle.fr_store.specs.Store.{Alike, Location, at_key, at_object, Val, gone_v, unit_v, int_v, task_v, ref_v, Store, value_at, or_gone, put_value, swap, drop_value}
 use Rattle.fr_store.specs.Store as store

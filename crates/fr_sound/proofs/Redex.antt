@@ -1,12 +1,12 @@
 -- A typed term is done, or its next act is typed and what it becomes is typed again.
 use Rattle.std.proofs.Common.{◌≡◌, ℕ, zero, suc, ◌≤◌, true, false, ◌∷◌, length, Option, Some, None, refl, sym, ap, ◌∙◌, subst, arith as numbers}
 use Rattle.std.specs.Prelude.{⊤}
-use Rattle.fr_base.specs.declared.place.Lval.{Lval}
-use Rattle.fr_base.specs.declared.place.Op.{Op}
-use Rattle.fr_terms.specs.Terms.{Text}
-use Rattle.fr_typing.specs.Kinds.{Owned, unit, int, box, mutex, task, Kind, own, shared, mutable, view, whole}
-use Rattle.fr_typing.specs.Places.{Slot, Env, AreBelow, kind_places}
-use Rattle.fr_typing.proofs.PlaceLemmas.{AreBelow-weaker}
+use Rattle.fr_plain.specs.Below.fr_base.declared.place.Lval.{Lval}
+use Rattle.fr_plain.specs.Below.fr_base.declared.place.Op.{Op}
+use Rattle.fr_plain.specs.Below.fr_terms.Terms.{Text}
+use Rattle.fr_plain.specs.Below.fr_typing.Kinds.{Owned, unit, int, box, mutex, task, Kind, own, shared, mutable, view, whole}
+use Rattle.fr_plain.specs.Below.fr_typing.Places.{Slot, Env, AreBelow, kind_places}
+use Rattle.fr_plain.proofs.Below.fr_typing.PlaceLemmas.{AreBelow-weaker}
 use Rattle.fr_store.specs.Thread.{temp_places}
 use Rattle.fr_plain.specs.declared.value.Value.{Value}
 use Rattle.fr_plain.specs.Acts.{Act, do_let, do_read, do_borrow, do_assign, do_box, do_arith, do_print, do_discard, do_drop, do_spawn, do_join}

@@ -1,9 +1,9 @@
 -- Letting a thread go whose task nobody has any more keeps a state typed.
 use Rattle.std.proofs.Common.{◌≡◌, ◌≢◌, inl, ⊎_elim, ℕ, zero, suc, Bool, true, List, Option, Some, None, refl, sym, ap, ◌∙◌, subst, arith}
-use Rattle.fr_typing.specs.Kinds.{own}
+use Rattle.fr_plain.specs.Below.fr_typing.Kinds.{own}
 use Rattle.fr_store.specs.Keys.{Key, slot_k, temp_k, content_k, result_k, hand_k}
 use Rattle.fr_store.specs.Store.{Alike, Location, Val, gone_v, unit_v, int_v, box_v, mutex_v, task_v, ref_v, at_key, at_object, Store, or_gone, unbox, drop_link, drop_value, value_at}
-use Rattle.fr_base.specs.declared.name.ObjNo.{ObjNo}
+use Rattle.fr_plain.specs.Below.fr_base.declared.name.ObjNo.{ObjNo}
 use Rattle.fr_store.specs.ListState.{without_object, drop_objects, drop_rest}
 use Rattle.fr_store.specs.Typed.{hole, owns, KeyTypes, Typed, Unnamed}
 use Rattle.fr_store.specs.Below.{tree_of}

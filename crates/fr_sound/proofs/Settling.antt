@@ -1,7 +1,7 @@
 -- Settling keeps a term's typing and its temporary value.
 use Rattle.std.proofs.Common.{◌≡◌, ℕ, zero, suc, length, Option, None, refl, sym, ap, ◌∙◌, subst}
-use Rattle.fr_typing.specs.Kinds.{int, Kind, own}
-use Rattle.fr_typing.specs.Places.{Env, AreBelow, kind_places}
+use Rattle.fr_plain.specs.Below.fr_typing.Kinds.{int, Kind, own}
+use Rattle.fr_plain.specs.Below.fr_typing.Places.{Env, AreBelow, kind_places}
 use Rattle.fr_plain.specs.declared.value.Value.{Value}
 use Rattle.fr_plain.specs.Run.{Run, temp, unit_c, number, read, borrow, box_r, arith, bind, print, assign, block, spawn, join_r, mutex_r, dup, lock, locked, par, par_end, Parts, last, more, Now, going, constant, temporary, after, at_end, now, now_parts, settle, settle_parts, settle_more, settle_right, close_last, close}
 use Rattle.fr_sound.specs.RunTypes.{Forms, t_join, Falls, f_none, IsNumber, RunTypes, t_box, t_left, t_right, t_let, t_print, t_assign, t_block, PartsTypes, p_last, p_more, first_of, held, held_in}

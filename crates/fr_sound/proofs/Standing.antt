@@ -1,14 +1,14 @@
 -- A thread has ended, waits, or steps.
 use Rattle.std.specs.Prelude.{◌==◌, ◌||◌, is_some, if◌then◌else◌}
 use Rattle.std.proofs.Common.{◌≡◌, ℕ, suc, ◌+◌, ◌≤◌, Bool, true, false, List, [], ◌∷◌, Option, Some, None, refl, sym, ap, ◌∙◌, arith}
-use Rattle.fr_base.specs.declared.label.Plain.TheVariants as plain
-use Rattle.fr_base.specs.declared.label.Label.{Label}
-use Rattle.fr_base.specs.declared.name.MutexNo.{MutexNo}
-use Rattle.fr_base.specs.declared.step.Fresh.{Fresh}
-use Rattle.fr_base.specs.declared.step.Fresh.TheVariants as fresh
-use Rattle.fr_base.specs.declared.step.Wait.{Wait}
-use Rattle.fr_base.specs.declared.step.Wait.TheVariants as wait
-use Rattle.fr_typing.proofs.PlaceLemmas.{eq_cases}
+use Rattle.fr_plain.specs.Below.fr_base.declared.label.Plain.TheVariants as plain
+use Rattle.fr_plain.specs.Below.fr_base.declared.label.Label.{Label}
+use Rattle.fr_plain.specs.Below.fr_base.declared.name.MutexNo.{MutexNo}
+use Rattle.fr_plain.specs.Below.fr_base.declared.step.Fresh.{Fresh}
+use Rattle.fr_plain.specs.Below.fr_base.declared.step.Fresh.TheVariants as fresh
+use Rattle.fr_plain.specs.Below.fr_base.declared.step.Wait.{Wait}
+use Rattle.fr_plain.specs.Below.fr_base.declared.step.Wait.TheVariants as wait
+use Rattle.fr_plain.proofs.Below.fr_typing.PlaceLemmas.{eq_cases}
 use Rattle.fr_plain.specs.declared.value.Value.{Value}
 use Rattle.fr_plain.specs.declared.value.Value.TheVariants.{Own, ToSlot, ToObject, Held}
 use Rattle.fr_plain.specs.Acts.{Act, do_let, do_read, do_borrow, do_assign, do_box, do_arith, do_print, do_discard, do_drop, do_end, do_spawn, do_join, do_finish, do_leave, do_mutex, do_dup, do_lock, do_unlock, do_par, do_par_end}

@@ -1,13 +1,13 @@
 -- Programs with threads start typed.
 use Rattle.std.specs.Prelude.{◌==◌, if◌then◌else◌}
 use Rattle.std.proofs.Common.{◌≡◌, ℕ, Bool, true, false, [], Option, Some, None, refl, sym, ap, ◌∙◌, subst, arith}
-use Rattle.fr_terms.specs.Terms.{Term, block_t, Items}
-use Rattle.fr_typing.specs.Kinds.{unit, Kind, own}
-use Rattle.fr_typing.specs.Places.{Env}
-use Rattle.fr_typing.specs.Finding.{typed}
-use Rattle.fr_typing.specs.Typing.{typing}
-use Rattle.fr_typing.proofs.Agree.{exactly_one_lem}
-use Rattle.fr_typing.proofs.PlaceLemmas.{eq_cases}
+use Rattle.fr_plain.specs.Below.fr_terms.Terms.{Term, block_t, Items}
+use Rattle.fr_plain.specs.Below.fr_typing.Kinds.{unit, Kind, own}
+use Rattle.fr_plain.specs.Below.fr_typing.Places.{Env}
+use Rattle.fr_plain.specs.Below.fr_typing.Finding.{typed}
+use Rattle.fr_plain.specs.Below.fr_typing.Typing.{typing}
+use Rattle.fr_plain.proofs.Below.fr_typing.Agree.{exactly_one_lem}
+use Rattle.fr_plain.proofs.Below.fr_typing.PlaceLemmas.{eq_cases}
 use Rattle.fr_store.specs.Keys.{slot_k, temp_k, content_k, result_k, hand_k}
 use Rattle.fr_store.specs.Store.{Alike, Location, Val, gone_v, task_v, at_key, at_object, Store, value_at}
 use Rattle.fr_store.specs.Typed.{Tree, hole, owns, KeyTypes}
@@ -17,7 +17,7 @@ use Rattle.fr_plain.specs.Run.{Run, settle, alive}
 use Rattle.fr_plain.specs.Whole.{Thread, start}
 use Rattle.fr_plain.specs.Resolve.{program}
 use Rattle.fr_plain.specs.ThreadRuns.{joined, moved_in, copied_in, let_go, task_of_task}
-use Rattle.fr_typing.specs.Threaded.{AreThreaded}
+use Rattle.fr_plain.specs.Below.fr_typing.Threaded.{AreThreaded}
 use Rattle.fr_sound.specs.RunTypes.{threads, RunTypes, held}
 use Rattle.fr_sound.specs.Seen.{Gives, seen_cell, rank_of, IsKnown, AreKnown}
 use Rattle.fr_sound.specs.Together.{slot_in, hand_in, result_val, seen_all, owed_in, IsTypedIn, AreTyped, StartsTogether}
@@ -92,7 +92,7 @@ starts_together_lem at items k e a y =
 -- the items of a program
 abbrev items_of : Term → Items
 items_of (block_t at items) = items
-items_of t = Rattle.fr_terms.specs.Terms.none
+items_of t = Rattle.fr_plain.specs.Below.fr_terms.Terms.none
 
 -- a program that typing computes to be typed as unit starts typed
 computed : (items : Items) → AreThreaded items → typing (block_t 0 items) [] ≡ typed (own unit) [] → AreTyped (start (program (block_t 0 items)))

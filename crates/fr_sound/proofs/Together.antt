@@ -1,13 +1,13 @@
 -- No thread of a typed state is stuck, and programs start typed.
 use Rattle.std.specs.Prelude.{is_some, if◌then◌else◌}
 use Rattle.std.proofs.Common.{◌≡◌, ◌≢◌, ℕ, true, false, [], Option, Some, None, refl, sym, ap, ◌∙◌, subst}
-use Rattle.fr_base.specs.declared.label.Plain.TheVariants as plain
-use Rattle.fr_base.specs.declared.step.Fresh.{Fresh}
-use Rattle.fr_base.specs.declared.step.Fresh.TheVariants as fresh
-use Rattle.fr_base.specs.declared.step.Wait.{Wait}
-use Rattle.fr_base.specs.declared.step.Wait.TheVariants as wait
-use Rattle.fr_typing.specs.Kinds.{Owned, task, Kind, own}
-use Rattle.fr_typing.specs.Places.{Env}
+use Rattle.fr_plain.specs.Below.fr_base.declared.label.Plain.TheVariants as plain
+use Rattle.fr_plain.specs.Below.fr_base.declared.step.Fresh.{Fresh}
+use Rattle.fr_plain.specs.Below.fr_base.declared.step.Fresh.TheVariants as fresh
+use Rattle.fr_plain.specs.Below.fr_base.declared.step.Wait.{Wait}
+use Rattle.fr_plain.specs.Below.fr_base.declared.step.Wait.TheVariants as wait
+use Rattle.fr_plain.specs.Below.fr_typing.Kinds.{Owned, task, Kind, own}
+use Rattle.fr_plain.specs.Below.fr_typing.Places.{Env}
 use Rattle.fr_store.specs.Keys.{hand_k}
 use Rattle.fr_store.specs.Store.{task_v, at_key}
 use Rattle.fr_store.specs.Typed.{Tree}

@@ -1,9 +1,9 @@
 -- A typed state after one thread's act: that thread, and the others.
 use Rattle.std.specs.Prelude.{◌⊎◌, ◌+◌, ⊤, if◌then◌else◌}
 use Rattle.std.proofs.Common.{◌≡◌, ◌≢◌, inl, inr, ⊎_elim, ℕ, ◌≤◌, Bool, true, List, [], length, Option, Some, None, refl, sym, ap, ◌∙◌, subst, arith}
-use Rattle.fr_typing.specs.Kinds.{Kind, own}
-use Rattle.fr_typing.specs.Places.{Env}
-use Rattle.fr_typing.proofs.PlaceLemmas.{eq_cases}
+use Rattle.fr_plain.specs.Below.fr_typing.Kinds.{Kind, own}
+use Rattle.fr_plain.specs.Below.fr_typing.Places.{Env}
+use Rattle.fr_plain.proofs.Below.fr_typing.PlaceLemmas.{eq_cases}
 use Rattle.fr_store.specs.Keys.{Key, slot_k, temp_k, content_k, result_k, hand_k}
 use Rattle.fr_store.specs.Store.{Alike, Val, gone_v, unit_v, int_v, box_v, mutex_v, task_v, ref_v, at_key, at_object, Store}
 use Rattle.fr_store.specs.ListState.{slot_value}

@@ -3,12 +3,12 @@ use Rattle.std.proofs.Common.{◌≡◌, ℕ, zero, suc, ◌-◌, Bool, true, fa
 use Rattle.std.specs.Prelude.{◌==◌, ◌⊎◌, if◌then◌else◌, slice_get}
 use Rattle.fr_plain.proofs.HeapLemmas.{flat_past}
 use Rattle.std.proofs.Common.{inl, inr}
-use Rattle.fr_base.specs.declared.step.Fresh.TheVariants as fresh
-use Rattle.fr_terms.specs.Terms.{block_t, Items}
-use Rattle.fr_typing.specs.Kinds.{Kind}
-use Rattle.fr_typing.specs.Places.{Env}
-use Rattle.fr_typing.specs.Typing.{Types, types_block}
-use Rattle.fr_typing.proofs.PlaceLemmas.{eq_cases}
+use Rattle.fr_plain.specs.Below.fr_base.declared.step.Fresh.TheVariants as fresh
+use Rattle.fr_plain.specs.Below.fr_terms.Terms.{block_t, Items}
+use Rattle.fr_plain.specs.Below.fr_typing.Kinds.{Kind}
+use Rattle.fr_plain.specs.Below.fr_typing.Places.{Env}
+use Rattle.fr_plain.specs.Below.fr_typing.Typing.{Types, types_block}
+use Rattle.fr_plain.proofs.Below.fr_typing.PlaceLemmas.{eq_cases}
 use Rattle.fr_store.specs.Keys.{slot_k, hand_k}
 use Rattle.fr_store.specs.Store.{Alike, Location, at_key, at_object, Val, gone_v, task_v, value_at}
 use Rattle.fr_store.specs.ListState.{nothing, store_of}

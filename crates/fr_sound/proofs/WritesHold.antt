@@ -1,10 +1,10 @@
 -- Assignment: of owned values, along boxes and through mutable references, and of references to variables.
 use Rattle.std.proofs.Common.{◌≡◌, ◌≢◌, ℕ, ◌<◌, ◌≤◌, Bool, true, false, List, [], length, Option, Some, None, refl, sym, ap, ◌∙◌, subst, arith}
 use Rattle.std.specs.Prelude.{◌||◌}
-use Rattle.fr_base.specs.declared.place.Lval.{Lval}
-use Rattle.fr_typing.specs.Kinds.{map_some, Owned, unit, Kind, own, shared, mutable, view, Piece, whole, gone, boxed}
-use Rattle.fr_typing.specs.Places.{Env, found, type_at, is_lent, is_mutable, put_at, Shape, write_blocked, shared_to, mutable_to, owned_shape, piece_shape, shape_at, AreBelow, kind_places, first_shape}
-use Rattle.fr_typing.specs.Checks.{is_owned}
+use Rattle.fr_plain.specs.Below.fr_base.declared.place.Lval.{Lval}
+use Rattle.fr_plain.specs.Below.fr_typing.Kinds.{map_some, Owned, unit, Kind, own, shared, mutable, view, Piece, whole, gone, boxed}
+use Rattle.fr_plain.specs.Below.fr_typing.Places.{Env, found, type_at, is_lent, is_mutable, put_at, Shape, write_blocked, shared_to, mutable_to, owned_shape, piece_shape, shape_at, AreBelow, kind_places, first_shape}
+use Rattle.fr_plain.specs.Below.fr_typing.Checks.{is_owned}
 use Rattle.fr_store.specs.Keys.{slot_k, hand_k}
 use Rattle.fr_store.specs.Local.{thread_of}
 use Rattle.fr_store.specs.Store.{Alike, Location, at_key, Val, gone_v, Store, Place, value_at, swap, drop_value}

@@ -1,7 +1,7 @@
 -- Threads of a typed state share no object (this project's rule). From this it follows that none writes what another one reads.
 use Rattle.std.specs.Prelude.{◌≡◌, ◌≢◌, Some}
-use Rattle.fr_base.specs.declared.name.ObjNo.{ObjNo}
-use Rattle.fr_base.specs.declared.place.Lval.{Lval}
+use Rattle.fr_plain.specs.Below.fr_base.declared.name.ObjNo.{ObjNo}
+use Rattle.fr_plain.specs.Below.fr_base.declared.place.Lval.{Lval}
 use Rattle.fr_plain.specs.State.{in_cell, Reached, locate}
 use Rattle.fr_plain.specs.Threads.{Thread, Whole, thread_at}
 use Rattle.fr_plain.specs.Whole.{state_of}

@@ -1,3 +1,4 @@
+pub mod Below
 pub mod RunTypes
 pub mod Seen
 pub mod Entries

@@ -1,12 +1,12 @@
 -- No thread of a typed program is ever stuck (Featherweight Rust's progress and preservation), for the forms of
 -- one thread.
 use Rattle.std.specs.Prelude.{◌≡◌, ◌⊎◌, ℕ, [], ◌∷◌, Option, Some, None}
-use Rattle.fr_base.specs.declared.step.Fresh.TheVariants as fresh
-use Rattle.fr_terms.specs.Terms.{block_t, Items}
-use Rattle.fr_typing.specs.Sequential.{IsSequential}
-use Rattle.fr_typing.specs.Kinds.{Kind}
-use Rattle.fr_typing.specs.Places.{Env}
-use Rattle.fr_typing.specs.Typing.{Types}
+use Rattle.fr_plain.specs.Below.fr_base.declared.step.Fresh.TheVariants as fresh
+use Rattle.fr_plain.specs.Below.fr_terms.Terms.{block_t, Items}
+use Rattle.fr_plain.specs.Below.fr_typing.Sequential.{IsSequential}
+use Rattle.fr_plain.specs.Below.fr_typing.Kinds.{Kind}
+use Rattle.fr_plain.specs.Below.fr_typing.Places.{Env}
+use Rattle.fr_plain.specs.Below.fr_typing.Typing.{Types}
 use Rattle.fr_plain.specs.State.{State}
 use Rattle.fr_plain.specs.Run.{Run, Life, alive, over, owing, loose, ended}
 use Rattle.fr_plain.specs.Whole.{Thread, Whole, Stepped, state_of, step, start}

@@ -1,12 +1,12 @@
 -- Types of running terms and of acts: the typing table on terms with slots and values in them (this project's rule).
 use Rattle.std.specs.Prelude.{◌≡◌, ℕ, ℤ, zero, suc, ◌<◌, true, false, List, [], ◌∷◌, length, Option, Some, None}
-use Rattle.fr_base.specs.declared.label.Plain.TheVariants as plain
-use Rattle.fr_base.specs.declared.place.Lval.{Lval}
-use Rattle.fr_base.specs.declared.place.Op.{Op}
-use Rattle.fr_terms.specs.Terms.{Text}
-use Rattle.fr_typing.specs.Kinds.{Owned, unit, int, box, task, Kind, own, shared, mutable, Piece, whole, gone, copies}
-use Rattle.fr_typing.specs.Places.{Slot, Env, found, type_at, read_blocked, write_blocked, is_writable, is_own_path, put_at, owned_shape, piece_shape, shape_at, AreBelow, kind_places}
-use Rattle.fr_typing.specs.Checks.{is_owned}
+use Rattle.fr_plain.specs.Below.fr_base.declared.label.Plain.TheVariants as plain
+use Rattle.fr_plain.specs.Below.fr_base.declared.place.Lval.{Lval}
+use Rattle.fr_plain.specs.Below.fr_base.declared.place.Op.{Op}
+use Rattle.fr_plain.specs.Below.fr_terms.Terms.{Text}
+use Rattle.fr_plain.specs.Below.fr_typing.Kinds.{Owned, unit, int, box, task, Kind, own, shared, mutable, Piece, whole, gone, copies}
+use Rattle.fr_plain.specs.Below.fr_typing.Places.{Slot, Env, found, type_at, read_blocked, write_blocked, is_writable, is_own_path, put_at, owned_shape, piece_shape, shape_at, AreBelow, kind_places}
+use Rattle.fr_plain.specs.Below.fr_typing.Checks.{is_owned}
 use Rattle.fr_store.specs.Thread.{temp_places}
 use Rattle.fr_plain.specs.declared.value.Value.{Value}
 use Rattle.fr_plain.specs.declared.value.Value.TheVariants.{Own}

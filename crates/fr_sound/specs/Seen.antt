@@ -1,12 +1,12 @@
 -- The plain machine's state as a typed store: a thread's slots, the temporary value of its running term, and the heap,
 -- beside what other threads have (this project's rule).
 use Rattle.std.specs.Prelude.{◌≡◌, ◌≢◌, ℕ, ◌<◌, ◌≤◌, ⊤, Bool, true, false, List, [], ◌∷◌, length, Option, Some, None}
-use Rattle.fr_base.specs.declared.label.Plain.{Plain}
-use Rattle.fr_base.specs.declared.label.Plain.TheVariants as plain
-use Rattle.fr_base.specs.declared.name.ObjNo.{ObjNo}
-use Rattle.fr_base.specs.declared.name.MutexNo.{MutexNo}
-use Rattle.fr_typing.specs.Kinds.{Owned, unit, Kind}
-use Rattle.fr_typing.specs.Places.{Env}
+use Rattle.fr_plain.specs.Below.fr_base.declared.label.Plain.{Plain}
+use Rattle.fr_plain.specs.Below.fr_base.declared.label.Plain.TheVariants as plain
+use Rattle.fr_plain.specs.Below.fr_base.declared.name.ObjNo.{ObjNo}
+use Rattle.fr_plain.specs.Below.fr_base.declared.name.MutexNo.{MutexNo}
+use Rattle.fr_plain.specs.Below.fr_typing.Kinds.{Owned, unit, Kind}
+use Rattle.fr_plain.specs.Below.fr_typing.Places.{Env}
 use Rattle.fr_store.specs.Keys.{Key, slot_k, hand_k}
 use Rattle.fr_store.specs.Store.{Location, at_key, at_object, Val, gone_v, unit_v, int_v, box_v, mutex_v, task_v, ref_v, Store, value_at}
 use Rattle.fr_store.specs.ListState.{store_beside, nothing}

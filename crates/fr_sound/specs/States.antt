@@ -1,11 +1,11 @@
 -- TYPED STATES of the plain machine, name by name (Featherweight Rust's valid states, with this project's threads, mutexes and views). P is the
 -- place of a thread in its program; `knows` is what typing knows at a place, and `temps` gives the temporary values there, the last one first.
 use Rattle.std.specs.Prelude.{◌≡◌, ◌≢◌, ◌⊎◌, ℕ, suc, ◌<◌, ⊤, Bool, true, false, not, ◌==◌, is_some, List, [], ◌∷◌, length, Option, Some, None, if◌then◌else◌, slice_get}
-use Rattle.fr_base.specs.declared.name.ObjNo.{ObjNo}
-use Rattle.fr_base.specs.declared.name.MutexNo.{MutexNo}
-use Rattle.fr_base.specs.declared.label.Plain.{Plain}
-use Rattle.fr_typing.specs.Kinds.{Owned, unit, box, Kind, own, shared, mutable, view, Piece, whole, gone, boxed, map_some}
-use Rattle.fr_typing.specs.Places.{Slot, Env}
+use Rattle.fr_plain.specs.Below.fr_base.declared.name.ObjNo.{ObjNo}
+use Rattle.fr_plain.specs.Below.fr_base.declared.name.MutexNo.{MutexNo}
+use Rattle.fr_plain.specs.Below.fr_base.declared.label.Plain.{Plain}
+use Rattle.fr_plain.specs.Below.fr_typing.Kinds.{Owned, unit, box, Kind, own, shared, mutable, view, Piece, whole, gone, boxed, map_some}
+use Rattle.fr_plain.specs.Below.fr_typing.Places.{Slot, Env}
 use Rattle.fr_store.specs.Keys.{Key, slot_k, temp_k, content_k, result_k, hand_k}
 use Rattle.fr_store.specs.Store.{Location, at_key, at_object, Val, gone_v, box_v, mutex_v, task_v, ref_v, Store, value_at, Place, below_location, below_key}
 use Rattle.fr_store.specs.Typed.{Tree, int_tree, owns, refers, KeyTypes, Typed, Unnamed}

@@ -1,12 +1,12 @@
 -- Several threads over one heap that share no memory: typed states, and that no thread is ever stuck (Featherweight Rust's
 -- progress and preservation, with this project's threads).
 use Rattle.std.specs.Prelude.{◌≡◌, ℕ, ◌≤◌, ⊤, Bool, true, false, List, [], length, Option, Some, None}
-use Rattle.fr_base.specs.declared.step.Fresh.{Fresh}
-use Rattle.fr_base.specs.declared.step.Wait.TheVariants as wait
-use Rattle.fr_terms.specs.Terms.{block_t, Items}
-use Rattle.fr_typing.specs.Kinds.{Kind, own}
-use Rattle.fr_typing.specs.Places.{Env}
-use Rattle.fr_typing.specs.Typing.{Types}
+use Rattle.fr_plain.specs.Below.fr_base.declared.step.Fresh.{Fresh}
+use Rattle.fr_plain.specs.Below.fr_base.declared.step.Wait.TheVariants as wait
+use Rattle.fr_plain.specs.Below.fr_terms.Terms.{block_t, Items}
+use Rattle.fr_plain.specs.Below.fr_typing.Kinds.{Kind, own}
+use Rattle.fr_plain.specs.Below.fr_typing.Places.{Env}
+use Rattle.fr_plain.specs.Below.fr_typing.Typing.{Types}
 use Rattle.fr_store.specs.Keys.{Key, slot_k, temp_k, content_k, result_k, hand_k}
 use Rattle.fr_store.specs.Store.{Val, gone_v, Store}
 use Rattle.fr_store.specs.ListState.{slot_value}
@@ -19,7 +19,7 @@ use Rattle.fr_plain.specs.Run.{Run, Life, alive, over, owing, loose, ended}
 use Rattle.fr_plain.specs.Threads.{result_of_life}
 use Rattle.fr_plain.specs.Whole.{Thread, Whole, Stepped, thread_at, is_over, waits_for, step, refused, start}
 use Rattle.fr_plain.specs.Resolve.{program}
-use Rattle.fr_typing.specs.Threaded.{IsThreaded}
+use Rattle.fr_plain.specs.Below.fr_typing.Threaded.{IsThreaded}
 use Rattle.fr_sound.specs.RunTypes.{threads, RunTypes, held}
 use Rattle.fr_sound.specs.Seen.{Gives, vals, hand_of, heap_of, rank_of, IsKnown, AreKnown}
 

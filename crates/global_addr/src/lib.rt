@@ -2,8 +2,6 @@
 //! Contracts see a word as that number; `specs/Words.antt` has its parts.
 #![tactic(auto)]
 
-#[cfg(test)]
-mod tests;
 mod word;
 
 pub use word::{Word, words_law};

@@ -1,11 +1,11 @@
 -- What a thread waits for is under its object's word: the message that asks for the object or brings it has that word.
 use Rattle.std.proofs.Common.{◌≡◌, inl, inr, ⊎_elim, ◌≤◌, ℕ, zero, suc, ◌==◌, ◌&&◌, Bool, true, false, not, is_some, List, [], ◌∷◌, ◌++◌, if◌then◌else◌, Option, Some, None, refl, sym, ap, subst, ◌∙◌, arith}
-use Rattle.fr_base.specs.declared.name.ObjNo.{ObjNo}
-use Rattle.heap_partition.specs.declared.value.Cell.{Cell}
-use Rattle.server_msgs.specs.declared.message.Message.{Message}
-use Rattle.server_msgs.specs.declared.message.Message.TheVariants as message
+use Rattle.server_model.specs.Below.fr_base.declared.name.ObjNo.{ObjNo}
+use Rattle.server_model.specs.Below.heap_partition.declared.value.Cell.{Cell}
+use Rattle.server_model.specs.Below.server_msgs.declared.message.Message.{Message}
+use Rattle.server_model.specs.Below.server_msgs.declared.message.Message.TheVariants as message
 use Rattle.server_model.specs.Servers.{Cluster}
-use Rattle.thread_state.specs.declared.phase.Phase.TheVariants as phase
+use Rattle.server_model.specs.Below.thread_state.declared.phase.Phase.TheVariants as phase
 use Rattle.heap_law.specs.Names.{tot, one, other, some, same_object, same_owned, same_cell, Among}
 use Rattle.heap_law.specs.Things.{Thing, holds, flies, sent, things_of}
 use Rattle.heap_law.specs.Follow.{Standing}

@@ -1,8 +1,8 @@
 -- Dirty references are alone exactly where nothing is counted.
 use Rattle.std.proofs.Common.{◌≡◌, ◌⊎◌, inl, inr, ⊎_elim, ℕ, ◌+◌, Bool, true, false, not, ◌&&◌, List, [], ◌∷◌, ◌++◌, None, Some, refl, sym, subst, ◌∙◌, arith}
-use Rattle.mut_borrow.specs.declared.mutable.MutRef.{MutRef}
-use Rattle.mut_borrow.specs.declared.shared.SharedRef.{SharedRef}
-use Rattle.mut_borrow.specs.Refs.{changed}
+use Rattle.server_model.specs.Below.mut_borrow.declared.mutable.MutRef.{MutRef}
+use Rattle.server_model.specs.Below.mut_borrow.declared.shared.SharedRef.{SharedRef}
+use Rattle.server_model.specs.Below.mut_borrow.Refs.{changed}
 use Rattle.server_model.specs.Servers.{Cluster}
 use Rattle.heap_law.specs.Names.{tot, one, if_so, same_object, Among}
 use Rattle.heap_law.specs.Things.{Location, Thing, shares}

@@ -1,8 +1,8 @@
 -- What a step has followed is at hand exactly where nothing is counted.
 use Rattle.std.proofs.Common.{◌≡◌, ℕ, zero, suc, ◌<◌, Bool, true, false, List, [], ◌∷◌, ◌++◌, Option, Some, None, refl, ap, subst, ◌∙◌, arith}
 use Rattle.std.specs.Prelude.{slice_get}
-use Rattle.fr_base.specs.declared.place.Lval.{Lval}
-use Rattle.thread_state.specs.declared.value.Value.{Value}
+use Rattle.server_model.specs.Below.fr_base.declared.place.Lval.{Lval}
+use Rattle.server_model.specs.Below.thread_state.declared.value.Value.{Value}
 use Rattle.heap_law.specs.Names.{tot, if_so, Among}
 use Rattle.heap_law.specs.Things.{Location}
 use Rattle.heap_law.specs.Follow.{Standing, Ground, value_in, value_behind, locate, hop_at, hops}

@@ -2,9 +2,9 @@
 use Rattle.std.proofs.Common.{◌≡◌, ℕ, ◌+◌, Bool, true, false, refl, subst, ap, arith}
 use Rattle.std.specs.Prelude.{◌==◌, ◌&&◌}
 use Rattle.std.proofs.lemmas.Bool.Decides.{nat_tests}
-use Rattle.fr_base.specs.declared.name.ObjNo.{ObjNo}
-use Rattle.fr_base.specs.declared.name.MutexNo.{MutexNo}
-use Rattle.fr_store.proofs.Keys.{object_cases}
+use Rattle.server_model.specs.Below.fr_base.declared.name.ObjNo.{ObjNo}
+use Rattle.server_model.specs.Below.fr_base.declared.name.MutexNo.{MutexNo}
+use Rattle.fr_code.proofs.Below.fr_store.Keys.{object_cases}
 use Rattle.heap_law.specs.Names.{one, if_so, same_object, same_mutex}
 
 pub and_left : (p q : Bool) → (p && q) ≡ true → p ≡ true

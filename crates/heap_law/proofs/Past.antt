@@ -1,7 +1,7 @@
 -- First words that were left are no words of today exactly where nothing is counted.
 use Rattle.std.proofs.Common.{◌≡◌, ℕ, Bool, true, false, not, List, refl, sym, subst, ◌∙◌, arith}
 use Rattle.std.specs.Prelude.{◌≢◌, ◌==◌}
-use Rattle.mut_borrow.specs.declared.mutable.MutRef.{MutRef}
+use Rattle.server_model.specs.Below.mut_borrow.declared.mutable.MutRef.{MutRef}
 use Rattle.server_model.specs.Servers.{Cluster}
 use Rattle.heap_law.specs.Names.{tot, one, if_so, same_object, Among}
 use Rattle.heap_law.specs.Stale.{Reference, references}

@@ -2,8 +2,8 @@
 use Rattle.std.proofs.Common.{◌≡◌, inl, inr, ℕ, zero, suc, ◌+◌, ◌<◌, ◌≤◌, Bool, true, false, not, ◌&&◌, ◌||◌, List, [], ◌∷◌, length, refl, sym, ap, subst, arith}
 use Rattle.std.specs.Prelude.{◌==◌, nat_le}
 use Rattle.std.proofs.lemmas.Bool.Decides.{nat_tests}
-use Rattle.fr_base.specs.declared.name.ObjNo.{ObjNo}
-use Rattle.fr_store.proofs.Keys.{object_cases}
+use Rattle.server_model.specs.Below.fr_base.declared.name.ObjNo.{ObjNo}
+use Rattle.fr_code.proofs.Below.fr_store.Keys.{object_cases}
 use Rattle.heap_law.specs.Names.{tot, one, other, Among, same_object}
 use Rattle.heap_law.specs.OneHeap.{Node, object_n, mutex_n, task_n, same_node}
 use Rattle.heap_law.specs.Ranks.{Step, Falls, Ends, all_from, ends_by, endless}

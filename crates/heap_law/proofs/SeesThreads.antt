@@ -1,15 +1,15 @@
 -- Each thing shows the threads that it has a weight for: those that it is, notes, names by a task value, or whose result it is.
 use Rattle.std.proofs.Common.{◌≡◌, ℕ, Bool, true, false, Option, Some, None, refl, sym}
 use Rattle.std.specs.Prelude.{◌==◌, ◌&&◌, not, is_some}
-use Rattle.fr_base.specs.declared.release.Released.{Released}
-use Rattle.fr_base.specs.declared.release.Released.TheVariants as released
-use Rattle.heap_partition.specs.declared.value.Owned.{Owned}
-use Rattle.heap_partition.specs.declared.value.Owned.TheVariants as owned
-use Rattle.thread_state.specs.View.{is_over}
-use Rattle.thread_state.specs.declared.phase.Phase.{Phase}
-use Rattle.thread_state.specs.declared.phase.Phase.TheVariants as phase
-use Rattle.server_msgs.specs.declared.message.Message.{Message}
-use Rattle.server_msgs.specs.declared.message.Message.TheVariants.{Release, Joined, Finished}
+use Rattle.server_model.specs.Below.fr_base.declared.release.Released.{Released}
+use Rattle.server_model.specs.Below.fr_base.declared.release.Released.TheVariants as released
+use Rattle.server_model.specs.Below.heap_partition.declared.value.Owned.{Owned}
+use Rattle.server_model.specs.Below.heap_partition.declared.value.Owned.TheVariants as owned
+use Rattle.server_model.specs.Below.thread_state.View.{is_over}
+use Rattle.server_model.specs.Below.thread_state.declared.phase.Phase.{Phase}
+use Rattle.server_model.specs.Below.thread_state.declared.phase.Phase.TheVariants as phase
+use Rattle.server_model.specs.Below.server_msgs.declared.message.Message.{Message}
+use Rattle.server_model.specs.Below.server_msgs.declared.message.Message.TheVariants.{Release, Joined, Finished}
 use Rattle.heap_law.specs.Names.{one, if_so, task_values}
 use Rattle.heap_law.specs.Things.{holds, lies, flies, sent, stands, noted}
 use Rattle.heap_law.specs.Follow.{Standing}

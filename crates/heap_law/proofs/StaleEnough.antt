@@ -2,7 +2,7 @@
 use Rattle.std.proofs.Common.{◌≡◌, ◌⊎◌, inl, inr, ⊎_elim, ℕ, zero, suc, ◌≤◌, Bool, true, false, ◌||◌, List, [], ◌∷◌, ◌++◌, length, Option, Some, None, refl, sym, ap, subst, ◌∙◌, arith}
 use Rattle.std.specs.Prelude.{nat_le}
 use Rattle.std.proofs.lemmas.Bool.Decides.{nat_tests}
-use Rattle.mut_borrow.specs.Refs.{changed}
+use Rattle.server_model.specs.Below.mut_borrow.Refs.{changed}
 use Rattle.heap_law.specs.Names.{tot, one}
 use Rattle.heap_law.specs.Things.{Location}
 use Rattle.heap_law.specs.Stale.{same_location, is_among, Reference, Stale, if_holder, holders, stale_rounds, RoundsLaw}

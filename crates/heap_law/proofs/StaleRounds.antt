@@ -1,6 +1,6 @@
 -- What the rounds find is stale by the rule, and the other way round.
 use Rattle.std.proofs.Common.{◌≡◌, ◌⊎◌, inl, inr, ⊎_elim, ℕ, zero, suc, Bool, true, false, ◌||◌, List, [], ◌∷◌, ◌++◌, Option, Some, None, refl, sym, subst}
-use Rattle.mut_borrow.specs.Refs.{changed}
+use Rattle.server_model.specs.Below.mut_borrow.Refs.{changed}
 use Rattle.heap_law.specs.Names.{Among}
 use Rattle.heap_law.specs.Things.{Location}
 use Rattle.heap_law.specs.Stale.{same_location, is_among, is_held_at, Reference, Stale, changed_above, stale_above, taken_above, if_holder, holders, stale_rounds}

@@ -1,7 +1,7 @@
 -- The start: main alone stands somewhere, beside the counts of servers.
 use Rattle.std.proofs.Common.{◌≡◌, ℕ, zero, suc, ◌+◌, ◌≤◌, false, List, refl, arith}
-use Rattle.fr_base.specs.declared.instruction.Instr.{Instr}
-use Rattle.fr_base.specs.declared.settings.Options.{Options}
+use Rattle.server_model.specs.Below.fr_base.declared.instruction.Instr.{Instr}
+use Rattle.server_model.specs.Below.fr_base.declared.settings.Options.{Options}
 use Rattle.server_model.specs.Servers.{start_of, main_thread, with_main, empty_servers}
 use Rattle.heap_law.specs.Names.{tot}
 use Rattle.heap_law.specs.Things.{Thing, counts, stands, servers_things, things_of}

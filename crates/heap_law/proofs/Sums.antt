@@ -2,7 +2,7 @@
 use Rattle.std.proofs.Common.{◌≡◌, ℕ, ◌+◌, ◌==◌, Bool, true, false, if◌then◌else◌, List, [], ◌∷◌, ◌++◌, length, Some, IsSome, refl, subst, arith}
 use Rattle.std.proofs.lemmas.Bool.Decides.{nat_tests}
 use Rattle.std.specs.List.{AllByRecursion}
-use Rattle.server_msgs.specs.declared.message.Message.{Message}
+use Rattle.server_model.specs.Below.server_msgs.declared.message.Message.{Message}
 use Rattle.server_model.specs.Servers.{Sent, Server, server_at}
 use Rattle.server_model.specs.Clusters.{with_outbox, accept, accept_at, accept_all, outboxes, emptied}
 use Rattle.heap_law.specs.Names.{tot}

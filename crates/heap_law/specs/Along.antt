@@ -1,8 +1,8 @@
 -- Whole runs stay coherent: after each event of the rows no sentence is broken.
 use Rattle.std.specs.Prelude.{◌≡◌, ℕ, ◌+◌, List, [], ◌∷◌, ◌++◌, Option, Some, None}
-use Rattle.fr_base.specs.declared.instruction.Instr.{Instr}
-use Rattle.fr_base.specs.declared.settings.Options.{Options}
-use Rattle.journal.specs.View.{EntryView}
+use Rattle.server_model.specs.Below.fr_base.declared.instruction.Instr.{Instr}
+use Rattle.server_model.specs.Below.fr_base.declared.settings.Options.{Options}
+use Rattle.server_model.specs.Below.journal.View.{EntryView}
 use Rattle.server_model.specs.declared.event.Event.{Event}
 use Rattle.server_model.specs.Servers.{Cluster, start_of}
 use Rattle.server_model.specs.Clusters.{apply}

@@ -1,11 +1,11 @@
 -- WHAT AN EVENT SENDS: the messages that it appends to its server's own list and to its outbox are those of its entry's acts (this project's rule).
 use Rattle.std.specs.Prelude.{◌≡◌, ℕ, ◌*◌, ◌==◌, Bool, List, [], ◌∷◌, ◌++◌, length, drop, map, filter, remove, Option, Some, None}
-use Rattle.fr_base.specs.declared.instruction.Instr.{Instr}
-use Rattle.fr_base.specs.declared.settings.Options.{Options}
-use Rattle.journal.specs.declared.act.Act.{Act}
-use Rattle.journal.specs.View.{EntryView}
-use Rattle.server_msgs.specs.Messages.{kind_of}
-use Rattle.server_msgs.specs.declared.message.Message.{Message}
+use Rattle.server_model.specs.Below.fr_base.declared.instruction.Instr.{Instr}
+use Rattle.server_model.specs.Below.fr_base.declared.settings.Options.{Options}
+use Rattle.server_model.specs.Below.journal.declared.act.Act.{Act}
+use Rattle.server_model.specs.Below.journal.View.{EntryView}
+use Rattle.server_model.specs.Below.server_msgs.Messages.{kind_of}
+use Rattle.server_model.specs.Below.server_msgs.declared.message.Message.{Message}
 use Rattle.server_model.specs.declared.event.Event.{Event}
 use Rattle.server_model.specs.declared.event.What.{What}
 use Rattle.server_model.specs.declared.event.What.TheVariants.{Deliver}

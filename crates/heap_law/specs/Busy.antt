@@ -1,19 +1,19 @@
 -- A cluster in which all kinds of waiting, of gifts and of messages under way stand beside each other.
 use Rattle.std.specs.Prelude.{ℕ, true, false, pos, List, [], ◌∷◌, Some, None}
-use Rattle.fr_base.specs.declared.release.Released.TheVariants as released
-use Rattle.fr_base.specs.declared.instruction.Operand.TheVariants as operand
-use Rattle.fr_base.specs.declared.instruction.Instr.{Instr}
-use Rattle.fr_base.specs.declared.instruction.Instr.TheVariants as instr
-use Rattle.global_addr.specs.Words.{word_of}
-use Rattle.heap_partition.specs.declared.value.Owned.TheVariants as owned
-use Rattle.owner_box.specs.View.{PartitionState}
-use Rattle.thread_state.specs.View.{ThreadState, new_thread}
-use Rattle.thread_state.specs.declared.value.Value.{Value}
-use Rattle.thread_state.specs.declared.value.Value.TheVariants as value
-use Rattle.thread_state.specs.declared.phase.Phase.TheVariants as phase
-use Rattle.mutex_home.specs.Mutexes.{Mutex}
-use Rattle.join_home.specs.Tasks.{Task, going, in_pair}
-use Rattle.server_msgs.specs.declared.message.Message.TheVariants.{Fetch, Moved, Dupped, Release, Finished, Migrate}
+use Rattle.server_model.specs.Below.fr_base.declared.release.Released.TheVariants as released
+use Rattle.server_model.specs.Below.fr_base.declared.instruction.Operand.TheVariants as operand
+use Rattle.server_model.specs.Below.fr_base.declared.instruction.Instr.{Instr}
+use Rattle.server_model.specs.Below.fr_base.declared.instruction.Instr.TheVariants as instr
+use Rattle.server_model.specs.Below.global_addr.Words.{word_of}
+use Rattle.server_model.specs.Below.heap_partition.declared.value.Owned.TheVariants as owned
+use Rattle.server_model.specs.Below.owner_box.View.{PartitionState}
+use Rattle.server_model.specs.Below.thread_state.View.{ThreadState, new_thread}
+use Rattle.server_model.specs.Below.thread_state.declared.value.Value.{Value}
+use Rattle.server_model.specs.Below.thread_state.declared.value.Value.TheVariants as value
+use Rattle.server_model.specs.Below.thread_state.declared.phase.Phase.TheVariants as phase
+use Rattle.server_model.specs.Below.mutex_home.Mutexes.{Mutex}
+use Rattle.server_model.specs.Below.join_home.Tasks.{Task, going, in_pair}
+use Rattle.server_model.specs.Below.server_msgs.declared.message.Message.TheVariants.{Fetch, Moved, Dupped, Release, Finished, Migrate}
 use Rattle.server_model.specs.Servers.{Server, Cluster}
 use Rattle.heap_law.specs.Clusters.{place, thread_no, object, int, cell, box, options, the_mutex, copy_of, task}
 

@@ -1,10 +1,10 @@
 -- Where runs under chosen events lead: the journal leaves the coloured heap of the cluster, and the code machine's state under the journal's order is
 -- its one heap.
 use Rattle.std.specs.Prelude.{◌≡◌, ℕ, zero, suc, List, [], ◌∷◌, Option, Some, None}
-use Rattle.fr_base.specs.declared.name.ObjNo.{ObjNo}
-use Rattle.fr_base.specs.declared.instruction.Instr.{Instr}
-use Rattle.fr_base.specs.declared.settings.Options.{Options}
-use Rattle.journal.specs.Journals.{order, labels}
+use Rattle.server_model.specs.Below.fr_base.declared.name.ObjNo.{ObjNo}
+use Rattle.server_model.specs.Below.fr_base.declared.instruction.Instr.{Instr}
+use Rattle.server_model.specs.Below.fr_base.declared.settings.Options.{Options}
+use Rattle.server_model.specs.Below.journal.Journals.{order, labels}
 use Rattle.server_model.specs.declared.event.Event.{Event}
 use Rattle.server_model.specs.Figures.{Ran, run_event}
 use Rattle.server_model.specs.Programs.{with_servers, written_elsewhere, read_by_pairs}

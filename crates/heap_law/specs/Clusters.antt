@@ -1,27 +1,27 @@
 -- Clusters on which the laws of coherent memory are computed.
 use Rattle.std.specs.Prelude.{ℕ, ◌+◌, ◌*◌, ◌^◌, true, false, pos, List, [], ◌∷◌, Option, Some, None}
-use Rattle.fr_base.specs.declared.name.ObjNo.{ObjNo}
-use Rattle.fr_base.specs.declared.name.MutexNo.{MutexNo}
-use Rattle.fr_base.specs.declared.place.Lval.{Lval}
-use Rattle.fr_base.specs.declared.settings.Options.{Options}
-use Rattle.fr_base.specs.declared.instruction.Operand.TheVariants as operand
-use Rattle.fr_base.specs.declared.instruction.Instr.{Instr}
-use Rattle.fr_base.specs.declared.instruction.Instr.TheVariants as instr
-use Rattle.global_addr.specs.Words.{word_of}
-use Rattle.heap_partition.specs.declared.value.Cell.{Cell}
-use Rattle.heap_partition.specs.declared.value.Owned.{Owned}
-use Rattle.heap_partition.specs.declared.value.Owned.TheVariants as owned
-use Rattle.owner_box.specs.View.{PartitionState}
-use Rattle.mut_borrow.specs.declared.mutable.MutRef.{MutRef}
-use Rattle.mut_borrow.specs.declared.shared.SharedRef.{SharedRef}
-use Rattle.thread_state.specs.View.{ThreadState, new_thread}
-use Rattle.thread_state.specs.declared.value.Value.{Value}
-use Rattle.thread_state.specs.declared.value.Value.TheVariants as value
-use Rattle.thread_state.specs.declared.phase.Phase.TheVariants as phase
-use Rattle.read_cache.specs.Cache.{Copy}
-use Rattle.mutex_home.specs.Mutexes.{Mutex}
-use Rattle.join_home.specs.Tasks.{Task, TaskState, going, asked}
-use Rattle.server_msgs.specs.declared.message.Message.TheVariants.{Moved, Drop}
+use Rattle.server_model.specs.Below.fr_base.declared.name.ObjNo.{ObjNo}
+use Rattle.server_model.specs.Below.fr_base.declared.name.MutexNo.{MutexNo}
+use Rattle.server_model.specs.Below.fr_base.declared.place.Lval.{Lval}
+use Rattle.server_model.specs.Below.fr_base.declared.settings.Options.{Options}
+use Rattle.server_model.specs.Below.fr_base.declared.instruction.Operand.TheVariants as operand
+use Rattle.server_model.specs.Below.fr_base.declared.instruction.Instr.{Instr}
+use Rattle.server_model.specs.Below.fr_base.declared.instruction.Instr.TheVariants as instr
+use Rattle.server_model.specs.Below.global_addr.Words.{word_of}
+use Rattle.server_model.specs.Below.heap_partition.declared.value.Cell.{Cell}
+use Rattle.server_model.specs.Below.heap_partition.declared.value.Owned.{Owned}
+use Rattle.server_model.specs.Below.heap_partition.declared.value.Owned.TheVariants as owned
+use Rattle.server_model.specs.Below.owner_box.View.{PartitionState}
+use Rattle.server_model.specs.Below.mut_borrow.declared.mutable.MutRef.{MutRef}
+use Rattle.server_model.specs.Below.mut_borrow.declared.shared.SharedRef.{SharedRef}
+use Rattle.server_model.specs.Below.thread_state.View.{ThreadState, new_thread}
+use Rattle.server_model.specs.Below.thread_state.declared.value.Value.{Value}
+use Rattle.server_model.specs.Below.thread_state.declared.value.Value.TheVariants as value
+use Rattle.server_model.specs.Below.thread_state.declared.phase.Phase.TheVariants as phase
+use Rattle.server_model.specs.Below.read_cache.Cache.{Copy}
+use Rattle.server_model.specs.Below.mutex_home.Mutexes.{Mutex}
+use Rattle.server_model.specs.Below.join_home.Tasks.{Task, TaskState, going, asked}
+use Rattle.server_model.specs.Below.server_msgs.declared.message.Message.TheVariants.{Moved, Drop}
 use Rattle.server_model.specs.Servers.{Server, Cluster}
 
 -- SHORT NAMES

@@ -1,16 +1,16 @@
 -- THE COLOURED HEAP of a cluster: the state of the shared memory, as acts leave it, that the cluster stands for (in the manner of DRust; the state is
 -- this project's).
 use Rattle.std.specs.Prelude.{◌≡◌, ℕ, ◌==◌, Bool, true, false, not, ◌&&◌, List, [], ◌∷◌, Option, Some, None, is_some, is_none, unwrap_or}
-use Rattle.fr_base.specs.declared.name.ObjNo.{ObjNo}
-use Rattle.fr_base.specs.declared.name.MutexNo.{MutexNo}
-use Rattle.heap_partition.specs.Plain.{plain_of}
-use Rattle.heap_partition.specs.declared.value.Cell.{Cell}
-use Rattle.join_home.specs.Tasks.{TaskState, asked}
-use Rattle.server_msgs.specs.declared.message.Message.{Message}
-use Rattle.server_msgs.specs.declared.message.Message.TheVariants.{Fetch, Fetched, Move, Moved, Lock, Granted, Dup, Join}
-use Rattle.thread_state.specs.View.{is_over}
+use Rattle.server_model.specs.Below.fr_base.declared.name.ObjNo.{ObjNo}
+use Rattle.server_model.specs.Below.fr_base.declared.name.MutexNo.{MutexNo}
+use Rattle.server_model.specs.Below.heap_partition.Plain.{plain_of}
+use Rattle.server_model.specs.Below.heap_partition.declared.value.Cell.{Cell}
+use Rattle.server_model.specs.Below.join_home.Tasks.{TaskState, asked}
+use Rattle.server_model.specs.Below.server_msgs.declared.message.Message.{Message}
+use Rattle.server_model.specs.Below.server_msgs.declared.message.Message.TheVariants.{Fetch, Fetched, Move, Moved, Lock, Granted, Dup, Join}
+use Rattle.server_model.specs.Below.thread_state.View.{is_over}
 use Rattle.server_model.specs.Servers.{Cluster}
-use Rattle.fr_base.specs.Names.{same_plain}
+use Rattle.server_model.specs.Below.fr_base.Names.{same_plain}
 use Rattle.coloured_heap.specs.Heap.{Place, Lies, Flies, Living, Copied, Wish, ForCopy, ForObject, ForContent, ForShare, ForResult, Running, Coloured, object_at, copy_at, thread_at, same_wish, mutex_at}
 use Rattle.coloured_heap.specs.Rules as rules
 use Rattle.heap_law.specs.Names.{tot, one, some, same_object, same_mutex, is_in}

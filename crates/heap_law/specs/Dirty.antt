@@ -1,6 +1,6 @@
 -- DIRTY REFERENCES: a mutable reference through which its object was changed, while it isn't stale (this project's rules).
 use Rattle.std.specs.Prelude.{◌≡◌, ◌≢◌, ◌⊎◌, true, Some}
-use Rattle.mut_borrow.specs.declared.shared.SharedRef.{SharedRef}
+use Rattle.server_model.specs.Below.mut_borrow.declared.shared.SharedRef.{SharedRef}
 use Rattle.server_model.specs.Servers.{Cluster}
 use Rattle.heap_law.specs.Names.{Among}
 use Rattle.heap_law.specs.Things.{Location, shares}

@@ -1,12 +1,12 @@
 -- Where the places of threads lead in a cluster, whatever server an object lies at (Featherweight Rust's places, over the list of things).
 use Rattle.std.specs.Prelude.{ℕ, zero, suc, ◌==◌, Bool, if◌then◌else◌, List, [], ◌∷◌, reverse, Option, Some, None, slice_get}
-use Rattle.fr_base.specs.declared.name.ObjNo.{ObjNo}
-use Rattle.fr_base.specs.declared.place.Lval.{Lval}
-use Rattle.heap_partition.specs.declared.value.Cell.{Cell}
-use Rattle.heap_partition.specs.declared.value.Owned.TheVariants as owned
-use Rattle.thread_state.specs.View.{ThreadState}
-use Rattle.thread_state.specs.declared.value.Value.{Value}
-use Rattle.thread_state.specs.declared.value.Value.TheVariants as value
+use Rattle.server_model.specs.Below.fr_base.declared.name.ObjNo.{ObjNo}
+use Rattle.server_model.specs.Below.fr_base.declared.place.Lval.{Lval}
+use Rattle.server_model.specs.Below.heap_partition.declared.value.Cell.{Cell}
+use Rattle.server_model.specs.Below.heap_partition.declared.value.Owned.TheVariants as owned
+use Rattle.server_model.specs.Below.thread_state.View.{ThreadState}
+use Rattle.server_model.specs.Below.thread_state.declared.value.Value.{Value}
+use Rattle.server_model.specs.Below.thread_state.declared.value.Value.TheVariants as value
 use Rattle.heap_law.specs.Names.{same_object}
 use Rattle.heap_law.specs.Things.{Location, at_slot, at_temp, in_cell, Thing, lies, flies, stands}
 

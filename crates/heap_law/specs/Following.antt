@@ -1,6 +1,6 @@
 -- Sentences of a sound cluster that follow from others. They stay sentences where events keep them one by one.
 use Rattle.std.specs.Prelude.{◌≡◌, ◌≢◌, ℕ, Some}
-use Rattle.thread_state.specs.declared.phase.Phase.TheVariants as phase
+use Rattle.server_model.specs.Below.thread_state.declared.phase.Phase.TheVariants as phase
 use Rattle.server_model.specs.Servers.{Cluster}
 use Rattle.heap_law.specs.Names.{Among}
 use Rattle.heap_law.specs.Things.{things_of}

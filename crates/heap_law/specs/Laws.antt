@@ -1,8 +1,8 @@
 -- Laws of coherent clusters that hold for all clusters.
 use Rattle.std.specs.Prelude.{◌≡◌, ℕ, ◌≤◌, IsSome, List, []}
 use Rattle.std.specs.List.{AllByRecursion}
-use Rattle.fr_base.specs.declared.instruction.Instr.{Instr}
-use Rattle.fr_base.specs.declared.settings.Options.{Options}
+use Rattle.server_model.specs.Below.fr_base.declared.instruction.Instr.{Instr}
+use Rattle.server_model.specs.Below.fr_base.declared.settings.Options.{Options}
 use Rattle.server_model.specs.Servers.{Sent, Cluster, start_of, server_at}
 use Rattle.server_model.specs.Clusters.{hand_over, outboxes}
 use Rattle.heap_law.specs.Names.{tot}

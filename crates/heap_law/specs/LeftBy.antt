@@ -1,11 +1,11 @@
 -- LEFT BY: a cluster is what a journal leaves (this project's rule).
 use Rattle.std.specs.Prelude.{◌≡◌, ℕ, ◌+◌, true, List, take, Option, Some}
-use Rattle.fr_base.specs.declared.label.Label.{Label}
-use Rattle.fr_base.specs.declared.step.Fresh.{Fresh}
-use Rattle.fr_plain.specs.PlainState.{SameState}
+use Rattle.server_model.specs.Below.fr_base.declared.label.Label.{Label}
+use Rattle.server_model.specs.Below.fr_base.declared.step.Fresh.{Fresh}
+use Rattle.fr_code.specs.Below.fr_plain.PlainState.{SameState}
 use Rattle.fr_code.specs.Machine.{CodeState}
-use Rattle.journal.specs.View.{EntryView}
-use Rattle.journal.specs.Journals.{order, labels}
+use Rattle.server_model.specs.Below.journal.View.{EntryView}
+use Rattle.server_model.specs.Below.journal.Journals.{order, labels}
 use Rattle.server_model.specs.Servers.{Cluster}
 use Rattle.coloured_heap.specs.Heap.{Coloured}
 use Rattle.coloured_heap.specs.Legal.{journal_after}

@@ -1,12 +1,12 @@
 -- Tests and sums that the laws of coherent memory are written with.
 use Rattle.std.specs.Prelude.{◌≡◌, ◌⊎◌, ℕ, zero, suc, ◌==◌, Bool, true, false, List, [], ◌∷◌}
-pub use Rattle.fr_base.specs.Lists.{tot, one, is_in}
-pub use Rattle.fr_base.specs.Names.{same_object, same_mutex}
-use Rattle.fr_base.specs.declared.name.ObjNo.{ObjNo}
-use Rattle.fr_base.specs.declared.name.MutexNo.{MutexNo}
-pub use Rattle.heap_partition.specs.Same.{same_owned, same_cell}
-use Rattle.heap_partition.specs.declared.value.Owned.{Owned}
-use Rattle.heap_partition.specs.declared.value.Owned.TheVariants as owned
+pub use Rattle.server_model.specs.Below.fr_base.Lists.{tot, one, is_in}
+pub use Rattle.server_model.specs.Below.fr_base.Names.{same_object, same_mutex}
+use Rattle.server_model.specs.Below.fr_base.declared.name.ObjNo.{ObjNo}
+use Rattle.server_model.specs.Below.fr_base.declared.name.MutexNo.{MutexNo}
+pub use Rattle.server_model.specs.Below.heap_partition.Same.{same_owned, same_cell}
+use Rattle.server_model.specs.Below.heap_partition.declared.value.Owned.{Owned}
+use Rattle.server_model.specs.Below.heap_partition.declared.value.Owned.TheVariants as owned
 
 -- x is one of the list
 abbrev pub Among : {A : Type 0} → A → List A → Type 0

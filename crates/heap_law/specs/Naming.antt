@@ -1,20 +1,20 @@
 -- NAMES, and what the types of a server's parts keep (this project's rules). Each function counts what breaks the sentence above it.
 use Rattle.std.specs.Prelude.{ℕ, ◌+◌, ◌*◌, ◌%◌, ◌^◌, ◌-◌, ◌==◌, nat_lt, nat_le, Bool, true, not, ◌&&◌, ◌||◌, List, [], ◌∷◌, Option, Some, None}
-use Rattle.fr_base.specs.declared.name.ObjNo.{ObjNo}
-use Rattle.fr_base.specs.declared.name.MutexNo.{MutexNo}
-use Rattle.fr_base.specs.declared.release.Released.{Released}
-use Rattle.fr_base.specs.declared.release.Released.TheVariants as released
-use Rattle.fr_base.specs.declared.settings.Options.{Options}
-use Rattle.heap_partition.specs.declared.value.Owned.{Owned}
-use Rattle.heap_partition.specs.declared.value.Owned.TheVariants as owned
-use Rattle.thread_state.specs.View.{is_pinned, is_over}
-use Rattle.thread_state.specs.declared.value.Value.{Value}
-use Rattle.thread_state.specs.declared.phase.Phase.{Phase}
-use Rattle.thread_state.specs.declared.phase.Phase.TheVariants as phase
-use Rattle.read_cache.specs.Cache.{Copy}
-use Rattle.join_home.specs.Tasks.{TaskState, asked, in_pair}
-use Rattle.server_msgs.specs.declared.message.Message.{Message}
-use Rattle.server_msgs.specs.declared.message.Message.TheVariants.{Fetch, Fetched, Move, Moved, Drop, Lock, Granted, Dup, Dupped, Release, Join, Joined, Finished}
+use Rattle.server_model.specs.Below.fr_base.declared.name.ObjNo.{ObjNo}
+use Rattle.server_model.specs.Below.fr_base.declared.name.MutexNo.{MutexNo}
+use Rattle.server_model.specs.Below.fr_base.declared.release.Released.{Released}
+use Rattle.server_model.specs.Below.fr_base.declared.release.Released.TheVariants as released
+use Rattle.server_model.specs.Below.fr_base.declared.settings.Options.{Options}
+use Rattle.server_model.specs.Below.heap_partition.declared.value.Owned.{Owned}
+use Rattle.server_model.specs.Below.heap_partition.declared.value.Owned.TheVariants as owned
+use Rattle.server_model.specs.Below.thread_state.View.{is_pinned, is_over}
+use Rattle.server_model.specs.Below.thread_state.declared.value.Value.{Value}
+use Rattle.server_model.specs.Below.thread_state.declared.phase.Phase.{Phase}
+use Rattle.server_model.specs.Below.thread_state.declared.phase.Phase.TheVariants as phase
+use Rattle.server_model.specs.Below.read_cache.Cache.{Copy}
+use Rattle.server_model.specs.Below.join_home.Tasks.{TaskState, asked, in_pair}
+use Rattle.server_model.specs.Below.server_msgs.declared.message.Message.{Message}
+use Rattle.server_model.specs.Below.server_msgs.declared.message.Message.TheVariants.{Fetch, Fetched, Move, Moved, Drop, Lock, Granted, Dup, Dupped, Release, Join, Joined, Finished}
 use Rattle.server_model.specs.Servers.{Server, Cluster}
 use Rattle.heap_law.specs.Names.{tot, one, other, if_so, some}
 use Rattle.heap_law.specs.Things.{Thing, holds, shares, borrows, lies, flies, copied, sent, stands, at_home, queued, noted, retired, counts}

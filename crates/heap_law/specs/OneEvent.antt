@@ -1,6 +1,6 @@
 -- From clusters that no run need reach: each enabled event leaves no sentence broken.
 use Rattle.std.specs.Prelude.{◌≡◌, ℕ, ◌+◌, List, [], ◌∷◌, ◌++◌, length, map, Option, Some, None}
-use Rattle.journal.specs.View.{EntryView}
+use Rattle.server_model.specs.Below.journal.View.{EntryView}
 use Rattle.server_model.specs.declared.event.Event.{Event}
 use Rattle.server_model.specs.declared.event.What.TheVariants.{Deliver}
 use Rattle.server_model.specs.Servers.{Server, Cluster}

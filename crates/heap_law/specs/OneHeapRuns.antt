@@ -1,13 +1,13 @@
 -- The one heap of a cluster along whole runs: after each event it is the plain state of the machine of compiled code under the order of the journal.
 use Rattle.std.specs.Prelude.{◌≡◌, ℕ, List, [], ◌∷◌, ◌++◌, map, Option, Some, None}
-use Rattle.fr_base.specs.declared.name.ObjNo.{ObjNo}
-use Rattle.fr_base.specs.declared.label.Label.{Label}
-use Rattle.fr_base.specs.declared.label.Plain.{Plain}
-use Rattle.fr_base.specs.declared.instruction.Instr.{Instr}
-use Rattle.fr_base.specs.declared.settings.Options.{Options}
-use Rattle.fr_plain.specs.PlainState.{plain_state}
+use Rattle.server_model.specs.Below.fr_base.declared.name.ObjNo.{ObjNo}
+use Rattle.server_model.specs.Below.fr_base.declared.label.Label.{Label}
+use Rattle.server_model.specs.Below.fr_base.declared.label.Plain.{Plain}
+use Rattle.server_model.specs.Below.fr_base.declared.instruction.Instr.{Instr}
+use Rattle.server_model.specs.Below.fr_base.declared.settings.Options.{Options}
+use Rattle.fr_code.specs.Below.fr_plain.PlainState.{plain_state}
 use Rattle.fr_code.specs.Machine.{CodeState, CodeStepped, code_run, code_start}
-use Rattle.journal.specs.Journals.{order, labels}
+use Rattle.server_model.specs.Below.journal.Journals.{order, labels}
 use Rattle.server_model.specs.declared.event.Event.{Event}
 use Rattle.server_model.specs.Servers.{start_of}
 use Rattle.server_model.specs.Figures.{Ran, run_event, steps_of, deliver}

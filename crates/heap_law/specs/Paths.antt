@@ -1,18 +1,18 @@
 -- Which place the next instruction of a thread follows, and how: which pointers it reads, which it writes through (this project's rules).
 use Rattle.std.specs.Prelude.{ℕ, zero, suc, ◌+◌, ◌-◌, ◌==◌, Bool, true, false, not, ◌&&◌, ◌||◌, if◌then◌else◌, List, [], ◌∷◌, ◌++◌, Option, Some, None, slice_get}
-use Rattle.fr_base.specs.Lists.{last_of}
-use Rattle.fr_base.specs.declared.name.ObjNo.{ObjNo}
-use Rattle.fr_base.specs.declared.place.Lval.{Lval}
-use Rattle.fr_base.specs.declared.instruction.Operand.{Operand}
-use Rattle.fr_base.specs.declared.instruction.Operand.TheVariants as operand
-use Rattle.fr_base.specs.declared.instruction.Instr.{Instr}
-use Rattle.fr_base.specs.declared.instruction.Instr.TheVariants as instr
-use Rattle.global_addr.specs.Words.{colour_of, server_of}
-use Rattle.heap_partition.specs.declared.value.Owned.TheVariants as owned
-use Rattle.mut_borrow.specs.declared.mutable.MutRef.{MutRef}
-use Rattle.thread_state.specs.View.{ThreadState}
-use Rattle.thread_state.specs.declared.value.Value.{Value}
-use Rattle.thread_state.specs.declared.value.Value.TheVariants as value
+use Rattle.server_model.specs.Below.fr_base.Lists.{last_of}
+use Rattle.server_model.specs.Below.fr_base.declared.name.ObjNo.{ObjNo}
+use Rattle.server_model.specs.Below.fr_base.declared.place.Lval.{Lval}
+use Rattle.server_model.specs.Below.fr_base.declared.instruction.Operand.{Operand}
+use Rattle.server_model.specs.Below.fr_base.declared.instruction.Operand.TheVariants as operand
+use Rattle.server_model.specs.Below.fr_base.declared.instruction.Instr.{Instr}
+use Rattle.server_model.specs.Below.fr_base.declared.instruction.Instr.TheVariants as instr
+use Rattle.server_model.specs.Below.global_addr.Words.{colour_of, server_of}
+use Rattle.server_model.specs.Below.heap_partition.declared.value.Owned.TheVariants as owned
+use Rattle.server_model.specs.Below.mut_borrow.declared.mutable.MutRef.{MutRef}
+use Rattle.server_model.specs.Below.thread_state.View.{ThreadState}
+use Rattle.server_model.specs.Below.thread_state.declared.value.Value.{Value}
+use Rattle.server_model.specs.Below.thread_state.declared.value.Value.TheVariants as value
 use Rattle.heap_law.specs.Names.{is_in}
 use Rattle.heap_law.specs.Follow.{Ground, hops}
 

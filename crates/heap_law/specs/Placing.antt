@@ -1,18 +1,18 @@
 -- ONE HOME, ONE OWNER, and the words that lead there (in the manner of DRust; colours and stale pointers are this project's rules).
 -- Each function counts what breaks the sentence above it.
 use Rattle.std.specs.Prelude.{ℕ, ◌+◌, ◌==◌, nat_lt, Bool, true, false, not, ◌&&◌, List, [], ◌∷◌, ◌++◌, Option, Some, None, is_some}
-use Rattle.fr_base.specs.declared.name.ObjNo.{ObjNo}
-use Rattle.global_addr.specs.Words.{colour_of, server_of, address_of}
-use Rattle.heap_partition.specs.declared.value.Cell.{Cell}
-use Rattle.heap_partition.specs.declared.value.Owned.{Owned}
-use Rattle.heap_partition.specs.declared.value.Owned.TheVariants as owned
-use Rattle.mut_borrow.specs.declared.mutable.MutRef.{MutRef}
-use Rattle.thread_state.specs.declared.value.Value.{Value}
-use Rattle.thread_state.specs.declared.value.Value.TheVariants as value
-use Rattle.thread_state.specs.declared.phase.Phase.{Phase}
-use Rattle.thread_state.specs.declared.phase.Phase.TheVariants as phase
-use Rattle.server_msgs.specs.declared.message.Message.{Message}
-use Rattle.server_msgs.specs.declared.message.Message.TheVariants.{Fetch, Fetched, Move, Drop}
+use Rattle.server_model.specs.Below.fr_base.declared.name.ObjNo.{ObjNo}
+use Rattle.server_model.specs.Below.global_addr.Words.{colour_of, server_of, address_of}
+use Rattle.server_model.specs.Below.heap_partition.declared.value.Cell.{Cell}
+use Rattle.server_model.specs.Below.heap_partition.declared.value.Owned.{Owned}
+use Rattle.server_model.specs.Below.heap_partition.declared.value.Owned.TheVariants as owned
+use Rattle.server_model.specs.Below.mut_borrow.declared.mutable.MutRef.{MutRef}
+use Rattle.server_model.specs.Below.thread_state.declared.value.Value.{Value}
+use Rattle.server_model.specs.Below.thread_state.declared.value.Value.TheVariants as value
+use Rattle.server_model.specs.Below.thread_state.declared.phase.Phase.{Phase}
+use Rattle.server_model.specs.Below.thread_state.declared.phase.Phase.TheVariants as phase
+use Rattle.server_model.specs.Below.server_msgs.declared.message.Message.{Message}
+use Rattle.server_model.specs.Below.server_msgs.declared.message.Message.TheVariants.{Fetch, Fetched, Move, Drop}
 use Rattle.heap_law.specs.Names.{tot, one, other, if_so, some, same_object, same_cell}
 use Rattle.heap_law.specs.Things.{Location, in_cell, Thing, holds, shares, borrows, lies, flies, vacant, copied, uses, sent, stands}
 use Rattle.heap_law.specs.Follow.{Ground, value_behind}

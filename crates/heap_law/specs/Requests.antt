@@ -1,23 +1,23 @@
 -- REQUESTS: what a waiting thread will be answered by, and what messages carry and where they go (this project's rules). Each
 -- function counts what breaks the sentence above it.
 use Rattle.std.specs.Prelude.{ℕ, zero, suc, ◌+◌, ◌/◌, ◌%◌, ◌^◌, ◌==◌, nat_lt, Bool, true, false, not, ◌&&◌, Option, Some, None, is_some}
-use Rattle.fr_base.specs.Names.{released_home}
-pub use Rattle.fr_base.specs.Names.{home_of}
-use Rattle.fr_base.specs.declared.name.ObjNo.{ObjNo}
-use Rattle.fr_base.specs.declared.name.MutexNo.{MutexNo}
-use Rattle.fr_base.specs.declared.instruction.Instr.{Instr}
-use Rattle.fr_base.specs.declared.instruction.Instr.TheVariants as instr
-use Rattle.fr_base.specs.declared.place.Lval.{Lval}
-use Rattle.global_addr.specs.Words.{server_of}
-use Rattle.heap_partition.specs.declared.value.Owned.{Owned}
-use Rattle.heap_partition.specs.declared.value.Owned.TheVariants as owned
-use Rattle.thread_state.specs.declared.value.Value.{Value}
-use Rattle.thread_state.specs.declared.value.Value.TheVariants as value
-use Rattle.thread_state.specs.declared.phase.Phase.{Phase}
-use Rattle.thread_state.specs.declared.phase.Phase.TheVariants as phase
-use Rattle.join_home.specs.Tasks.{TaskState, asked, in_pair}
-use Rattle.server_msgs.specs.declared.message.Message.{Message}
-use Rattle.server_msgs.specs.declared.message.Message.TheVariants.{Fetch, Fetched, Move, Moved, Drop, Lock, Granted, Unlock, Dup, Dupped, Release, Start, Join, Joined, Finished}
+use Rattle.server_model.specs.Below.fr_base.Names.{released_home}
+pub use Rattle.server_model.specs.Below.fr_base.Names.{home_of}
+use Rattle.server_model.specs.Below.fr_base.declared.name.ObjNo.{ObjNo}
+use Rattle.server_model.specs.Below.fr_base.declared.name.MutexNo.{MutexNo}
+use Rattle.server_model.specs.Below.fr_base.declared.instruction.Instr.{Instr}
+use Rattle.server_model.specs.Below.fr_base.declared.instruction.Instr.TheVariants as instr
+use Rattle.server_model.specs.Below.fr_base.declared.place.Lval.{Lval}
+use Rattle.server_model.specs.Below.global_addr.Words.{server_of}
+use Rattle.server_model.specs.Below.heap_partition.declared.value.Owned.{Owned}
+use Rattle.server_model.specs.Below.heap_partition.declared.value.Owned.TheVariants as owned
+use Rattle.server_model.specs.Below.thread_state.declared.value.Value.{Value}
+use Rattle.server_model.specs.Below.thread_state.declared.value.Value.TheVariants as value
+use Rattle.server_model.specs.Below.thread_state.declared.phase.Phase.{Phase}
+use Rattle.server_model.specs.Below.thread_state.declared.phase.Phase.TheVariants as phase
+use Rattle.server_model.specs.Below.join_home.Tasks.{TaskState, asked, in_pair}
+use Rattle.server_model.specs.Below.server_msgs.declared.message.Message.{Message}
+use Rattle.server_model.specs.Below.server_msgs.declared.message.Message.TheVariants.{Fetch, Fetched, Move, Moved, Drop, Lock, Granted, Unlock, Dup, Dupped, Release, Start, Join, Joined, Finished}
 use Rattle.heap_law.specs.Names.{one, other, if_so, some, same_mutex, same_owned}
 use Rattle.heap_law.specs.Things.{Location, in_cell, Thing, sent, stands, queued, noted}
 use Rattle.heap_law.specs.Follow.{Standing, thread_at, place_at, value_at, hop_at}

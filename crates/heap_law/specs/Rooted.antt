@@ -1,14 +1,14 @@
 -- ROOTED: what can be counted of the part on types (this project's rules). The rest of that part speaks of typing and isn't here. Each function
 -- counts what breaks the sentence above it.
 use Rattle.std.specs.Prelude.{ℕ, ◌+◌, ◌==◌, Bool, true, false, List, [], ◌∷◌, length, Option, Some, is_some}
-use Rattle.fr_base.specs.declared.instruction.Instr.{Instr}
-use Rattle.fr_base.specs.declared.instruction.Instr.TheVariants as instr
-use Rattle.heap_partition.specs.declared.value.Owned.{Owned}
-use Rattle.heap_partition.specs.declared.value.Owned.TheVariants as owned
-use Rattle.join_home.specs.Tasks.{TaskState, in_pair}
-use Rattle.server_msgs.specs.declared.message.Message.{Message}
-use Rattle.server_msgs.specs.declared.message.Message.TheVariants.{Finished}
-use Rattle.thread_state.specs.View.{is_over}
+use Rattle.server_model.specs.Below.fr_base.declared.instruction.Instr.{Instr}
+use Rattle.server_model.specs.Below.fr_base.declared.instruction.Instr.TheVariants as instr
+use Rattle.server_model.specs.Below.heap_partition.declared.value.Owned.{Owned}
+use Rattle.server_model.specs.Below.heap_partition.declared.value.Owned.TheVariants as owned
+use Rattle.server_model.specs.Below.join_home.Tasks.{TaskState, in_pair}
+use Rattle.server_model.specs.Below.server_msgs.declared.message.Message.{Message}
+use Rattle.server_model.specs.Below.server_msgs.declared.message.Message.TheVariants.{Finished}
+use Rattle.server_model.specs.Below.thread_state.View.{is_over}
 use Rattle.heap_law.specs.Names.{one, other, if_so}
 use Rattle.heap_law.specs.Things.{Thing, holds, lies, flies, sent, noted}
 use Rattle.heap_law.specs.Follow.{Standing}

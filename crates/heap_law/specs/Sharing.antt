@@ -1,17 +1,17 @@
 -- MUTEXES AND TASKS: contents, shares, results and what their homes have noted (this project's rules). Each function counts what breaks
 -- the sentence above it.
 use Rattle.std.specs.Prelude.{ℕ, ◌+◌, ◌==◌, Bool, true, false, not, ◌&&◌, length, Option, Some, None, is_some}
-use Rattle.fr_base.specs.declared.name.MutexNo.{MutexNo}
-use Rattle.fr_base.specs.declared.release.Released.{Released}
-use Rattle.fr_base.specs.declared.release.Released.TheVariants as released
-use Rattle.heap_partition.specs.declared.value.Owned.{Owned}
-use Rattle.heap_partition.specs.declared.value.Owned.TheVariants as owned
-use Rattle.thread_state.specs.View.{is_over}
-use Rattle.thread_state.specs.declared.phase.Phase.{Phase}
-use Rattle.thread_state.specs.declared.phase.Phase.TheVariants as phase
-use Rattle.join_home.specs.Tasks.{TaskState, going, let_go, kept, asked, in_pair}
-use Rattle.server_msgs.specs.declared.message.Message.{Message}
-use Rattle.server_msgs.specs.declared.message.Message.TheVariants.{Lock, Granted, Unlock, Dup, Dupped, Release, Joined, Finished}
+use Rattle.server_model.specs.Below.fr_base.declared.name.MutexNo.{MutexNo}
+use Rattle.server_model.specs.Below.fr_base.declared.release.Released.{Released}
+use Rattle.server_model.specs.Below.fr_base.declared.release.Released.TheVariants as released
+use Rattle.server_model.specs.Below.heap_partition.declared.value.Owned.{Owned}
+use Rattle.server_model.specs.Below.heap_partition.declared.value.Owned.TheVariants as owned
+use Rattle.server_model.specs.Below.thread_state.View.{is_over}
+use Rattle.server_model.specs.Below.thread_state.declared.phase.Phase.{Phase}
+use Rattle.server_model.specs.Below.thread_state.declared.phase.Phase.TheVariants as phase
+use Rattle.server_model.specs.Below.join_home.Tasks.{TaskState, going, let_go, kept, asked, in_pair}
+use Rattle.server_model.specs.Below.server_msgs.declared.message.Message.{Message}
+use Rattle.server_model.specs.Below.server_msgs.declared.message.Message.TheVariants.{Lock, Granted, Unlock, Dup, Dupped, Release, Joined, Finished}
 use Rattle.heap_law.specs.Names.{one, other, if_so, some, same_mutex}
 use Rattle.heap_law.specs.Things.{at_slot, at_temp, Spot, as_content, Thing, holds, locks, lies, flies, sent, stands, at_home, queued, noted}
 use Rattle.heap_law.specs.Follow.{Standing}

@@ -1,13 +1,13 @@
 -- Stale pointers (this project's rule): a pointer is stale while its object is written or gets another word through a mutable
 -- reference that was made from it. Which pointer a reference was made from is a location, however the place was written.
 use Rattle.std.specs.Prelude.{◌≡◌, ℕ, zero, suc, ◌==◌, Bool, true, false, ◌&&◌, ◌||◌, List, [], ◌∷◌, ◌++◌, length, Option, Some, None, slice_get}
-use Rattle.fr_base.specs.declared.place.Lval.{Lval}
-use Rattle.fr_base.specs.declared.instruction.Instr.{Instr}
-use Rattle.fr_base.specs.declared.instruction.Instr.TheVariants as instr
-use Rattle.mut_borrow.specs.declared.mutable.MutRef.{MutRef}
-use Rattle.mut_borrow.specs.Refs.{changed}
-use Rattle.thread_state.specs.declared.phase.Phase.{Phase}
-use Rattle.thread_state.specs.declared.phase.Phase.TheVariants as phase
+use Rattle.server_model.specs.Below.fr_base.declared.place.Lval.{Lval}
+use Rattle.server_model.specs.Below.fr_base.declared.instruction.Instr.{Instr}
+use Rattle.server_model.specs.Below.fr_base.declared.instruction.Instr.TheVariants as instr
+use Rattle.server_model.specs.Below.mut_borrow.declared.mutable.MutRef.{MutRef}
+use Rattle.server_model.specs.Below.mut_borrow.Refs.{changed}
+use Rattle.server_model.specs.Below.thread_state.declared.phase.Phase.{Phase}
+use Rattle.server_model.specs.Below.thread_state.declared.phase.Phase.TheVariants as phase
 use Rattle.heap_law.specs.Names.{same_object, Among}
 use Rattle.heap_law.specs.Things.{Location, at_slot, at_temp, in_cell, Thing, borrows}
 use Rattle.heap_law.specs.Follow.{Standing, Ground, locate, place_at}

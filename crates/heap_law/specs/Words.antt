@@ -1,9 +1,9 @@
 -- THE WORDS OF OBJECTS: which word each object has, told by no order of things (in the manner of DRust; that stale pointers don't count is this
 -- project's rule).
 use Rattle.std.specs.Prelude.{◌≡◌, ◌⊎◌, ℕ, ◌+◌, List, ◌++◌, Option, Some, None}
-use Rattle.fr_base.specs.declared.name.ObjNo.{ObjNo}
-use Rattle.global_addr.specs.Words.{server_of, address_of}
-use Rattle.heap_partition.specs.declared.value.Cell.{Cell}
+use Rattle.server_model.specs.Below.fr_base.declared.name.ObjNo.{ObjNo}
+use Rattle.server_model.specs.Below.global_addr.Words.{server_of, address_of}
+use Rattle.server_model.specs.Below.heap_partition.declared.value.Cell.{Cell}
 use Rattle.server_model.specs.Servers.{Cluster}
 use Rattle.heap_law.specs.Names.{Among}
 use Rattle.heap_law.specs.Things.{Location, lies}

@@ -4,8 +4,6 @@
 
 mod cells;
 mod chunk;
-#[cfg(test)]
-mod tests;
 mod value;
 
 pub use cells::Cells;

@@ -5,8 +5,6 @@ mod answers;
 mod laws;
 mod note;
 mod tasks;
-#[cfg(test)]
-mod tests;
 
 pub use answers::EndedAs;
 pub use laws::tasks_compute;

@@ -2,7 +2,5 @@
 #![tactic(auto)]
 
 mod packing;
-#[cfg(test)]
-mod tests;
 
 pub use packing::{pack_thread, unpack};

@@ -4,8 +4,6 @@
 
 mod mutable;
 mod shared;
-#[cfg(test)]
-mod tests;
 
 pub use mutable::{Cleaned, MutRef, changed_law};
 pub use shared::SharedRef;

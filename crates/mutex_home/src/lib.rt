@@ -6,8 +6,6 @@ mod laws;
 mod mutexes;
 mod parts;
 mod store;
-#[cfg(test)]
-mod tests;
 
 pub use answers::{Asked, Back};
 pub use laws::mutexes_compute;

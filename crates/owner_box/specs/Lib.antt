@@ -1,3 +1,4 @@
+pub mod Below
 pub mod Issued
 pub mod Partition
 pub mod Runs

@@ -3,8 +3,6 @@
 
 mod laws;
 mod partition;
-#[cfg(test)]
-mod tests;
 
 pub use laws::{fresh_law, runs_law, states_law};
 pub use partition::Partition;

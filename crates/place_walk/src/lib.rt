@@ -3,8 +3,6 @@
 #![tactic(auto)]
 
 mod hop;
-#[cfg(test)]
-mod tests;
 mod walk;
 
 pub use hop::Hop;

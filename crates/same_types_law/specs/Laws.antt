@@ -10,6 +10,6 @@ use Rattle.same_things_law.specs.SameThings.{HasSameThings}
 abbrev pub OneHeapWithSameThings : Type 0
 OneHeapWithSameThings = (k z : Cluster) → HasSameThings k z → IsSound z → SameState (one_heap k) (one_heap z)
 
--- and are coherent, both or none
+-- and one is coherent where the other is
 abbrev pub CoherentWithSameThings : Type 0
 CoherentWithSameThings = (k z : Cluster) → HasSameThings k z → IsCoherent z → IsCoherent k

@@ -2,8 +2,8 @@
 -- too. None of them may be without a result, and all of them end with the same prints and nothing left.
 use Rattle.std.specs.Prelude.{◌≡◌, ℕ, ℤ, zero, suc, pos, ◌+◌, ◌*◌, ◌/◌, ◌%◌, ◌==◌, ◌&&◌, not, Bool, true, false, if◌then◌else◌, List, [], ◌∷◌, ◌++◌, length, Option, Some, None, slice_get}
 use Rattle.fr_base.specs.declared.instruction.Instr.{Instr}
-use Rattle.read_cache.specs.Cache.{Copy}
-use Rattle.thread_state.specs.View.{ThreadState}
+use Rattle.place_walk.specs.Below.read_cache.Cache.{Copy}
+use Rattle.place_walk.specs.Below.thread_state.View.{ThreadState}
 use Rattle.server_msgs.specs.declared.message.Message.{Message}
 use Rattle.server_model.specs.declared.event.Event.{Event}
 use Rattle.server_model.specs.declared.event.What.TheVariants.{Step, Deliver, Evict, Migrate}

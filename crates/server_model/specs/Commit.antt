@@ -14,17 +14,17 @@ use Rattle.fr_base.specs.declared.instruction.Instr.{Instr}
 use Rattle.fr_base.specs.declared.instruction.Instr.TheVariants as instr
 use Rattle.fr_base.specs.Rooms.{WithRoom}
 use Rattle.fr_plain.specs.Acts.{result_of}
-use Rattle.heap_partition.specs.Plain.{plain_of}
-use Rattle.heap_partition.specs.declared.value.Cell.{Cell}
-use Rattle.heap_partition.specs.declared.value.Owned.{Owned}
-use Rattle.heap_partition.specs.declared.value.Owned.TheVariants as owned
+use Rattle.place_walk.specs.Below.heap_partition.Plain.{plain_of}
+use Rattle.place_walk.specs.Below.heap_partition.declared.value.Cell.{Cell}
+use Rattle.place_walk.specs.Below.heap_partition.declared.value.Owned.{Owned}
+use Rattle.place_walk.specs.Below.heap_partition.declared.value.Owned.TheVariants as owned
 use Rattle.mutex_home.specs.Mutexes.{can_make, make, next_mutex}
 use Rattle.join_home.specs.Tasks.{can_begin, begin, can_begin_pair, begin_pair}
 use Rattle.mut_borrow.specs.declared.mutable.MutRef.{MutRef}
-use Rattle.thread_state.specs.declared.phase.Phase.{Phase}
-use Rattle.thread_state.specs.declared.phase.Phase.TheVariants as phase
-use Rattle.thread_state.specs.declared.value.Value.{Value}
-use Rattle.thread_state.specs.declared.value.Value.TheVariants as value
+use Rattle.place_walk.specs.Below.thread_state.declared.phase.Phase.{Phase}
+use Rattle.place_walk.specs.Below.thread_state.declared.phase.Phase.TheVariants as phase
+use Rattle.place_walk.specs.Below.thread_state.declared.value.Value.{Value}
+use Rattle.place_walk.specs.Below.thread_state.declared.value.Value.TheVariants as value
 use Rattle.server_msgs.specs.declared.message.Message.TheVariants as message
 use Rattle.journal.specs.declared.act.Act.TheVariants as act
 use Rattle.server_model.specs.Work.{Hand, send, note, label_all, with_mutexes, with_tasks, with_cache, working, with_phase, go_to, with_slots, push_slot, push_temp, pop_temp, pop_slot, pop, taken_as, owned_of, task_of, mutex_of, pop_owned, pop_int, then_some}

@@ -5,10 +5,10 @@ use Rattle.fr_base.specs.declared.release.Released.{Released}
 use Rattle.fr_base.specs.declared.release.Released.TheVariants as released
 use Rattle.fr_base.specs.declared.settings.Options.{Options}
 use Rattle.fr_base.specs.declared.step.Fresh.{Fresh}
-use Rattle.read_cache.specs.Cache.{can_evict, evict}
-use Rattle.thread_state.specs.View.{ThreadState}
-use Rattle.thread_state.specs.declared.phase.Phase.{Phase}
-use Rattle.thread_state.specs.declared.phase.Phase.TheVariants as phase
+use Rattle.place_walk.specs.Below.read_cache.Cache.{can_evict, evict}
+use Rattle.place_walk.specs.Below.thread_state.View.{ThreadState}
+use Rattle.place_walk.specs.Below.thread_state.declared.phase.Phase.{Phase}
+use Rattle.place_walk.specs.Below.thread_state.declared.phase.Phase.TheVariants as phase
 use Rattle.server_msgs.specs.declared.message.Message.{Message}
 use Rattle.server_msgs.specs.declared.message.Message.TheVariants as message
 use Rattle.journal.specs.declared.act.Act.TheVariants as act

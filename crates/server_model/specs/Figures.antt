@@ -3,15 +3,15 @@ use Rattle.std.specs.Prelude.{ℕ, ℤ, zero, suc, ◌+◌, ◌==◌, ◌&&◌, 
 use Rattle.fr_base.specs.Kinds.{kind_number}
 use Rattle.fr_base.specs.declared.instruction.Instr.{Instr}
 use Rattle.fr_base.specs.declared.settings.Options.{Options}
-use Rattle.thread_state.specs.View.{ThreadState, is_over}
-use Rattle.thread_state.specs.declared.phase.Phase.{Phase}
-use Rattle.thread_state.specs.declared.phase.Phase.TheVariants as phase
-use Rattle.heap_partition.specs.declared.value.Cell.{Cell}
+use Rattle.place_walk.specs.Below.thread_state.View.{ThreadState, is_over}
+use Rattle.place_walk.specs.Below.thread_state.declared.phase.Phase.{Phase}
+use Rattle.place_walk.specs.Below.thread_state.declared.phase.Phase.TheVariants as phase
+use Rattle.place_walk.specs.Below.heap_partition.declared.value.Cell.{Cell}
 use Rattle.journal.specs.declared.act.Act.{Act}
 use Rattle.journal.specs.declared.act.Act.TheVariants as act
 use Rattle.journal.specs.View.{EntryView}
 use Rattle.fr_base.specs.declared.label.Label.{Label}
-use Rattle.read_cache.specs.Cache.{Copy}
+use Rattle.place_walk.specs.Below.read_cache.Cache.{Copy}
 use Rattle.journal.specs.Journals.{labels, prints}
 use Rattle.server_msgs.specs.Messages.{kind_of}
 use Rattle.server_msgs.specs.declared.message.Message.{Message}

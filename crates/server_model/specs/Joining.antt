@@ -1,13 +1,13 @@
 -- Messages about threads (this project's rules): they start, move and end, and their results go to those that ask. Each function
 -- is what the delivery of one message does; None where that can't be done.
 use Rattle.std.specs.Prelude.{ℕ, ◌==◌, ◌||◌, Bool, false, if◌then◌else◌, Option, Some, None, option_map}
-use Rattle.heap_partition.specs.declared.value.Owned.{Owned}
+use Rattle.place_walk.specs.Below.heap_partition.declared.value.Owned.{Owned}
 use Rattle.join_home.specs.Tasks.{ask, ended, let_go_of}
 use Rattle.join_home.specs.declared.answers.EndedAs.{EndedAs}
 use Rattle.join_home.specs.declared.answers.EndedAs.TheVariants.{Answer, Both, LetGo, Kept}
-use Rattle.thread_state.specs.View.{ThreadState}
-use Rattle.thread_state.specs.declared.phase.Phase.{Phase}
-use Rattle.thread_state.specs.declared.phase.Phase.TheVariants as phase
+use Rattle.place_walk.specs.Below.thread_state.View.{ThreadState}
+use Rattle.place_walk.specs.Below.thread_state.declared.phase.Phase.{Phase}
+use Rattle.place_walk.specs.Below.thread_state.declared.phase.Phase.TheVariants as phase
 use Rattle.server_msgs.specs.declared.message.Message.TheVariants as message
 use Rattle.journal.specs.declared.act.Act.TheVariants as act
 use Rattle.server_model.specs.Work.{Work, Hand, Site, send, note, with_tasks, thread_in, with_thread, at_thread, beside_threads, with_phase, then_some}

@@ -1,3 +1,4 @@
+pub mod Below
 pub mod Servers
 pub mod Work
 pub mod NewWords

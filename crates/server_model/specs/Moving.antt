@@ -1,9 +1,9 @@
 -- A thread leaves for another server (this project's rules).
 use Rattle.std.specs.Prelude.{ℕ, true, List, [], Option, option_map}
-use Rattle.read_cache.specs.Cache.{Copy}
-use Rattle.thread_state.specs.View.{ThreadState}
-use Rattle.thread_state.specs.declared.value.Value.{Value}
-use Rattle.thread_state.specs.declared.value.Value.TheVariants as value
+use Rattle.place_walk.specs.Below.read_cache.Cache.{Copy}
+use Rattle.place_walk.specs.Below.thread_state.View.{ThreadState}
+use Rattle.place_walk.specs.Below.thread_state.declared.value.Value.{Value}
+use Rattle.place_walk.specs.Below.thread_state.declared.value.Value.TheVariants as value
 use Rattle.server_msgs.specs.declared.message.Message.TheVariants as message
 use Rattle.journal.specs.declared.act.Act.TheVariants as act
 use Rattle.server_model.specs.Work.{Work, Site, send, note, with_cache, thread_in, without_thread, then_some}

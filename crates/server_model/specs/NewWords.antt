@@ -1,8 +1,8 @@
 -- New words of objects (this project's rules): each comes with the change of the partition that issues it, and with its act.
 use Rattle.std.specs.Prelude.{ℕ, ◌+◌, ◌^◌, ◌==◌, ◌&&◌, Bool, nat_lt, if◌then◌else◌, length, Option, Some, None}
 use Rattle.global_addr.specs.Words.{colour_of, next_word}
-use Rattle.heap_partition.specs.declared.value.BoxPtr.{BoxPtr}
-use Rattle.heap_partition.specs.declared.value.Cell.{Cell}
+use Rattle.place_walk.specs.Below.heap_partition.declared.value.BoxPtr.{BoxPtr}
+use Rattle.place_walk.specs.Below.heap_partition.declared.value.Cell.{Cell}
 use Rattle.owner_box.specs.View.{PartitionState}
 use Rattle.owner_box.specs.Partition.{made, freed, renewed, new_word}
 use Rattle.journal.specs.declared.act.Act.{Act}

@@ -2,16 +2,16 @@
 use Rattle.std.specs.Prelude.{if◌then◌else◌, ℕ, Bool, true, false, nat_lt, List, [], ◌∷◌, ◌++◌, length, Option, Some, None, slice_get, slice_set}
 use Rattle.fr_base.specs.declared.label.Label.{Label}
 use Rattle.fr_base.specs.declared.label.Label.TheVariants as label
-use Rattle.heap_partition.specs.Plain.{plain_of}
-use Rattle.heap_partition.specs.declared.value.BoxPtr.{BoxPtr}
-use Rattle.heap_partition.specs.declared.value.Cell.{Cell}
-use Rattle.heap_partition.specs.declared.value.Owned.{Owned}
-use Rattle.heap_partition.specs.declared.value.Owned.TheVariants as owned
+use Rattle.place_walk.specs.Below.heap_partition.Plain.{plain_of}
+use Rattle.place_walk.specs.Below.heap_partition.declared.value.BoxPtr.{BoxPtr}
+use Rattle.place_walk.specs.Below.heap_partition.declared.value.Cell.{Cell}
+use Rattle.place_walk.specs.Below.heap_partition.declared.value.Owned.{Owned}
+use Rattle.place_walk.specs.Below.heap_partition.declared.value.Owned.TheVariants as owned
 use Rattle.owner_box.specs.Partition.{stored}
-use Rattle.read_cache.specs.Cache.{hit}
+use Rattle.place_walk.specs.Below.read_cache.Cache.{hit}
 use Rattle.mut_borrow.specs.declared.mutable.MutRef.{MutRef}
-use Rattle.thread_state.specs.declared.value.Value.{Value}
-use Rattle.thread_state.specs.declared.value.Value.TheVariants as value
+use Rattle.place_walk.specs.Below.thread_state.declared.value.Value.{Value}
+use Rattle.place_walk.specs.Below.thread_state.declared.value.Value.TheVariants as value
 use Rattle.migration.specs.Packing.{unpinned}
 use Rattle.server_model.specs.NewWords.{NewWord}
 use Rattle.server_model.specs.Work.{Hand, with_partition, look, leads_here, working, with_slots, with_temps, last_of, front_of, then_some, label_all}

@@ -3,10 +3,10 @@ use Rattle.std.specs.Prelude.{if◌then◌else◌, ℕ, ◌+◌, ◌&&◌, not, 
 use Rattle.fr_base.specs.declared.settings.Options.{Options}
 use Rattle.fr_base.specs.declared.step.Wait.{Wait}
 use Rattle.fr_base.specs.declared.step.Wait.TheVariants as wait
-use Rattle.read_cache.specs.Cache.{oldest_unused}
-use Rattle.thread_state.specs.View.{ThreadState, is_over}
-use Rattle.thread_state.specs.declared.phase.Phase.{Phase}
-use Rattle.thread_state.specs.declared.phase.Phase.TheVariants as phase
+use Rattle.place_walk.specs.Below.read_cache.Cache.{oldest_unused}
+use Rattle.place_walk.specs.Below.thread_state.View.{ThreadState, is_over}
+use Rattle.place_walk.specs.Below.thread_state.declared.phase.Phase.{Phase}
+use Rattle.place_walk.specs.Below.thread_state.declared.phase.Phase.TheVariants as phase
 use Rattle.server_model.specs.Servers.{Server}
 use Rattle.server_model.specs.Events.{can_step, is_ready}
 

@@ -5,10 +5,10 @@ use Rattle.fr_base.specs.declared.instruction.Instr.{Instr}
 use Rattle.fr_base.specs.declared.settings.Options.{Options}
 use Rattle.owner_box.specs.View.{PartitionState}
 use Rattle.owner_box.specs.Partition.{started}
-use Rattle.read_cache.specs.Cache.{Copy}
+use Rattle.place_walk.specs.Below.read_cache.Cache.{Copy}
 use Rattle.mutex_home.specs.Mutexes.{Mutexes}
 use Rattle.join_home.specs.Tasks.{Task}
-use Rattle.thread_state.specs.View.{ThreadState, new_thread}
+use Rattle.place_walk.specs.Below.thread_state.View.{ThreadState, new_thread}
 use Rattle.server_msgs.specs.declared.message.Message.{Message}
 
 -- a message under way to a server

@@ -3,15 +3,15 @@
 use Rattle.std.specs.Prelude.{ℕ, Bool, false, if◌then◌else◌, Option, Some, None, option_map}
 use Rattle.fr_base.specs.declared.name.MutexNo.{MutexNo}
 use Rattle.fr_base.specs.Names.{same_mutex}
-use Rattle.heap_partition.specs.declared.value.Owned.{Owned}
-use Rattle.heap_partition.specs.declared.value.Owned.TheVariants as owned
+use Rattle.place_walk.specs.Below.heap_partition.declared.value.Owned.{Owned}
+use Rattle.place_walk.specs.Below.heap_partition.declared.value.Owned.TheVariants as owned
 use Rattle.mutex_home.specs.Mutexes.{ask, give_back, more, less}
 use Rattle.mutex_home.specs.declared.answers.Asked.{Asked}
 use Rattle.mutex_home.specs.declared.answers.Asked.TheVariants.{Queued, Granted}
 use Rattle.mutex_home.specs.declared.answers.Back.{Back}
 use Rattle.mutex_home.specs.declared.answers.Back.TheVariants.{Next, Ended, Kept}
-use Rattle.thread_state.specs.declared.phase.Phase.{Phase}
-use Rattle.thread_state.specs.declared.phase.Phase.TheVariants as phase
+use Rattle.place_walk.specs.Below.thread_state.declared.phase.Phase.{Phase}
+use Rattle.place_walk.specs.Below.thread_state.declared.phase.Phase.TheVariants as phase
 use Rattle.server_msgs.specs.declared.message.Message.TheVariants as message
 use Rattle.journal.specs.declared.act.Act.TheVariants as act
 use Rattle.server_model.specs.Work.{Work, Hand, send, note, with_mutexes, with_phase}

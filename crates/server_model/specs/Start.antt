@@ -1,9 +1,9 @@
 -- How threads start (this project's rules): their names, their servers and what they capture.
 use Rattle.std.specs.Prelude.{ℕ, ◌+◌, ◌*◌, ◌%◌, ◌^◌, Bool, true, false, List, [], ◌∷◌, ◌++◌, Option, Some, None, slice_get, slice_set}
 use Rattle.fr_base.specs.declared.label.Label.TheVariants as label
-use Rattle.thread_state.specs.View.{new_thread}
-use Rattle.thread_state.specs.declared.value.Value.{Value}
-use Rattle.thread_state.specs.declared.value.Value.TheVariants as value
+use Rattle.place_walk.specs.Below.thread_state.View.{new_thread}
+use Rattle.place_walk.specs.Below.thread_state.declared.value.Value.{Value}
+use Rattle.place_walk.specs.Below.thread_state.declared.value.Value.TheVariants as value
 use Rattle.server_msgs.specs.declared.message.Message.TheVariants as message
 use Rattle.journal.specs.declared.act.Act.TheVariants as act
 use Rattle.server_model.specs.Servers.{Rest}

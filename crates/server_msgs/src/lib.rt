@@ -2,7 +2,5 @@
 #![tactic(auto)]
 
 mod message;
-#[cfg(test)]
-mod tests;
 
 pub use message::Message;

@@ -4,8 +4,6 @@
 
 mod parcel;
 mod phase;
-#[cfg(test)]
-mod tests;
 mod thread;
 mod value;
 

@@ -4,7 +4,7 @@ use Rattle.heap_law.specs.Below.fr_plain.declared.value.Value.{Value}
 use Rattle.heap_law.specs.Below.fr_plain.MachineThreads.{alive, ended}
 use Rattle.heap_law.specs.Below.fr_plain.PlainState.{place_in}
 use Rattle.heap_law.specs.Below.fr_code.Machine.{CodeRunning, CodeState}
-use Rattle.fr_sound.specs.States.{Typing, IsKept, IsOwed, IsBranch}
+use Rattle.heap_law.specs.Below.fr_sound.States.{Typing, IsKept, IsOwed, IsBranch}
 
 no_some : {A : Type 0} {x : A} → None ≡ Some x → ⊥
 no_some e = absurd cc

@@ -18,8 +18,8 @@ use Rattle.heap_law.specs.Below.fr_plain.declared.value.Value.TheVariants.{Own, 
 use Rattle.heap_law.specs.Below.fr_plain.State.{slot_at}
 use Rattle.heap_law.specs.Below.fr_code.Steps.{Place as CodePlace}
 use Rattle.heap_law.specs.Below.fr_code.Machine.{CodeRunning}
-use Rattle.fr_sound.specs.Seen.{Gives}
-use Rattle.fr_sound.specs.States.{Typing, store_of, RunningTyped, part_at, is_reference, is_hidden, is_held, env_at, IsLower}
+use Rattle.heap_law.specs.Below.fr_sound.Seen.{Gives}
+use Rattle.heap_law.specs.Below.fr_sound.States.{Typing, store_of, RunningTyped, part_at, is_reference, is_hidden, is_held, env_at, IsLower}
 use Rattle.heap_law.specs.OneHeap.{one_heap, is_given_thread}
 use Rattle.heap_law.specs.Below.fr_code.CodeTypes.{going}
 use Rattle.type_law.specs.ClusterTypes.{KnownAt, CodeStateTypes, Types}

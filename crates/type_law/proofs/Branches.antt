@@ -16,7 +16,7 @@ use Rattle.heap_law.specs.Weights.{is_thread}
 use Rattle.heap_law.specs.Requests.{Branch, half_noted, pair_notes, branch_places, pair_places}
 use Rattle.heap_law.specs.OneHeap.{two_in, pair_of, one_heap}
 use Rattle.heap_law.proofs.Names.{and_right, same_number}
-use Rattle.fr_sound.specs.States.{Typing, IsBranch}
+use Rattle.heap_law.specs.Below.fr_sound.States.{Typing, IsBranch}
 use Rattle.type_law.specs.ClusterTypes.{IsCoherent}
 use Rattle.type_law.specs.Branches.{IsBranchOf, BranchesLaw}
 

@@ -21,8 +21,8 @@ use Rattle.heap_law.specs.Below.fr_plain.State.{slot_at}
 use Rattle.heap_law.specs.Below.fr_plain.MachineThreads.{Shared}
 use Rattle.heap_law.specs.Below.fr_code.Steps.{Place as CodePlace}
 use Rattle.heap_law.specs.Below.fr_code.Machine.{CodeRunning}
-use Rattle.fr_sound.specs.Seen.{Gives}
-use Rattle.fr_sound.specs.States.{Typing, store_of, content_val, RunningTyped, part_at, is_reference, is_hidden, is_held, env_at, IsLower, IsLock, IsShare, IsMark, IsNear, MutexTyped}
+use Rattle.heap_law.specs.Below.fr_sound.Seen.{Gives}
+use Rattle.heap_law.specs.Below.fr_sound.States.{Typing, store_of, content_val, RunningTyped, part_at, is_reference, is_hidden, is_held, env_at, IsLower, IsLock, IsShare, IsMark, IsNear, MutexTyped}
 use Rattle.heap_law.specs.OneHeap.{one_heap, is_given_thread}
 use Rattle.heap_law.specs.Below.fr_code.CodeTypes.{going, takes_const, takes_unit, takes_pop, i_mutex, i_let, i_lock, i_copy, i_print, i_unlock, i_drop}
 use Rattle.heap_law.specs.Below.fr_code.CodeTable.{IsTable}

@@ -20,7 +20,7 @@ use Rattle.heap_law.specs.Paths.{joined_thread}
 use Rattle.heap_law.specs.Requests.{locked_mutex}
 use Rattle.heap_law.specs.OneHeap.{Node, object_n, mutex_n, task_n, owns}
 use Rattle.heap_law.specs.Below.fr_code.CodeTypes.{Entry, Table}
-use Rattle.fr_sound.specs.States.{owned_part}
+use Rattle.heap_law.specs.Below.fr_sound.States.{owned_part}
 use Rattle.type_law.specs.Names.{NameTypes, names_of, fits, fits_some, is_there, is_type}
 use Rattle.type_law.specs.ClusterTypes.{misfit, content_gift, result_gift, gift_misfit, has_form, slot_form, slots_wrong, temps_wrong, forms_of, forms_wrong, entry_wrong, above_mark, locked_of, locked_wrong}
 use Rattle.type_law.specs.Owning.{IsTop, IsHeld, Stands, lying, flying, content, granted, held, result, joined, OwnsInTheEnd, directly, through, NoneOwnsItself}

@@ -21,8 +21,8 @@ use Rattle.heap_law.specs.Naming.{started_at}
 use Rattle.heap_law.specs.Below.fr_plain.MachineThreads.{alive}
 use Rattle.heap_law.specs.Below.fr_code.Steps.{Place as CodePlace}
 use Rattle.heap_law.specs.Below.fr_code.Machine.{CodeRunning}
-use Rattle.fr_sound.specs.Seen.{Gives}
-use Rattle.fr_sound.specs.States.{Typing, store_of, RunningTyped}
+use Rattle.heap_law.specs.Below.fr_sound.Seen.{Gives}
+use Rattle.heap_law.specs.Below.fr_sound.States.{Typing, store_of, RunningTyped}
 use Rattle.heap_law.specs.OneHeap.{one_heap, is_given_thread, Node, object_n, mutex_n, any_named, is_in_state, pair_of}
 use Rattle.heap_law.specs.Below.thread_state.View.{is_over}
 use Rattle.heap_law.specs.Below.fr_code.CodeTypes.{Entry, Table, going}

@@ -17,7 +17,7 @@ use Rattle.heap_law.specs.Follow.{Standing, thread_at}
 use Rattle.heap_law.specs.Sight.{Sight, sight}
 use Rattle.type_law.specs.Names.{NameTypes}
 use Rattle.heap_law.specs.Below.fr_code.CodeTypes.{Table, Entry as Types}
-use Rattle.fr_sound.specs.States.{part_at}
+use Rattle.heap_law.specs.Below.fr_sound.States.{part_at}
 use Rattle.type_law.specs.ClusterTypes.{misfits, forms_wrong, locked_wrong, leads_wrong, views_wrong, ends_wrong}
 use Rattle.type_law.specs.Tables.{pairs_table, locks_table, lent_table}
 

@@ -3,9 +3,9 @@ pub use Rattle.heap_law.specs.Below.coloured_heap as coloured_heap
 pub use Rattle.heap_law.specs.Below.fr_base as fr_base
 pub use Rattle.heap_law.specs.Below.fr_code as fr_code
 pub use Rattle.heap_law.specs.Below.fr_plain as fr_plain
-pub use Rattle.fr_sound.specs as fr_sound
+pub use Rattle.heap_law.specs.Below.fr_sound as fr_sound
 pub use Rattle.heap_law.specs.Below.fr_store as fr_store
-pub use Rattle.fr_terms.specs as fr_terms
+pub use Rattle.heap_law.specs.Below.fr_terms as fr_terms
 pub use Rattle.heap_law.specs.Below.fr_typing as fr_typing
 pub use Rattle.heap_law.specs.Below.global_addr as global_addr
 pub use Rattle.heap_law.specs as heap_law

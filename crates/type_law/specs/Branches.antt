@@ -9,7 +9,7 @@ use Rattle.heap_law.specs.Things.{noted, things_of}
 use Rattle.heap_law.specs.Follow.{Standing}
 use Rattle.heap_law.specs.Sight.{sight}
 use Rattle.heap_law.specs.OneHeap.{two_in}
-use Rattle.fr_sound.specs.States.{Typing}
+use Rattle.heap_law.specs.Below.fr_sound.States.{Typing}
 use Rattle.type_law.specs.ClusterTypes.{IsCoherent}
 
 -- the thread ends with unit, and its parent stands below it

@@ -28,7 +28,7 @@ use Rattle.heap_law.specs.Requests.{locked_mutex}
 use Rattle.heap_law.specs.Coherent.{IsSound}
 use Rattle.heap_law.specs.OneHeap.{one_heap}
 use Rattle.type_law.specs.Names.{NameTypes, names_of, fits, is_there, fits_some, is_type}
-use Rattle.fr_sound.specs.States.{owned_part, Typing}
+use Rattle.heap_law.specs.Below.fr_sound.States.{owned_part, Typing}
 use Rattle.heap_law.specs.Below.fr_code.CodeTypes.{Entry, Table}
 use Rattle.heap_law.specs.Below.fr_code.CodeTable.{IsTable}
 pub use Rattle.heap_law.specs.Below.fr_code.TableStates.{KnownAt, CodeStateTypes}

@@ -5,7 +5,7 @@ use Rattle.heap_law.specs.Below.fr_base.declared.name.MutexNo.{MutexNo}
 use Rattle.heap_law.specs.Below.heap_partition.declared.value.Owned.{Owned as Value}
 use Rattle.heap_law.specs.Below.heap_partition.declared.value.Owned.TheVariants as owned
 use Rattle.heap_law.specs.Below.fr_typing.Kinds.{Owned, unit, int, box, mutex, task, same_owned}
-use Rattle.fr_sound.specs.Seen.{Gives}
+use Rattle.heap_law.specs.Below.fr_sound.Seen.{Gives}
 
 -- what each object holds, each mutex holds as its content, and each thread ends with: the type of its code's result, whether it has ended or not
 pub record NameTypes : Type 0 where

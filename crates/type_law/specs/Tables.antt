@@ -1,6 +1,6 @@
 -- Tables of codes with a pair of threads and views, with a mutex and a task, and with a mutable reference.
 use Rattle.std.specs.Prelude.{List, [], ◌∷◌, ◌++◌, Some, None}
-use Rattle.fr_terms.specs.Terms.{Text}
+use Rattle.heap_law.specs.Below.fr_terms.Terms.{Text}
 use Rattle.heap_law.specs.Below.fr_typing.Kinds.{unit, int, box, mutex, task, Kind, own, shared, mutable, view, Piece, whole, gone}
 use Rattle.heap_law.specs.Below.fr_typing.Places.{Slot, Env}
 use Rattle.heap_law.specs.Clusters.{place}

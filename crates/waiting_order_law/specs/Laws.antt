@@ -8,6 +8,6 @@ use Rattle.same_types_law.specs.Below.same_things_law.SameThings.{HasSameThings}
 abbrev pub ThingsInAnyOrder : Type 0
 ThingsInAnyOrder = (k z : Cluster) → IsSameCluster k z → HasSameThings k z
 
--- so they are coherent, both or none
+-- so one is coherent where the other is
 abbrev pub CoherentInAnyOrder : Type 0
 CoherentInAnyOrder = (k z : Cluster) → IsSameCluster k z → IsCoherent z → IsCoherent k

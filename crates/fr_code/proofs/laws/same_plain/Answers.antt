@@ -1,5 +1,5 @@
-use Rattle.fr_plain.proofs.SameSteps.{same_plain}
-use Rattle.fr_plain.proofs.ListedOnce.{once_stays}
+use Rattle.fr_sound.proofs.Below.fr_plain.SameSteps.{same_plain}
+use Rattle.fr_sound.proofs.Below.fr_plain.ListedOnce.{once_stays}
 use Rattle.fr_code.specs.Steps.{code_moves}
 use Rattle.fr_code.proofs.laws.same_plain.Goals as goal
 

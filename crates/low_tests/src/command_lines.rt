@@ -1,6 +1,6 @@
 //! Word lists by hand.
 
-use super::*;
+use drust_cli::{Asked, Command, WordsError, read_words};
 use std::alloc::Global;
 use std::process::Abort;
 

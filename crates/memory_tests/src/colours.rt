@@ -1,6 +1,6 @@
 //! Addresses freed and picked again.
 
-use super::*;
+use colour_retire::Colours;
 use global_addr::Word;
 use std::test::Fail;
 

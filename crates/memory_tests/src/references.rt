@@ -1,8 +1,8 @@
 //! A reference written, cleaned and ended.
 
-use super::*;
 use fr_base::{Lval, ObjNo, ThreadNo};
 use global_addr::Word;
+use mut_borrow::{Cleaned, MutRef, changed_law};
 
 #[test]
 fn ends_with_its_last_word(rt: HostRuntime) {

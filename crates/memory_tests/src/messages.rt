@@ -1,9 +1,9 @@
 //! Kinds of messages.
 
-use super::*;
 use fr_base::{MutexNo, ObjNo, Released, ThreadNo};
 use global_addr::Word;
 use heap_partition::{Cell, Owned};
+use server_msgs::Message;
 use thread_state::{Parcel, Thread};
 
 // A thread.

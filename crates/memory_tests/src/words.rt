@@ -1,6 +1,6 @@
 //! Words by hand.
 
-use super::*;
+use global_addr::{Word, words_law};
 
 #[test]
 fn has_its_fields(rt: HostRuntime) {

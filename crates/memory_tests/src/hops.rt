@@ -1,10 +1,10 @@
 //! Hops by hand, at server 1.
 
-use super::*;
 use fr_base::{Lval, ObjNo, ThreadNo};
 use global_addr::Word;
 use heap_partition::{BoxPtr, Cell, Owned};
 use mut_borrow::{MutRef, SharedRef};
+use place_walk::{Hop, read_hop, write_hop};
 use read_cache::Cache;
 use std::test::Fail;
 use thread_state::Value;

@@ -1,8 +1,8 @@
 //! A thread made, and packed.
 
-use super::*;
 use fr_base::ThreadNo;
 use std::test::Fail;
+use thread_state::{Parcel, Phase, Thread, Value};
 
 #[test]
 fn begins_ready_at_home(rt: HostRuntime) -> Result<(), Fail> {

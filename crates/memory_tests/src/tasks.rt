@@ -1,8 +1,8 @@
 //! Threads begun, asked for and ended.
 
-use super::*;
 use fr_base::ThreadNo;
 use heap_partition::Owned;
+use join_home::{EndedAs, Tasks};
 use std::test::Fail;
 
 #[test]

@@ -1,11 +1,11 @@
 //! A mutex whose shares come and go, and pairs that end out of order.
 
-use super::*;
 use fr_base::{MutexNo, NoMemory, Plain, ThreadNo};
+use fr_shared::{Mutexes, Pairs, Two};
 use std::test::Fail;
 
 // Gives a name to a new mutex, where it wasn't given before.
-#[tactic(auto, using(crate::proofs::MutexParts::new_none))]
+#[tactic(auto, using(fr_shared::proofs::MutexParts::new_none))]
 fn give(mutexes: &mut Mutexes, mutex: MutexNo, content: Plain) -> Result<bool, NoMemory> {
     if mutexes.is_given(mutex) {
         return Ok(false);
@@ -45,7 +45,7 @@ fn content_goes_with_the_last_share(rt: HostRuntime) -> Result<(), Fail> {
 }
 
 // A parent that waits for no pair waits for these two.
-#[tactic(auto, using(crate::proofs::PairParts::none_from))]
+#[tactic(auto, using(fr_shared::proofs::PairParts::none_from))]
 fn pair(
     pairs: &mut Pairs,
     parent: ThreadNo,

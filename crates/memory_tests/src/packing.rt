@@ -2,10 +2,10 @@
 
 ghost use Rattle.std.specs.Prelude.{◌≡◌};
 
-use super::*;
 use fr_base::{ObjNo, ThreadNo};
 use global_addr::Word;
 use heap_partition::{Cell, Owned};
+use migration::{pack_thread, unpack};
 use mut_borrow::SharedRef;
 use read_cache::Cache;
 use std::test::Fail;

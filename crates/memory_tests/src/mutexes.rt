@@ -1,8 +1,8 @@
 //! Mutexes made, asked for, given back and counted.
 
-use super::*;
 use fr_base::{MutexNo, ThreadNo};
 use heap_partition::Owned;
+use mutex_home::{Asked, Back, Mutexes};
 use std::test::Fail;
 
 #[test]

@@ -2,10 +2,10 @@
 
 ghost use Rattle.std.specs.Prelude.{◌<◌, ◌≤◌, vec_len, IfSome};
 
-use super::*;
 use fr_base::{NoMemory, ObjNo, ThreadNo};
 use global_addr::Word;
 use heap_partition::{Cell, Owned};
+use owner_box::{Partition, fresh_law, runs_law};
 use rand_core::utils::NextWord;
 use rand_pcg::Lcg64Xsh32;
 use std::alloc::Global;

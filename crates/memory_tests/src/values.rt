@@ -1,8 +1,8 @@
 //! Cells put, read, changed and taken.
 
-use super::*;
 use fr_base::{MutexNo, ObjNo, Plain, ThreadNo};
 use global_addr::Word;
+use heap_partition::{BoxPtr, Cell, Cells, Owned};
 use std::test::Fail;
 
 fn cell(number: u32) -> Cell {
