@@ -17,7 +17,7 @@ use Rattle.rank_map.proofs.block.Block.TheSendSync as block
 use Rattle.rank_map.proofs.tree.Tree.TheLaws.TheKnot.{send-Tree}
 use Rattle.read_cache.proofs.slot.Slot.TheSendSync as slot
 use Rattle.server_msgs.proofs.message.Message.TheSendSync as message
-use Rattle.thread_state.proofs.thread.Thread.TheSendSync as thread
+use Rattle.thread_state.proofs.boxed.BoxedThread.TheSendSync as boxed
 use Rattle.thread_state.proofs.value.Value.TheSendSync as value
 use Rattle.rank_map.specs.contracts.map.RankMap as map
 use Rattle.rank_map.specs.contracts.queue.Queue as queue
@@ -42,10 +42,10 @@ work_send : IsSend (work.the_field).row
 work_send = search (crosses, sendable, partition.the_send, mutexes.the_send, tasks.the_send, message.the_send, act.the_send, label.the_send, list.the_send, cache_send, queue_send) depth 30
 
 threads_send : IsSend (threads.the_field).row
-threads_send = search (crosses, sendable, thread.the_send, map_send) depth 30
+threads_send = search (crosses, sendable, boxed.the_send, map_send) depth 30
 
 spares_send : IsSend (spares.the_field).row
-spares_send = search (crosses, sendable, value.the_field_send) depth 30
+spares_send = search (crosses, sendable, boxed.the_send, value.the_field_send) depth 30
 
 server_send : IsSend (server.the_field).row
 server_send = search (crosses, sendable, code.the_send, code.the_sync, work_send, threads_send, spares_send) depth 30

@@ -4,7 +4,8 @@ use fr_base::{MutexNo, ObjNo, Released, ThreadNo};
 use global_addr::Word;
 use heap_partition::{Cell, Owned};
 use server_msgs::Message;
-use thread_state::{Parcel, Thread};
+use std::test::Fail;
+use thread_state::{BoxedThread, Parcel, Thread};
 
 // A thread.
 fn thread() -> ThreadNo {
@@ -56,9 +57,12 @@ fn mutexes_and_threads_are_asked_for(rt: HostRuntime) {
 }
 
 #[test]
-fn threads_travel(rt: HostRuntime) {
+fn threads_travel(rt: HostRuntime) -> Result<(), Fail> {
     let new = Thread::new(rt.alloc(), thread(), 3, Vec::new(rt.alloc()));
-    assert_eq!(rt; Message::Start(Parcel::new(new)).kind(), 11);
+    let new = Parcel::new(BoxedThread::new(rt.alloc(), new)?);
+    assert_eq!(rt; Message::Start(new).kind(), 11);
     let moved = Thread::new(rt.alloc(), thread(), 3, Vec::new(rt.alloc()));
-    assert_eq!(rt; Message::Migrate(Parcel::new(moved)).kind(), 15);
+    let moved = Parcel::new(BoxedThread::new(rt.alloc(), moved)?);
+    assert_eq!(rt; Message::Migrate(moved).kind(), 15);
+    Ok(())
 }

@@ -9,7 +9,7 @@ use migration::{pack_thread, unpack};
 use mut_borrow::SharedRef;
 use read_cache::Cache;
 use std::test::Fail;
-use thread_state::{Thread, Value};
+use thread_state::{BoxedThread, Thread, Value};
 
 fn object() -> ObjNo {
     ObjNo {
@@ -59,7 +59,9 @@ fn leaves_no_user_behind(rt: HostRuntime) -> Result<(), Fail> {
     thread.temps = vec![in rt.alloc(); Value::Shared(reference(passing, true))]?;
     thread.walk = vec![in rt.alloc(); walked, held]?;
 
-    let back = unpack(pack_thread(thread, &mut cache));
+    let boxed = BoxedThread::new(rt.alloc(), thread)?;
+    let unpacked = unpack(pack_thread(boxed, &mut cache));
+    let back = unpacked.get();
 
     for word in [walked, held, passing] {
         assert_eq!(rt; (cache.users(word), cache.hit(word)), (0, Some(cell())));

@@ -2,7 +2,7 @@
 
 use fr_base::ThreadNo;
 use std::test::Fail;
-use thread_state::{Parcel, Phase, Thread, Value};
+use thread_state::{BoxedThread, Parcel, Phase, Thread, Value};
 
 #[test]
 fn begins_ready_at_home(rt: HostRuntime) -> Result<(), Fail> {
@@ -23,8 +23,10 @@ fn begins_ready_at_home(rt: HostRuntime) -> Result<(), Fail> {
 }
 
 #[test]
-fn comes_back_from_a_parcel(rt: HostRuntime) {
+fn comes_back_from_a_parcel(rt: HostRuntime) -> Result<(), Fail> {
     let thread = Thread::new(rt.alloc(), ThreadNo::new(2, 5), 9, Vec::new(rt.alloc()));
-    let back = Parcel::new(thread).into_thread();
-    assert_eq!(rt; (back.number, back.pc), (ThreadNo::new(2, 5), 9));
+    let boxed = BoxedThread::new(rt.alloc(), thread)?;
+    let back = Parcel::new(boxed).into_thread();
+    assert_eq!(rt; (back.number(), back.get().pc), (ThreadNo::new(2, 5), 9));
+    Ok(())
 }

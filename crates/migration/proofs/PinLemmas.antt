@@ -3,7 +3,7 @@ use Rattle.std.proofs.Common.{arith, ◌≡◌, ◌<◌, ◌∙◌, ℕ, Bool, t
 use Rattle.std.specs.Prelude.{if◌then◌else◌, Option, Some, None, IsSome, map, option_map}
 use Rattle.std.proofs.lemmas.List.Elements.{All-cons, All-nil}
 use Rattle.read_cache.specs.Cache.{Copy, can_unpin, unpin}
-use Rattle.thread_state.specs.View.{ThreadState, is_pinned}
+use Rattle.thread_state.specs.View.{ThreadState, ThreadView, is_pinned}
 use Rattle.thread_state.specs.declared.value.Value.{Value}
 use Rattle.thread_state.specs.declared.value.Value.TheVariants as value
 use Rattle.migration.specs.Packing.{unpin_all, unpinned, pinned_word, pinned_words, used_words, packed, pack_thread}
@@ -136,6 +136,11 @@ pub value_set : (n : ℕ) (vs now : List Value) (v new : Value) → now ≡ done
 value_set n vs now v new is here low changed =
     ap (λ xs. slice_set xs n new) is ∙ ap (slice_set (done_to n vs) n) (changed ∙ ap unpinned here) ∙ done_set n vs v low
 
--- what a thread is packed to
-pub packs : (t r : ThreadState) (cs left : List Copy) → unpin_all (used_words t) cs ≡ Some left → r ≡ packed t → pack_thread t cs ≡ Some (r, left)
-packs t r cs left is same = ap (option_map (λ x. (packed t, x))) is ∙ ap (λ x. Some (x, left)) (sym same)
+-- what a thread is packed to, by the parts that change
+pub packs : {w : List ℕ} {a b : List Value} (t : ThreadState) (cs left : List Copy) → unpin_all (used_words t) cs ≡ Some left → w ≡ [] → a ≡ map unpinned t.slots → b ≡ map unpinned t.temps
+    → pack_thread t cs ≡ Some (record t { walk = w; slots = a; temps = b }, left)
+packs t cs left is no_walk slots temps = rw (no_walk, slots, temps) (ap (option_map (λ x. (packed t, x))) is)
+
+-- and so for the thread as it is seen
+pub packs_seen : {t u : ThreadView} (cs : List Copy) {r : Option (ThreadState × List Copy)} → t ≡ u → pack_thread t.state cs ≡ r → pack_thread u.state cs ≡ r
+packs_seen cs {r = r} same is = subst (λ (x : ThreadView). pack_thread x.state cs ≡ r) same is

@@ -7,7 +7,7 @@ ghost use Rattle.thread_state.specs.View.{IsPacked};
 use global_addr::Word;
 use mut_borrow::SharedRef;
 use read_cache::Cache;
-use thread_state::{Parcel, Thread, Value};
+use thread_state::{BoxedThread, Parcel, Thread, Value};
 
 // Ends one use of each of the words, which have that many users.
 fn unpin_words(words: &[Word], cache: &mut Cache)
@@ -51,24 +51,34 @@ fn unpin_values(values: &mut Vec<Value>, cache: &mut Cache)
     }
 }
 
-/// Packs a thread to go to another server: the uses of copies by its walk and by its pinned references end, and no such use
-/// goes along. Each word has at least as many users in the cache as the thread uses it. It takes time in the number of the
-/// thread's values and words, and no memory.
-pub fn pack_thread(thread: Thread, cache: &mut Cache) -> Parcel
-    requires users { IsSome (pack_thread thread.state cache.old.state) }
-    ensures packed { pack_thread thread.state cache.old.state ≡ Some (result, cache.new.state) }
+// The uses of copies by a thread's walk and by its pinned references end.
+fn unpin_thread(thread: &mut Thread, cache: &mut Cache)
+    requires users { IsSome (pack_thread thread.old.state cache.old.state) }
+    ensures packed { pack_thread thread.old.state cache.old.state ≡ Some (thread.new.state, cache.new.state) }
+    ensures free { IsPacked thread.new.state }
     ensures rooms { cache.new.rooms ≡ cache.old.rooms }
 {
-    let mut thread = thread;
     unpin_words(&thread.walk, cache);
     unpin_values(&mut thread.slots, cache);
     unpin_values(&mut thread.temps, cache);
     thread.walk.clear();
-    Parcel::new(thread)
+}
+
+/// Packs a thread to go to another server: the uses of copies by its walk and by its pinned references end, and no such use
+/// goes along. Each word has at least as many users in the cache as the thread uses it. It takes time in the number of the
+/// thread's values and words, and no memory.
+pub fn pack_thread(thread: BoxedThread, cache: &mut Cache) -> Parcel
+    requires users { IsSome (pack_thread thread.state cache.old.state) }
+    ensures packed { pack_thread thread.state cache.old.state ≡ Some (result, cache.new.state) }
+    ensures rooms { cache.new.rooms ≡ cache.old.rooms }
+{
+    let mut packed = thread;
+    unpin_thread(&mut packed.thread, cache);
+    Parcel::new(packed)
 }
 
 /// The thread of a parcel, as it was packed: it uses no copy. Constant time and no memory.
-pub fn unpack(parcel: Parcel) -> Thread
+pub fn unpack(parcel: Parcel) -> BoxedThread
     ensures thread { result.state ≡ parcel }
     ensures packed { IsPacked result.state }
 {

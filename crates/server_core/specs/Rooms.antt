@@ -12,7 +12,7 @@ use Rattle.server_model.specs.declared.event.What.TheVariants as what
 use Rattle.server_model.specs.Prepare.{access_of}
 use Rattle.server_core.specs.Servers.{ServerView}
 use Rattle.server_parts.specs.Sites.{HasItems}
-use Rattle.server_parts.specs.Spares.{SparesView, HasSlots}
+use Rattle.server_parts.specs.Spares.{SparesView, HasSpares}
 use Rattle.server_ready.specs.Stars.{stars}
 
 -- how many stars the thread follows at most at that instruction
@@ -24,7 +24,7 @@ stars_at i t = stars (access_of i t) t
 pub record HasStepRoom (room : ℕ) (spares : SparesView) (t : ThreadView) (i : Instr) : Type 0 where
   pub things : 5 * stars_at i t.state + 7 ≤ room
   pub items : stars_at i t.state + 2 ≤ t.room
-  pub slots : HasSlots spares i
+  pub slots : HasSpares spares i
 
 -- a place past the code needs nothing, and neither does a thread that isn't there
 abbrev pub HasRoomAt : ℕ → SparesView → ThreadView → Option Instr → Type 0

@@ -5,7 +5,7 @@ ghost use Rattle.rank_map.specs.Places.{item_at};
 ghost use Rattle.server_parts.specs.Growing.{HasWorkGrown, HaveSparesGrown, HaveThreadsGrown};
 ghost use Rattle.server_core.specs.Rooms.{HasRoomOf, HasPlaceFor, stars_at};
 ghost use Rattle.server_parts.specs.Sites.{copies_in};
-ghost use Rattle.server_parts.specs.Spares.{HasSlots};
+ghost use Rattle.server_parts.specs.Spares.{HasSpares};
 ghost use Rattle.server_ready.specs.Stars.{ended_stars, stars};
 ghost use Rattle.server_model.specs.Prepare.{assigned};
 
@@ -60,15 +60,19 @@ fn stars_at(instr: &Instr, thread: &Thread) -> usize
     }
 }
 
-// Room for the slots of the threads that a step starts.
+// Boxes and room for the slots of the threads that a step starts.
 fn slots_room(spares: &mut Spares, instr: &Instr) -> Result<(), NoMemory>
-    ensures room { OnOk result (HasSlots spares.new instr.now) }
-    ensures had_room { HasSlots spares.old instr.now → IsOk result }
+    ensures room { OnOk result (HasSpares spares.new instr.now) }
+    ensures had_room { HasSpares spares.old instr.now → IsOk result }
     ensures grown { HaveSparesGrown spares.old spares.new }
 {
     match instr {
-        Instr::Spawn(captures, _) => spares.reserve(captures.as_slice().len(), 0),
+        Instr::Spawn(captures, _) => {
+            spares.reserve_boxes(1)?;
+            spares.reserve(captures.as_slice().len(), 0)
+        }
         Instr::Par(captures, _, others, _) => {
+            spares.reserve_boxes(2)?;
             spares.reserve(captures.as_slice().len(), others.as_slice().len())
         }
         _ => Ok(()),

@@ -26,7 +26,7 @@ use server_parts::{Spares, Threads, Work, can_step};
 use std::alloc::Global;
 use std::marker::Model;
 use std::sync::Arc;
-use thread_state::{Phase, Thread};
+use thread_state::{BoxedThread, Phase, Thread};
 
 /// One server of a run. Contracts see its state as the definitions have it, the code and the options that it keeps, and beside them the
 /// room: as `inbox_room` how many more messages can wait without memory, and what room an event finds (`HasRoom`).
@@ -79,7 +79,8 @@ fn first_threads(alloc: Global, server: u8) -> Result<Threads, NoMemory>
     }
     let main = ThreadNo::new(0, 0);
     threads.reserve(main)?;
-    threads.insert(Thread::new(alloc, main, 0, Vec::new(alloc)));
+    let first = Thread::new(alloc, main, 0, Vec::new(alloc));
+    threads.insert(BoxedThread::new(alloc, first)?);
     Ok(threads)
 }
 

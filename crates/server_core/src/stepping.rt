@@ -10,7 +10,7 @@ ghost use Rattle.server_parts.specs.Hands.{hand};
 ghost use Rattle.server_ready.specs.Prepareds.{prepared};
 ghost use Rattle.server_core.specs.Rooms.{HasRoomOf};
 ghost use Rattle.server_parts.specs.Sites.{site};
-ghost use Rattle.server_parts.specs.Spares.{HasSlots};
+ghost use Rattle.server_parts.specs.Spares.{HasSpares};
 ghost use Rattle.server_deliveries.specs.Standing.{standing};
 ghost use Rattle.server_ready.specs.Stars.{stars};
 ghost use Rattle.server_core.specs.Steps.{ThreadLeft, step_there, stepped};
@@ -57,7 +57,7 @@ fn follow(
     requires made { thread.old.state.made < 2 ^ 64 - 1 }
     requires room { 7 ≤ work.old.room }
     requires thread_room { 2 ≤ thread.old.room }
-    requires slots { HasSlots spares.old instr.now }
+    requires slots { HasSpares spares.old instr.now }
     ensures state { followed servers instr.now (prepared ready (hand work.old thread.old)) ≡ Some (stepped result work.new thread.new) }
 {
     match ready {
@@ -86,7 +86,7 @@ fn step(
     requires counts { ThreadLeft thread.old.state }
     requires room { 5 * stars (access_of instr.now thread.old.state) thread.old.state + 7 ≤ work.old.room }
     requires thread_room { stars (access_of instr.now thread.old.state) thread.old.state + 2 ≤ thread.old.room }
-    requires slots { HasSlots spares.old instr.now }
+    requires slots { HasSpares spares.old instr.now }
     ensures state { step servers instr.now (hand work.old thread.old) ≡ Some (stepped result work.new thread.new) }
 {
     let access = access_of(instr, thread);
@@ -111,10 +111,10 @@ pub(crate) fn step_at(
     ensures state { (n : ℕ) → option_map (left_stepped (standing work.old threads.old n)) (step_there code.now.items servers thread (site work.old threads.old)) ≡ Some (left_by n (Some thread) result (site work.new threads.new)) }
 {
     let mut here = threads.take(thread);
-    let Some(instr) = code.at(here.pc) else {
+    let Some(instr) = code.at(here.thread.pc) else {
         unreachable!();
     };
-    let names = step(servers, instr, work, &mut here, spares);
+    let names = step(servers, instr, work, &mut here.thread, spares);
     threads.insert(here);
     names
 }

@@ -32,7 +32,7 @@ pub(crate) fn granted_at(
     ensures state { at_thread thread (deliver_granted mutex content) (site work.now threads.old) ≡ Some (site work.now threads.new) }
 {
     let mut here = threads.take(thread);
-    deliver_granted(work, &mut here, mutex, content);
+    deliver_granted(work, &mut here.thread, mutex, content);
     threads.insert(here);
 }
 
@@ -43,7 +43,7 @@ pub(crate) fn dupped_at(work: &Work, threads: &mut Threads, mutex: MutexNo, thre
     ensures state { at_thread thread (deliver_dupped mutex) (site work.now threads.old) ≡ Some (site work.now threads.new) }
 {
     let mut here = threads.take(thread);
-    deliver_dupped(work, &mut here, mutex);
+    deliver_dupped(work, &mut here.thread, mutex);
     threads.insert(here);
 }
 
@@ -60,7 +60,7 @@ pub(crate) fn joined_at(
     ensures state { at_thread thread (deliver_joined other value) (site work.now threads.old) ≡ Some (site work.now threads.new) }
 {
     let mut here = threads.take(thread);
-    deliver_joined(work, &mut here, other, value);
+    deliver_joined(work, &mut here.thread, other, value);
     threads.insert(here);
 }
 
@@ -71,7 +71,7 @@ pub(crate) fn pair_over_at(work: &Work, threads: &mut Threads, other: ThreadNo, 
     ensures state { at_thread thread (pair_over other) (site work.now threads.old) ≡ Some (site work.now threads.new) }
 {
     let mut here = threads.take(thread);
-    pair_over(work, &mut here, other);
+    pair_over(work, &mut here.thread, other);
     threads.insert(here);
 }
 
@@ -93,7 +93,7 @@ pub(crate) fn fetched_at(
 {
     let _inside: Option<Owned> = None;
     let mut here = threads.take(thread);
-    deliver_fetched(work, &mut here, word, cell);
+    deliver_fetched(work, &mut here.thread, word, cell);
     threads.insert(here);
 }
 
@@ -116,6 +116,6 @@ pub(crate) fn moved_at(
 {
     let _inside: Option<Owned> = None;
     let mut here = threads.take(thread);
-    deliver_moved(work, &mut here, code, old, cell);
+    deliver_moved(work, &mut here.thread, code, old, cell);
     threads.insert(here);
 }

@@ -32,7 +32,7 @@ pub(crate) fn migrate(work: &mut Work, threads: &mut Threads, thread: ThreadNo, 
     ensures spare { work.old.room ≤ work.new.room + 2 }
 {
     let mut leaving = threads.take(thread);
-    leaving.moved_since_step = true;
+    leaving.thread.moved_since_step = true;
     let parcel = pack_thread(leaving, &mut work.cache);
     work.note(Act::Depart(thread, target));
     work.send(target, Message::Migrate(parcel));

@@ -4,8 +4,6 @@ use Rattle.fr_base.specs.Kinds.{kind_number}
 use Rattle.fr_base.specs.declared.instruction.Instr.{Instr}
 use Rattle.fr_base.specs.declared.settings.Options.{Options}
 use Rattle.place_walk.specs.Below.thread_state.View.{ThreadState, is_over}
-use Rattle.place_walk.specs.Below.thread_state.declared.phase.Phase.{Phase}
-use Rattle.place_walk.specs.Below.thread_state.declared.phase.Phase.TheVariants as phase
 use Rattle.place_walk.specs.Below.heap_partition.declared.value.Cell.{Cell}
 use Rattle.journal.specs.declared.act.Act.{Act}
 use Rattle.journal.specs.declared.act.Act.TheVariants as act

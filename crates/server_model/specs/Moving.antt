@@ -1,9 +1,7 @@
 -- A thread leaves for another server (this project's rules).
-use Rattle.std.specs.Prelude.{ℕ, true, List, [], Option, option_map}
+use Rattle.std.specs.Prelude.{ℕ, true, List, Option, option_map}
 use Rattle.place_walk.specs.Below.read_cache.Cache.{Copy}
 use Rattle.place_walk.specs.Below.thread_state.View.{ThreadState}
-use Rattle.place_walk.specs.Below.thread_state.declared.value.Value.{Value}
-use Rattle.place_walk.specs.Below.thread_state.declared.value.Value.TheVariants as value
 use Rattle.server_msgs.specs.declared.message.Message.TheVariants as message
 use Rattle.journal.specs.declared.act.Act.TheVariants as act
 use Rattle.server_model.specs.Work.{Work, Site, send, note, with_cache, thread_in, without_thread, then_some}

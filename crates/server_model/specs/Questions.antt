@@ -1,5 +1,5 @@
 -- What a server tells of itself (this project's rules): which eviction is due, which threads can step, wait, may be moved or aren't over.
-use Rattle.std.specs.Prelude.{if◌then◌else◌, ℕ, ◌+◌, ◌&&◌, not, nat_lt, Bool, true, false, List, [], ◌∷◌, length, Option, Some, None}
+use Rattle.std.specs.Prelude.{if◌then◌else◌, ℕ, ◌+◌, ◌&&◌, not, nat_lt, List, [], ◌∷◌, length, Option, Some, None}
 use Rattle.fr_base.specs.declared.settings.Options.{Options}
 use Rattle.fr_base.specs.declared.step.Wait.{Wait}
 use Rattle.fr_base.specs.declared.step.Wait.TheVariants as wait

@@ -26,7 +26,8 @@ pub record HasWorkGrown (old new : WorkView) : Type 0 where
   pub inbox_room : old.inbox_room ≤ new.inbox_room
   pub copies : (word : ℕ) → has_copy_room old word ≡ true → has_copy_room new word ≡ true
 
--- the lists for new threads are no shorter
+-- what is kept for new threads is no less
 pub record HaveSparesGrown (old new : SparesView) : Type 0 where
   pub first : old.first ≤ new.first
   pub second : old.second ≤ new.second
+  pub boxes : old.boxes ≤ new.boxes

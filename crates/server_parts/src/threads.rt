@@ -16,7 +16,7 @@ use fr_base::{NoMemory, ThreadNo, Wait};
 use rank_map::RankMap;
 use std::alloc::Global;
 use std::marker::Model;
-use thread_state::{Phase, Thread};
+use thread_state::{BoxedThread, Phase, Thread};
 
 /// The threads that stand at a server, those that are over among them. Contracts see a place for each number for which there is
 /// room, by rising number, with its thread where one stands there.
@@ -25,7 +25,7 @@ use thread_state::{Phase, Thread};
 /// can step or wait, and the first that may be moved. Threads that are over cost nothing. Only `reserve` takes memory.
 #[derive(Drop)]
 pub struct Threads {
-    all: RankMap<Thread>,
+    all: RankMap<BoxedThread>,
     // those that can step, that wait at a lock, a join or a pair, that may be moved, and that aren't over
     runnable: Marks,
     waiting: Marks,
@@ -56,21 +56,28 @@ pub fn can_step(thread: &Thread) -> bool
     )
 }
 
+// The same of a thread in its box.
+fn is_runnable(thread: &BoxedThread) -> bool
+    ensures { result ≡ steps thread.now }
+{
+    can_step(thread.get())
+}
+
 // Whether it waits at a lock, a join or a pair.
-fn is_waiting(thread: &Thread) -> bool
+fn is_waiting(thread: &BoxedThread) -> bool
     ensures { result ≡ waits thread.now }
 {
     matches!(
-        &thread.phase,
+        &thread.thread.phase,
         Phase::WaitLock(_) | Phase::WaitJoin(_) | Phase::WaitPar(_, _)
     )
 }
 
 // What it waits for there.
-fn wait_of(thread: &Thread) -> Option<Wait>
+fn wait_of(thread: &BoxedThread) -> Option<Wait>
     ensures { result ≡ wait_of thread.now.state.phase }
 {
-    match &thread.phase {
+    match &thread.thread.phase {
         Phase::WaitLock(mutex) => Some(Wait::Lock(*mutex)),
         Phase::WaitJoin(other) => Some(Wait::Join(*other)),
         Phase::WaitPar(first, second) => Some(Wait::Par(*first, *second)),
@@ -79,17 +86,17 @@ fn wait_of(thread: &Thread) -> Option<Wait>
 }
 
 // Whether it is ready and hasn't moved since its last plain step.
-fn is_movable(thread: &Thread) -> bool
+fn is_movable(thread: &BoxedThread) -> bool
     ensures { result ≡ moves thread.now }
 {
-    matches!(&thread.phase, Phase::Ready) && !thread.moved_since_step
+    matches!(&thread.thread.phase, Phase::Ready) && !thread.thread.moved_since_step
 }
 
 // Whether it isn't over.
-fn is_active(thread: &Thread) -> bool
+fn is_active(thread: &BoxedThread) -> bool
     ensures { result ≡ acts thread.now }
 {
-    !matches!(&thread.phase, Phase::Over)
+    !matches!(&thread.thread.phase, Phase::Over)
 }
 
 // How many more items fit in a list.
@@ -146,18 +153,21 @@ impl Threads {
         ensures state { option_map (λ t. t.now.state) result ≡ thread_in (states self.now) thread }
         ensures item { option_map (λ t. t.now) result ≡ item_at self.now thread }
     {
-        self.all.get(thread.number())
+        match self.all.get(thread.number()) {
+            Some(standing) => Some(standing.get()),
+            None => None,
+        }
     }
 
     /// A thread stands there from now on. There is room for it, and it doesn't stand there.
-    pub fn insert(&mut self, thread: Thread)
+    pub fn insert(&mut self, thread: BoxedThread)
         requires room { has_place self.old thread.state.number ≡ true }
         requires absent { thread_in (states self.old) thread.state.number ≡ None }
         ensures state { states self.new ≡ with_thread (states self.old) thread.state }
         ensures places { self.new ≡ with_place self.old thread.state.number (Some (Some thread)) }
     {
-        let number = thread.number.number();
-        self.runnable.change(number, false, can_step(&thread));
+        let number = thread.number().number();
+        self.runnable.change(number, false, is_runnable(&thread));
         self.waiting.change(number, false, is_waiting(&thread));
         self.movable.change(number, false, is_movable(&thread));
         self.active.change(number, false, is_active(&thread));
@@ -166,7 +176,7 @@ impl Threads {
 
     /// Takes the thread of that number; room for it stays, and put back by `insert` in another state it stands where it stood. It stands
     /// there.
-    pub fn take(&mut self, thread: ThreadNo) -> Thread
+    pub fn take(&mut self, thread: ThreadNo) -> BoxedThread
         requires there { IsSome (thread_in (states self.old) thread) }
         ensures thread { thread_in (states self.old) thread ≡ Some result.state }
         ensures number { result.state.number ≡ thread }
@@ -181,7 +191,7 @@ impl Threads {
         let Some(taken) = self.all.take(number) else {
             unreachable!();
         };
-        self.runnable.change(number, can_step(&taken), false);
+        self.runnable.change(number, is_runnable(&taken), false);
         self.waiting.change(number, is_waiting(&taken), false);
         self.movable.change(number, is_movable(&taken), false);
         self.active.change(number, is_active(&taken), false);

@@ -4,7 +4,7 @@ ghost use Rattle.std.specs.Prelude.{◌≡◌, ◌+◌, ◌-◌, ◌^◌, ◌<�
 ghost use Rattle.server_model.specs.Commit.{commit};
 ghost use Rattle.server_steps.specs.Committeds.{committed, is_committed};
 ghost use Rattle.server_parts.specs.Hands.{hand};
-ghost use Rattle.server_parts.specs.Spares.{HasSlots};
+ghost use Rattle.server_parts.specs.Spares.{HasSpares};
 ghost use Rattle.server_parts.specs.Spots.{spot};
 
 use crate::committed::Committed;
@@ -31,7 +31,7 @@ pub fn commit(
     requires made { thread.old.state.made < 2 ^ 64 - 1 }
     requires room { 7 ≤ work.old.room }
     requires thread_room { 2 ≤ thread.old.room }
-    requires slots { HasSlots spares.old instr.now }
+    requires slots { HasSpares spares.old instr.now }
     ensures state { commit servers instr.now (spot at.now) (hand work.old thread.old) ≡ committed result (hand work.new thread.new) }
     ensures spare { work.old.room ≤ work.new.room + 7 }
     ensures copies { work.new.copies ≡ work.old.copies }

@@ -14,7 +14,7 @@ use journal::Act;
 use server_msgs::Message;
 use server_parts::Work;
 use std::alloc::Global;
-use thread_state::{Parcel, Thread, Value};
+use thread_state::{BoxedThread, Parcel, Thread, Value};
 
 // What a new thread captures of a value.
 fn captured(branch: bool, moves: bool, value: &Value) -> Option<Value>
@@ -141,8 +141,15 @@ pub(crate) fn pair_begun(work: &mut Work, thread: &Thread, first: ThreadNo, seco
     work.room -= 1;
 }
 
-/// A new thread goes to its server.
-pub(crate) fn start_thread(alloc: Global, work: &mut Work, servers: u8, pc: u32, slots: Vec<Value>)
+/// A new thread goes to its server, in that box.
+pub(crate) fn start_thread(
+    alloc: Global,
+    work: &mut Work,
+    servers: u8,
+    pc: u32,
+    slots: Vec<Value>,
+    boxed: BoxedThread,
+)
     requires servers { 0 < servers }
     requires few { work.old.state.rest.started < 2 ^ 32 - 1 }
     requires packed { All (λ v. is_pinned v ≡ false) slots.items }
@@ -156,6 +163,7 @@ pub(crate) fn start_thread(alloc: Global, work: &mut Work, servers: u8, pc: u32,
     work.started += 1;
     work.note(Act::Start(number, target));
     work.label(Label::Start(number));
-    let parcel = Parcel::new(Thread::new(alloc, number, pc, slots));
-    work.send(target, Message::Start(parcel));
+    let mut boxed = boxed;
+    *boxed.thread = Thread::new(alloc, number, pc, slots);
+    work.send(target, Message::Start(Parcel::new(boxed)));
 }

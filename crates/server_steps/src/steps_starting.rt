@@ -5,7 +5,7 @@ ghost use Rattle.server_model.specs.Commit.{commit, spawn};
 ghost use Rattle.server_model.specs.Places.{nowhere};
 ghost use Rattle.server_model.specs.Start.{next_thread};
 ghost use Rattle.server_steps.specs.Committeds.{committed, is_committed, starts_pair};
-ghost use Rattle.server_parts.specs.Spares.{HasSlots};
+ghost use Rattle.server_parts.specs.Spares.{HasSpares};
 ghost use Rattle.server_parts.specs.Hands.{hand};
 
 use crate::committed::Committed;
@@ -33,6 +33,7 @@ pub(crate) fn spawn(
     requires room { 3 < work.old.room }
     requires thread_room { 0 < thread.old.room }
     requires slots { length captures.now.items ≤ spares.old.first }
+    requires boxes { 1 ≤ spares.old.boxes }
     ensures state { spawn servers captures.now pc (hand work.old thread.old) ≡ committed result (hand work.new thread.new) }
     ensures spare { work.old.room ≤ work.new.room + 4 }
     ensures copies { work.new.copies ≡ work.old.copies }
@@ -40,9 +41,10 @@ pub(crate) fn spawn(
 {
     let alloc = spares.alloc;
     let mut slots = spares.take_first();
+    let boxed = spares.take_box();
     capture(false, captures.as_slice(), thread, &mut slots);
     let number = begun(work, thread);
-    start_thread(alloc, work, servers, pc, slots);
+    start_thread(alloc, work, servers, pc, slots, boxed);
     push_temp(thread, Value::Own(Owned::Task(number)));
     go_on(work, thread);
     Committed::Done(Fresh::Thread(number))
@@ -72,7 +74,7 @@ pub(crate) fn par(
     requires started { work.old.state.rest.started < 2 ^ 32 - 2 }
     requires few { thread.old.state.pc < 2 ^ 32 - 1 }
     requires room { 6 < work.old.room }
-    requires slots { HasSlots spares.old instr.now }
+    requires slots { HasSpares spares.old instr.now }
     ensures state { commit servers instr.now nowhere (hand work.old thread.old) ≡ committed result (hand work.new thread.new) }
     ensures spare { work.old.room ≤ work.new.room + 7 }
     ensures copies { work.new.copies ≡ work.old.copies }
@@ -84,12 +86,13 @@ pub(crate) fn par(
     let alloc = spares.alloc;
     let mut ours = spares.take_first();
     let mut theirs = spares.take_second();
+    let (one, two) = (spares.take_box(), spares.take_box());
     capture(true, captures.as_slice(), thread, &mut ours);
     capture(true, others.as_slice(), thread, &mut theirs);
     let (first, second) = pair_names(work);
     pair_begun(work, thread, first, second);
-    start_thread(alloc, work, servers, *pc, ours);
-    start_thread(alloc, work, servers, *other, theirs);
+    start_thread(alloc, work, servers, *pc, ours, one);
+    start_thread(alloc, work, servers, *other, theirs, two);
     go_on(work, thread);
     thread.phase = Phase::WaitPar(first, second);
     Committed::Done(Fresh::Threads(first, second))

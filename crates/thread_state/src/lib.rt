@@ -2,11 +2,13 @@
 //! go to another server.
 #![tactic(auto)]
 
+mod boxed;
 mod parcel;
 mod phase;
 mod thread;
 mod value;
 
+pub use boxed::BoxedThread;
 pub use parcel::Parcel;
 pub use phase::Phase;
 pub use thread::Thread;

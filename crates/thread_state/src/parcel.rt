@@ -3,7 +3,7 @@
 ghost use Rattle.std.specs.Prelude.{◌≡◌};
 ghost use Rattle.thread_state.specs.View.{IsPacked};
 
-use crate::thread::Thread;
+use crate::boxed::BoxedThread;
 use fr_base::ThreadNo;
 use std::marker::Model;
 
@@ -11,7 +11,7 @@ use std::marker::Model;
 /// Contracts see it as the thread's state; its room isn't seen.
 #[derive(Drop)]
 pub struct Parcel {
-    thread: Thread,
+    boxed: BoxedThread,
 }
 
 impl Model for Parcel {
@@ -19,32 +19,32 @@ impl Model for Parcel {
 
     ghost Value = { ThreadState };
 
-    ghost view = { λ p. p.thread.state };
+    ghost view = { λ p. p.boxed.state };
 
-    ghost invariant = { λ p. IsPacked p.thread.state };
+    ghost invariant = { λ p. IsPacked p.boxed.state };
 }
 
 impl Parcel {
     /// The thread, packed. No memory.
-    pub fn new(thread: Thread) -> Parcel
-        requires packed { IsPacked thread.state }
-        ensures { result ≡ thread.state }
+    pub fn new(boxed: BoxedThread) -> Parcel
+        requires packed { IsPacked boxed.state }
+        ensures { result ≡ boxed.state }
     {
-        Parcel { thread }
+        Parcel { boxed }
     }
 
     /// The thread's number. No memory.
     pub fn number(&self) -> ThreadNo
         ensures { result ≡ self.now.number }
     {
-        self.thread.number
+        self.boxed.thread.number
     }
 
     /// The thread, unpacked. No memory.
-    pub fn into_thread(self) -> Thread
+    pub fn into_thread(self) -> BoxedThread
         ensures thread { result.state ≡ self }
         ensures packed { IsPacked result.state }
     {
-        self.thread
+        self.boxed
     }
 }

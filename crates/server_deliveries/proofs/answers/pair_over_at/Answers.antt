@@ -1,4 +1,4 @@
-use Rattle.std.proofs.Common.{◌≡◌, true, None, sym, subst, ◌∙◌}
+use Rattle.std.proofs.Common.{◌≡◌, true, Some, None, sym, subst, ap, ◌∙◌}
 use Rattle.rank_map.specs.Places.{has_place}
 use Rattle.server_model.specs.Work.{thread_in}
 use Rattle.server_model.specs.Joining.{pair_over}
@@ -9,12 +9,12 @@ use Rattle.server_deliveries.proofs.DeliverLemmas.{at_done}
 use Rattle.server_deliveries.proofs.answers.pair_over_at.Goals as goal
 
 pub insert-requires-clause-room : goal.insert-requires-clause-room
-insert-requires-clause-room c = subst (λ i. has_place c.take-here.new.self i ≡ true) (sym (c.pair_over.ensures.number ∙ c.take-here.ensures.number)) c.take-here.ensures.room
+insert-requires-clause-room c = subst (λ i. has_place c.take-here.new.self i ≡ true) (sym (c.pair_over.ensures.number ∙ ap (λ v. v.state.number) (c.deref_mut.ensures.value ∙ c.here.view_is) ∙ c.take-here.ensures.number)) c.take-here.ensures.room
 
 pub insert-requires-clause-absent : goal.insert-requires-clause-absent
-insert-requires-clause-absent c = subst (λ i. thread_in (states c.take-here.new.self) i ≡ None) (sym (c.pair_over.ensures.number ∙ c.take-here.ensures.number)) c.take-here.ensures.absent
+insert-requires-clause-absent c = subst (λ i. thread_in (states c.take-here.new.self) i ≡ None) (sym (c.pair_over.ensures.number ∙ ap (λ v. v.state.number) (c.deref_mut.ensures.value ∙ c.here.view_is) ∙ c.take-here.ensures.number)) c.take-here.ensures.absent
 
 pub returns : goal.returns
 returns c =
-    let back = c.insert.ensures.state ∙ c.take-here.ensures.back c.pair_over.new.thread.state (c.pair_over.ensures.number ∙ c.take-here.ensures.number) in
-    record { state = at_done c.args.thread (pair_over c.args.other) (site c.args.work.now c.args.threads.now) c.take-here.result.state (hand c.args.work.now c.pair_over.new.thread) (states c.insert.new.self) c.take-here.ensures.thread c.pair_over.ensures.state back }
+    let back = c.insert.ensures.state ∙ c.take-here.ensures.back c.pair_over.new.thread.state (c.pair_over.ensures.number ∙ ap (λ v. v.state.number) (c.deref_mut.ensures.value ∙ c.here.view_is) ∙ c.take-here.ensures.number) in
+    record { state = at_done c.args.thread (pair_over c.args.other) (site c.args.work.now c.args.threads.now) c.deref_mut.result.now.state (hand c.args.work.now c.pair_over.new.thread) (states c.insert.new.self) (c.take-here.ensures.thread ∙ ap (λ v. Some v.state) (sym (c.deref_mut.ensures.value ∙ c.here.view_is))) c.pair_over.ensures.state back }

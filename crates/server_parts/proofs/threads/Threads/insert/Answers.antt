@@ -12,10 +12,10 @@ pub invariant_of-self : goal.invariant_of-self
 invariant_of-self c =
     let k = c.number-number.result in
     let below : k < 2 ^ 40 = omega (arith, c.number-number.ensures.number, c.number-number.ensures.few) in
-    let number : c.args.thread.state.number ≡ k = sym (c.number-number.ensures.number ∙ ap (λ v. v.state.number) c.thread.view_is) in
+    let number : c.args.thread.state.number ≡ k = sym (c.number-number.ensures.number ∙ c.number.ensures) in
     let here : has_place c.self.inside.all k ≡ true = subst (λ i. has_place c.self.inside.all i ≡ true) number (subst (λ ps. has_place ps c.args.thread.state.number ≡ true) (sym c.self.view_is) c.requires.room) in
     all_changed k (Some c.args.thread) c.self.invariant here below number c.insert.ensures.places
-    (c.change.ensures ∙ ap (λ b. with_place c.self.inside.runnable k (Some (mark_if b))) c.can_step.ensures)
+    (c.change.ensures ∙ ap (λ b. with_place c.self.inside.runnable k (Some (mark_if b))) c.is_runnable.ensures)
     (c.change-2.ensures ∙ ap (λ b. with_place c.self.inside.waiting k (Some (mark_if b))) c.is_waiting.ensures)
     (c.change-3.ensures ∙ ap (λ b. with_place c.self.inside.movable k (Some (mark_if b))) c.is_movable.ensures)
     (c.change-4.ensures ∙ ap (λ b. with_place c.self.inside.active k (Some (mark_if b))) c.is_active.ensures)
@@ -23,7 +23,7 @@ invariant_of-self c =
 pub returns-clause-state : goal.returns-clause-state
 returns-clause-state c =
     let k = c.number-number.result in
-    let number : c.args.thread.state.number ≡ k = sym (c.number-number.ensures.number ∙ ap (λ v. v.state.number) c.thread.view_is) in
+    let number : c.args.thread.state.number ≡ k = sym (c.number-number.ensures.number ∙ c.number.ensures) in
     let absent : thread_in (states c.self.inside.all) k ≡ None =
     subst (λ i. thread_in (states c.self.inside.all) i ≡ None) number (subst (λ ps. thread_in (states ps) c.args.thread.state.number ≡ None) (sym c.self.view_is) c.requires.absent) in
     ap states c.insert.ensures.places
@@ -33,7 +33,7 @@ returns-clause-state c =
 pub change-requires : goal.change-requires
 change-requires c =
     let k = c.number-number.result in
-    let number : c.args.thread.state.number ≡ k = sym (c.number-number.ensures.number ∙ ap (λ v. v.state.number) c.thread.view_is) in
+    let number : c.args.thread.state.number ≡ k = sym (c.number-number.ensures.number ∙ c.number.ensures) in
     let here : has_place c.self.inside.all k ≡ true = subst (λ i. has_place c.self.inside.all i ≡ true) number (subst (λ ps. has_place ps c.args.thread.state.number ≡ true) (sym c.self.view_is) c.requires.room) in
     let absent : thread_in (states c.self.inside.all) k ≡ None =
     subst (λ i. thread_in (states c.self.inside.all) i ≡ None) number (subst (λ ps. thread_in (states ps) c.args.thread.state.number ≡ None) (sym c.self.view_is) c.requires.absent) in
@@ -42,7 +42,7 @@ change-requires c =
 pub change-requires-2 : goal.change-requires-2
 change-requires-2 c =
     let k = c.number-number.result in
-    let number : c.args.thread.state.number ≡ k = sym (c.number-number.ensures.number ∙ ap (λ v. v.state.number) c.thread.view_is) in
+    let number : c.args.thread.state.number ≡ k = sym (c.number-number.ensures.number ∙ c.number.ensures) in
     let here : has_place c.self.inside.all k ≡ true = subst (λ i. has_place c.self.inside.all i ≡ true) number (subst (λ ps. has_place ps c.args.thread.state.number ≡ true) (sym c.self.view_is) c.requires.room) in
     let absent : thread_in (states c.self.inside.all) k ≡ None =
     subst (λ i. thread_in (states c.self.inside.all) i ≡ None) number (subst (λ ps. thread_in (states ps) c.args.thread.state.number ≡ None) (sym c.self.view_is) c.requires.absent) in
@@ -51,7 +51,7 @@ change-requires-2 c =
 pub change-requires-3 : goal.change-requires-3
 change-requires-3 c =
     let k = c.number-number.result in
-    let number : c.args.thread.state.number ≡ k = sym (c.number-number.ensures.number ∙ ap (λ v. v.state.number) c.thread.view_is) in
+    let number : c.args.thread.state.number ≡ k = sym (c.number-number.ensures.number ∙ c.number.ensures) in
     let here : has_place c.self.inside.all k ≡ true = subst (λ i. has_place c.self.inside.all i ≡ true) number (subst (λ ps. has_place ps c.args.thread.state.number ≡ true) (sym c.self.view_is) c.requires.room) in
     let absent : thread_in (states c.self.inside.all) k ≡ None =
     subst (λ i. thread_in (states c.self.inside.all) i ≡ None) number (subst (λ ps. thread_in (states ps) c.args.thread.state.number ≡ None) (sym c.self.view_is) c.requires.absent) in
@@ -60,7 +60,7 @@ change-requires-3 c =
 pub change-requires-4 : goal.change-requires-4
 change-requires-4 c =
     let k = c.number-number.result in
-    let number : c.args.thread.state.number ≡ k = sym (c.number-number.ensures.number ∙ ap (λ v. v.state.number) c.thread.view_is) in
+    let number : c.args.thread.state.number ≡ k = sym (c.number-number.ensures.number ∙ c.number.ensures) in
     let here : has_place c.self.inside.all k ≡ true = subst (λ i. has_place c.self.inside.all i ≡ true) number (subst (λ ps. has_place ps c.args.thread.state.number ≡ true) (sym c.self.view_is) c.requires.room) in
     let absent : thread_in (states c.self.inside.all) k ≡ None =
     subst (λ i. thread_in (states c.self.inside.all) i ≡ None) number (subst (λ ps. thread_in (states ps) c.args.thread.state.number ≡ None) (sym c.self.view_is) c.requires.absent) in

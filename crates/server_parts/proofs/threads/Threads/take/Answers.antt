@@ -15,7 +15,7 @@ change-requires c =
     subst (λ i. IsSome (thread_in (states c.self.inside.all) i)) (sym c.number-number.ensures.number) (subst (λ ps. IsSome (thread_in (states ps) c.args.thread)) (sym c.self.view_is) c.requires.there) in
     record {
       place = c.self.invariant.runnable_set.places k (stands_at k c.self.invariant stands);
-      was = was_marked k c.in-Some.taken c.can_step.result c.self.invariant.rises c.self.invariant.runnable_set (sym c.take.ensures.item ∙ c.in-Some.is) c.can_step.ensures;
+      was = was_marked k c.in-Some.taken c.is_runnable.result c.self.invariant.rises c.self.invariant.runnable_set (sym c.take.ensures.item ∙ c.in-Some.is) c.is_runnable.ensures;
     }
 
 pub change-requires-2 : goal.change-requires-2
