@@ -1,13 +1,13 @@
 //! A list that tells how much room it has.
 
-ghost use Rattle.std.specs.Prelude.{◌≡◌, ◌+◌, ◌≤◌, ◌<◌, ◌++◌, [], ◌∷◌, length, slice_get, IsOk, OnOk, OnErr, option_copied};
+ghost use Rattle.std.specs.Prelude.{◌≡◌, ◌+◌, ◌≤◌, ◌<◌, ◌++◌, [], ◌∷◌, length, slice_get, IsOk, IfOk, OnOk, OnErr, option_copied};
 
 use crate::memory::NoMemory;
 use std::alloc::Global;
 use std::marker::Model;
 
 /// Values in order. Contracts see the list, and beside it how many more fit without memory.
-/// A push takes constant time on average, `at` and `len` always.
+/// A push takes constant time on average, `at`, `spare` and `len` always.
 #[derive(Debug, Drop)]
 pub struct List<T> {
     pub(crate) items: Vec<T>,
@@ -61,12 +61,33 @@ impl<T: Drop> List<T> {
         Ok(())
     }
 
+    /// Moves the values of another list behind those that are there, in order. A refusal leaves both lists as they are. It takes time linear in
+    /// the values that move, and also in those that are there where more room is to be made.
+    pub fn append(&mut self, other: &mut List<T>) -> Result<(), NoMemory>
+        ensures items { OnOk result (self.new.items ≡ self.old.items ++ other.old.items) }
+        ensures emptied { OnOk result (other.new.items ≡ []) }
+        ensures had_room { length other.old.items ≤ self.old.spare → IsOk result }
+        ensures refused { OnErr result ((self.new.items ≡ self.old.items) × (other.new.items ≡ other.old.items)) }
+    {
+        match self.items.append(&mut other.items) {
+            Ok(()) => Ok(()),
+            Err(_) => Err(NoMemory),
+        }
+    }
+
     /// No value any more; what room the values had is there for others. It drops each, so that it takes time linear in their number.
     pub fn clear(&mut self)
         ensures items { self.new.items ≡ [] }
         ensures spare { self.old.spare + length self.old.items ≤ self.new.spare }
     {
         self.items.clear();
+    }
+
+    /// How many more values fit without memory.
+    pub fn spare(&self) -> usize
+        ensures { result ≡ self.now.spare }
+    {
+        self.items.capacity() - self.items.len()
     }
 
     /// How many values there are.
@@ -88,5 +109,17 @@ impl<T: Drop> List<T> {
         ensures { result.now ≡ self.now.items }
     {
         &self.items
+    }
+}
+
+impl<T: Copy + Drop> List<T> {
+    /// The same values in a list of their own, which has room for no more of them than the allocator rounds up to. It takes time linear in their number.
+    pub fn from_slice(alloc: Global, values: &[T]) -> Result<List<T>, NoMemory>
+        ensures { IfOk result (λ list. list.items ≡ values.now) }
+    {
+        match Vec::from_slice(alloc, values) {
+            Ok(items) => Ok(List { items }),
+            Err(_) => Err(NoMemory),
+        }
     }
 }

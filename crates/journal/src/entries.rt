@@ -61,6 +61,17 @@ impl Journal {
         self.entries.push(entry)
     }
 
+    /// Moves the entries of another journal behind those that are there, in order. A refusal leaves both as they are. It takes time linear in the
+    /// entries that move, and also in those that are there where more room is to be made.
+    pub fn append(&mut self, other: &mut Journal) -> Result<(), NoMemory>
+        ensures items { OnOk result (self.new.items ≡ self.old.items ++ other.old.items) }
+        ensures emptied { OnOk result (other.new.items ≡ []) }
+        ensures had_room { length other.old.items ≤ self.old.spare → IsOk result }
+        ensures refused { OnErr result ((self.new.items ≡ self.old.items) × (other.new.items ≡ other.old.items)) }
+    {
+        self.entries.append(&mut other.entries)
+    }
+
     /// How many entries there are.
     pub fn len(&self) -> u64
         ensures { result ≡ length self.now.items }

@@ -10,6 +10,7 @@ use std::marker::Model;
 /// A thread in a box: it goes from place to place by its pointer, without its two hundred bytes. Contracts see it as the thread.
 #[derive(Drop)]
 pub struct BoxedThread {
+    /// The thread, whole.
     pub thread: Box<Thread>,
 }
 
@@ -22,7 +23,7 @@ impl Model for BoxedThread {
 }
 
 impl BoxedThread {
-    /// The thread in a box of its own.
+    /// The thread in a box of its own. Where memory is wanting the thread is dropped.
     pub fn new(alloc: Global, thread: Thread) -> Result<BoxedThread, NoMemory>
         ensures { IfOk result (λ boxed. boxed ≡ thread) }
     {
@@ -31,14 +32,14 @@ impl BoxedThread {
         })
     }
 
-    /// The thread.
+    /// The thread. It takes no memory.
     pub fn get(&self) -> &Thread
         ensures { result.now ≡ self.now }
     {
         &self.thread
     }
 
-    /// The thread's number.
+    /// The thread's number. It takes no memory.
     pub fn number(&self) -> ThreadNo
         ensures { result ≡ self.now.state.number }
     {
