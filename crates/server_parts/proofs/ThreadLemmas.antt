@@ -1,5 +1,5 @@
 -- The threads at places, once one comes, goes or is looked for.
-use Rattle.std.proofs.Common.{if◌then◌else◌, ◌≡◌, is_some, true≢false, ℕ, ◌+◌, ◌<◌, ◌&&◌, not, Bool, true, false, ◌==◌, nat_lt, List, [], ◌∷◌, map, length, slice_get, Option, None, Some, option_map, refl, sym, ap, ◌∙◌, arith}
+use Rattle.std.proofs.Common.{if◌then◌else◌, ◌≡◌, is_some, true≢false, ℕ, ◌+◌, ◌≤◌, ◌<◌, ◌&&◌, not, Bool, true, false, ◌==◌, nat_lt, List, [], ◌∷◌, map, length, slice_get, Option, None, Some, option_map, refl, sym, ap, ◌∙◌, arith}
 use Rattle.std.proofs.lemmas.Bool.{eq-eqb, eqb-true, ltb-true, ltb-false, lt-ltb, le-ltb, ne_eqb}
 use Rattle.rank_map.specs.Places.{Place, Entry, place_at, item_in, item_at, put_first, with_place, entry_first, entries, Rises}
 use Rattle.rank_map.specs.Marks.{mark_if, mark_of, marked}
@@ -8,7 +8,7 @@ use Rattle.thread_state.specs.View.{ThreadState, ThreadView, is_over}
 use Rattle.server_model.specs.Work.{thread_in, set_thread, with_thread, without_thread}
 use Rattle.server_model.specs.Events.{can_step, is_ready}
 use Rattle.server_model.specs.Questions.{runnable_in, active_in, movable_in}
-use Rattle.server_parts.specs.Threads.{states, HasKey, AreNumbered, steps, moves, acts}
+use Rattle.server_parts.specs.Threads.{states, HasKey, AreNumbered, steps, moves}
 
 -- the threads of entries
 abbrev of : List (Entry ThreadView) → List ThreadState
@@ -103,17 +103,43 @@ runnable_keys (p ∷ ps) n = by p.item n.0 (runnable_keys ps n.1)
     by None g ih = ih
     by (Some v) g ih = go (can_step v.state.phase) v.state.number (sym g) ih
 
-pub active_count : (ps : List (Place ThreadView)) → length (entries (marked acts ps)) ≡ active_in (states ps)
-active_count [] = refl
-active_count (p ∷ ps) = by p.item (active_count ps)
-  where
-    go : (b : Bool) → length (entries (marked acts ps)) ≡ active_in (states ps) → length (entry_first p.key (mark_if (not b)) (entries (marked acts ps))) ≡ (if b then active_in (states ps) else 1 + active_in (states ps))
-    go true ih = ih
-    go false ih = omega (arith, ih)
+-- one, if the thread isn't over
+abbrev one_active : ThreadState → ℕ
+one_active t = active_in (t ∷ [])
 
-    by : (x : Option ThreadView) → length (entries (marked acts ps)) ≡ active_in (states ps) → length (entry_first p.key (mark_of acts x) (entries (marked acts ps))) ≡ active_in (of (entry_first p.key x (entries ps)))
-    by None ih = ih
-    by (Some v) ih = go (is_over v.state.phase) ih
+pub counts_first : (t : ThreadState) (ts : List ThreadState) → active_in (t ∷ ts) ≡ one_active t + active_in ts
+counts_first t ts = by (is_over t.phase)
+  where
+    by : (b : Bool) → (if b then active_in ts else 1 + active_in ts) ≡ (if b then 0 else 1 + 0) + active_in ts
+    by true = omega arith
+    by false = omega arith
+
+-- a thread that comes is counted
+pub active_with : (ts : List ThreadState) (t : ThreadState) → active_in (with_thread ts t) ≡ active_in ts + active_in (t ∷ [])
+active_with [] t = omega arith
+active_with (u ∷ us) t = by (nat_lt t.number u.number) (active_with us t)
+  where
+    by : (b : Bool) → active_in (with_thread us t) ≡ active_in us + active_in (t ∷ []) → active_in (if b then t ∷ u ∷ us else u ∷ with_thread us t) ≡ active_in (u ∷ us) + active_in (t ∷ [])
+    by true ih = let first = counts_first t (u ∷ us) in omega (arith, first)
+    by false ih = let here = counts_first u us in let there = counts_first u (with_thread us t) in omega (arith, here, there, ih)
+
+-- and one that goes isn't any more
+pub active_without : (ts : List ThreadState) (k : ℕ) (t : ThreadState) → thread_in ts k ≡ Some t → active_in ts ≡ active_in (without_thread ts k) + active_in (t ∷ [])
+active_without [] k t e = absurd cc
+active_without (u ∷ us) k t e = by (u.number == k) (active_without us k t) e
+  where
+    by : (b : Bool) → (thread_in us k ≡ Some t → active_in us ≡ active_in (without_thread us k) + active_in (t ∷ [])) → (if b then Some u else thread_in us k) ≡ Some t
+        → active_in (u ∷ us) ≡ active_in (if b then us else u ∷ without_thread us k) + active_in (t ∷ [])
+    by true ih q = let same : u ≡ t = cc in let here = counts_first u us in let one : active_in (u ∷ []) ≡ active_in (t ∷ []) = ap (λ x. active_in (x ∷ [])) same in omega (arith, here, one)
+    by false ih q = let rest = ih q in let here = counts_first u us in let there = counts_first u (without_thread us k) in omega (arith, here, there, rest)
+
+pub active_few : (ts : List ThreadState) → active_in ts ≤ length ts
+active_few [] = omega arith
+active_few (t ∷ ts) = by (is_over t.phase) (active_few ts)
+  where
+    by : (b : Bool) → active_in ts ≤ length ts → (if b then active_in ts else 1 + active_in ts) ≤ length (t ∷ ts)
+    by true ih = omega (arith, ih)
+    by false ih = omega (arith, ih)
 
 pub movable_key : (ps : List (Place ThreadView)) → AreNumbered ps → option_map (λ e. e.key) (slice_get (entries (marked moves ps)) 0) ≡ movable_in (states ps)
 movable_key [] n = refl

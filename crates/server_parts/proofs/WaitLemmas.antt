@@ -116,10 +116,10 @@ wait_past ps high i r n h = ap (λ ws. slice_get ws i) (waits_listed ps 0 high r
     by (Some x) e = absurd cc
 
 -- the same by the set of those that wait
-pub wait_rank : {all : List (Place ThreadView)} {r w m a : List (Place (Unit {0}))} (i k : ℕ) → AreThreads all r w m a → option_map (λ e. e.key) (slice_get (entries w) i) ≡ Some k → WaitsAs all i k
+pub wait_rank : {all : List (Place ThreadView)} {r w m : List (Place (Unit {0}))} {a : ℕ} (i k : ℕ) → AreThreads all r w m a → option_map (λ e. e.key) (slice_get (entries w) i) ≡ Some k → WaitsAs all i k
 wait_rank {all} i k t h = wait_at all (2 ^ 40) i k t.rises t.numbered (ap (λ es. option_map (λ e. e.key) (slice_get es i)) (sym t.waiting_set.same) ∙ h)
 
-pub wait_end : {all : List (Place ThreadView)} {r w m a : List (Place (Unit {0}))} (i : ℕ) → AreThreads all r w m a → option_map (λ e. e.key) (slice_get (entries w) i) ≡ None → slice_get (waits_among (states all) []) i ≡ None
+pub wait_end : {all : List (Place ThreadView)} {r w m : List (Place (Unit {0}))} {a : ℕ} (i : ℕ) → AreThreads all r w m a → option_map (λ e. e.key) (slice_get (entries w) i) ≡ None → slice_get (waits_among (states all) []) i ≡ None
 wait_end {all} i t h = wait_past all (2 ^ 40) i t.rises t.numbered (ap (λ es. option_map (λ e. e.key) (slice_get es i)) (sym t.waiting_set.same) ∙ h)
 
 -- what is told of a thread that is there is what it waits for

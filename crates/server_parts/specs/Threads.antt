@@ -3,10 +3,10 @@ use Rattle.std.specs.Prelude.{if◌then◌else◌, ◌≡◌, ℕ, ◌^◌, ◌&
 use Rattle.rank_map.specs.Places.{Place, Rises}
 use Rattle.rank_map.specs.Queues.{items_of}
 use Rattle.rank_map.specs.Marks.{IsMarked}
-use Rattle.thread_state.specs.View.{ThreadState, ThreadView, is_over}
+use Rattle.thread_state.specs.View.{ThreadState, ThreadView}
 use Rattle.server_model.specs.Servers.{main_thread}
 use Rattle.server_model.specs.Events.{can_step, is_ready}
-use Rattle.server_model.specs.Questions.{wait_of}
+use Rattle.server_model.specs.Questions.{wait_of, active_in}
 
 -- the threads that stand there, by rising number
 abbrev pub states : List (Place ThreadView) → List ThreadState
@@ -25,7 +25,7 @@ abbrev pub AreNumbered : List (Place ThreadView) → Type 0
 AreNumbered [] = ⊤
 AreNumbered (p ∷ ps) = HasKey p.key p.item × AreNumbered ps
 
--- which threads can step, wait at a lock, a join or a pair, may be moved, and aren't over
+-- which threads can step, wait at a lock, a join or a pair, and may be moved
 abbrev pub steps : ThreadView → Bool
 steps v = can_step v.state.phase
 
@@ -35,14 +35,11 @@ waits v = is_some (wait_of v.state.phase)
 abbrev pub moves : ThreadView → Bool
 moves v = is_ready v.state.phase && not v.state.moved_since_step
 
-abbrev pub acts : ThreadView → Bool
-acts v = not (is_over v.state.phase)
-
--- the threads' places, and the sets of those that can step, wait, may be moved and aren't over
-pub record AreThreads (all : List (Place ThreadView)) (runnable waiting movable active : List (Place (Unit {0}))) : Type 0 where
+-- the threads' places, the sets of those that can step, wait and may be moved, and how many aren't over
+pub record AreThreads (all : List (Place ThreadView)) (runnable waiting movable : List (Place (Unit {0}))) (active : ℕ) : Type 0 where
   pub rises : Rises 0 (2 ^ 40) all
   pub numbered : AreNumbered all
   pub runnable_set : IsMarked steps all runnable
   pub waiting_set : IsMarked waits all waiting
   pub movable_set : IsMarked moves all movable
-  pub active_set : IsMarked acts all active
+  pub count : active ≡ active_in (states all)

@@ -3,6 +3,7 @@
 #![tactic(auto)]
 
 mod access;
+mod idle;
 mod marks;
 mod needing;
 mod places;

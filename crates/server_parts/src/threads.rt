@@ -1,6 +1,6 @@
 //! The threads that stand at a server.
 
-ghost use Rattle.std.specs.Prelude.{◌≡◌, ◌-◌, ◌<◌, ◌≤◌, ◌^◌, true, false, [], None, Some, length, vec_len, slice_get, option_map, IfSome, IsTrue, IsOk, IsSome, OnOk, OnErr};
+ghost use Rattle.std.specs.Prelude.{◌≡◌, ◌-◌, ◌<◌, ◌≤◌, ◌^◌, true, false, [], ◌∷◌, None, Some, length, vec_len, slice_get, option_map, IfSome, IsTrue, IsOk, IsSome, OnOk, OnErr};
 ghost use Rattle.std.specs.Vec.{vec_capacity};
 ghost use Rattle.rank_map.specs.Places.{has_place, item_at, with_place, with_free};
 ghost use Rattle.server_model.specs.Events.{can_step, has_phase, is_ready};
@@ -9,7 +9,7 @@ ghost use Rattle.thread_state.specs.View.{ThreadState};
 ghost use Rattle.server_model.specs.Questions.{runnable_in, wait_of, waits_among, active_in, movable_in};
 ghost use Rattle.server_parts.specs.Growing.{HaveThreadsGrown};
 ghost use Rattle.server_parts.specs.Sites.{HasItems};
-ghost use Rattle.server_parts.specs.Threads.{states, steps, waits, moves, acts};
+ghost use Rattle.server_parts.specs.Threads.{states, steps, waits, moves};
 
 use crate::marks::Marks;
 use fr_base::{NoMemory, ThreadNo, Wait};
@@ -26,11 +26,12 @@ use thread_state::{BoxedThread, Phase, Thread};
 #[derive(Drop)]
 pub struct Threads {
     all: RankMap<BoxedThread>,
-    // those that can step, that wait at a lock, a join or a pair, that may be moved, and that aren't over
+    // those that can step, that wait at a lock, a join or a pair, and that may be moved
     runnable: Marks,
     waiting: Marks,
     movable: Marks,
-    active: Marks,
+    // how many aren't over
+    active: usize,
 }
 
 impl Model for Threads {
@@ -92,11 +93,11 @@ fn is_movable(thread: &BoxedThread) -> bool
     matches!(&thread.thread.phase, Phase::Ready) && !thread.thread.moved_since_step
 }
 
-// Whether it isn't over.
-fn is_active(thread: &BoxedThread) -> bool
-    ensures { result ≡ acts thread.now }
+// One, if it isn't over.
+fn active_in(thread: &BoxedThread) -> usize
+    ensures { result ≡ active_in (thread.now.state ∷ []) }
 {
-    !matches!(&thread.thread.phase, Phase::Over)
+    usize::from(!matches!(&thread.thread.phase, Phase::Over))
 }
 
 // How many more items fit in a list.
@@ -124,7 +125,7 @@ impl Threads {
             runnable: Marks::new(alloc),
             waiting: Marks::new(alloc),
             movable: Marks::new(alloc),
-            active: Marks::new(alloc),
+            active: 0,
         }
     }
 
@@ -144,7 +145,6 @@ impl Threads {
         self.runnable.reserve(number)?;
         self.waiting.reserve(number)?;
         self.movable.reserve(number)?;
-        self.active.reserve(number)?;
         self.all.reserve(number)
     }
 
@@ -170,7 +170,7 @@ impl Threads {
         self.runnable.change(number, false, is_runnable(&thread));
         self.waiting.change(number, false, is_waiting(&thread));
         self.movable.change(number, false, is_movable(&thread));
-        self.active.change(number, false, is_active(&thread));
+        self.active += active_in(&thread);
         self.all.insert(number, thread);
     }
 
@@ -194,7 +194,7 @@ impl Threads {
         self.runnable.change(number, is_runnable(&taken), false);
         self.waiting.change(number, is_waiting(&taken), false);
         self.movable.change(number, is_movable(&taken), false);
-        self.active.change(number, is_active(&taken), false);
+        self.active -= active_in(&taken);
         taken
     }
 
@@ -220,7 +220,7 @@ impl Threads {
     pub fn active(&self) -> usize
         ensures { result ≡ active_in (states self.now) }
     {
-        self.active.len()
+        self.active
     }
 
     /// How many threads can step.

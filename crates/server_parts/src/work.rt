@@ -7,6 +7,7 @@ ghost use Rattle.server_model.specs.Events.{entry_of};
 ghost use Rattle.server_model.specs.Drop.{give_up};
 ghost use Rattle.server_parts.specs.Sites.{has_copy_room};
 
+use crate::idle::Idle;
 use fr_base::{Fresh, Label, Labels, NoMemory, Options, Plain, Released, ThreadNo};
 use global_addr::Word;
 use heap_partition::Owned;
@@ -21,6 +22,9 @@ use std::alloc::Global;
 use std::collections::VecDeque;
 use std::marker::Model;
 use std::mem;
+
+// For how many of each thing room is made at a time, at least: some five events add as many.
+const AHEAD: usize = 16;
 
 /// What an event touches of its server but for its threads, and what it has done so far. Contracts see it as `state`, and beside it
 /// as `room` how many of each thing an event adds fit without memory, as `copies` the words for whose copies there is room, and as
@@ -49,6 +53,8 @@ pub struct Work {
     pub labels: Labels,
     // room for the acts of an event that ends with a request
     asked: Acts,
+    // the lists of the next event's entry
+    idle: Idle,
     alloc: Global,
     /// For how many of each thing there is still room, by what was reserved.
     pub room: usize,
@@ -138,6 +144,7 @@ impl Work {
             acts: Acts::new(alloc),
             labels: Labels::new(alloc),
             asked: Acts::new(alloc),
+            idle: Idle::new(alloc),
             alloc,
             room: 0,
         }
@@ -169,7 +176,8 @@ impl Work {
         self.inbox.reserve(n)
     }
 
-    /// Makes room for `n` more of each thing that an event adds; the state is unchanged either way, and room that was made stays.
+    /// Makes room for `n` more of each thing that an event adds, and where there is less, for some events at once; the state is unchanged either
+    /// way, and room that was made stays.
     pub fn reserve(&mut self, n: usize) -> Result<(), NoMemory>
         ensures state { self.new.state ≡ self.old.state }
         ensures room { OnOk result (n ≤ self.new.room) }
@@ -181,6 +189,7 @@ impl Work {
         if n <= self.room {
             return Ok(());
         }
+        let n = n.max(AHEAD);
         self.inbox.reserve(n)?;
         self.outbox.reserve(n)?;
         self.partition.reserve(n)?;
@@ -287,18 +296,21 @@ impl Work {
         mem::swap(&mut self.acts, &mut self.asked);
         self.asked.clear();
         self.labels.clear();
-        self.room = 0;
+        self.room = self.room.min(self.acts.spare());
     }
 
-    /// The entry of the event, with the acts and labels that were noted; nothing is noted any more.
+    /// The entry of the event, with the acts and labels that were noted; nothing is noted any more. The next event has the lists that were last
+    /// given back, with the room that they have.
     pub fn entry(&mut self, thread: Option<ThreadNo>, done: Option<Fresh>) -> Entry
         ensures entry { result ≡ entry_of thread done self.old.state }
         ensures rest { self.new.state.rest ≡ self.old.state.rest }
         ensures nothing { (self.new.state.acts ≡ []) × (self.new.state.labels ≡ []) }
     {
-        let acts = mem::replace(&mut self.acts, Acts::new(self.alloc));
-        let labels = mem::replace(&mut self.labels, Labels::new(self.alloc));
-        self.room = 0;
+        let idle = mem::replace(&mut self.idle, Idle::new(self.alloc));
+        self.room = self.room.min(idle.room());
+        let (next_acts, next_labels) = idle.into_lists();
+        let acts = mem::replace(&mut self.acts, next_acts);
+        let labels = mem::replace(&mut self.labels, next_labels);
         Entry {
             server: self.number,
             thread,
@@ -308,19 +320,14 @@ impl Work {
         }
     }
 
-    /// Lists whose acts and labels aren't needed any more are there for those of the next event, with the room that they have; nothing is noted.
-    /// The state is unchanged. It takes time linear in what stands in them.
+    /// Lists whose acts and labels aren't needed any more are there for an entry to come, with the room that they have. The state is unchanged. It
+    /// takes time linear in what stands in them.
     pub fn reuse(&mut self, acts: Acts, labels: Labels)
-        requires nothing { (self.old.state.acts ≡ []) × (self.old.state.labels ≡ []) }
         ensures state { self.new.state ≡ self.old.state }
         ensures copies { self.new.copies ≡ self.old.copies }
         ensures inbox_room { self.new.inbox_room ≡ self.old.inbox_room }
     {
-        self.room = 0;
-        self.acts = acts;
-        self.acts.clear();
-        self.labels = labels;
-        self.labels.clear();
+        self.idle = Idle::of(acts, labels);
     }
 
     /// An owned value goes: whoever has what it leads to is told.

@@ -1,11 +1,12 @@
-use Rattle.std.proofs.Common.{◌≡◌, ◌<◌, ◌^◌, true, Some, None, sym, subst, ap, ◌∙◌, arith}
+use Rattle.std.proofs.Common.{◌≡◌, ◌<◌, ◌^◌, true, [], ◌∷◌, Some, None, sym, subst, ap, ◌∙◌, arith}
 use Rattle.rank_map.specs.Places.{has_place, with_place}
 use Rattle.rank_map.specs.Marks.{mark_if}
 use Rattle.server_model.specs.Work.{thread_in, with_thread}
+use Rattle.server_model.specs.Questions.{active_in}
 use Rattle.server_parts.specs.Threads.{states}
-use Rattle.server_parts.proofs.ThreadLemmas.{put_states}
+use Rattle.server_parts.proofs.ThreadLemmas.{put_states, active_with, active_few}
 use Rattle.server_parts.proofs.SeenLemmas.{wasnt_marked}
-use Rattle.server_parts.proofs.StandLemmas.{all_changed, absent_item}
+use Rattle.server_parts.proofs.StandLemmas.{all_changed, absent_item, active_below}
 use Rattle.server_parts.proofs.threads.Threads.insert.Goals as goal
 
 pub invariant_of-self : goal.invariant_of-self
@@ -14,11 +15,15 @@ invariant_of-self c =
     let below : k < 2 ^ 40 = omega (arith, c.number-number.ensures.number, c.number-number.ensures.few) in
     let number : c.args.thread.state.number ≡ k = sym (c.number-number.ensures.number ∙ c.number.ensures) in
     let here : has_place c.self.inside.all k ≡ true = subst (λ i. has_place c.self.inside.all i ≡ true) number (subst (λ ps. has_place ps c.args.thread.state.number ≡ true) (sym c.self.view_is) c.requires.room) in
+    let absent : thread_in (states c.self.inside.all) k ≡ None =
+    subst (λ i. thread_in (states c.self.inside.all) i ≡ None) number (subst (λ ps. thread_in (states ps) c.args.thread.state.number ≡ None) (sym c.self.view_is) c.requires.absent) in
+    let placed = ap states c.insert.ensures.places ∙ put_states c.self.inside.all 0 (2 ^ 40) k c.args.thread c.self.invariant.rises c.self.invariant.numbered number (absent_item k c.self.invariant absent) in
+    let many = ap active_in placed ∙ active_with (states c.self.inside.all) c.args.thread.state in
     all_changed k (Some c.args.thread) c.self.invariant here below number c.insert.ensures.places
     (c.change.ensures ∙ ap (λ b. with_place c.self.inside.runnable k (Some (mark_if b))) c.is_runnable.ensures)
     (c.change-2.ensures ∙ ap (λ b. with_place c.self.inside.waiting k (Some (mark_if b))) c.is_waiting.ensures)
     (c.change-3.ensures ∙ ap (λ b. with_place c.self.inside.movable k (Some (mark_if b))) c.is_movable.ensures)
-    (c.change-4.ensures ∙ ap (λ b. with_place c.self.inside.active k (Some (mark_if b))) c.is_active.ensures)
+    (omega (arith, many, c.self.invariant.count, c.active_in.ensures))
 
 pub returns-clause-state : goal.returns-clause-state
 returns-clause-state c =
@@ -57,11 +62,5 @@ change-requires-3 c =
     subst (λ i. thread_in (states c.self.inside.all) i ≡ None) number (subst (λ ps. thread_in (states ps) c.args.thread.state.number ≡ None) (sym c.self.view_is) c.requires.absent) in
     record { place = c.self.invariant.movable_set.places k here; was = wasnt_marked k c.self.invariant.rises c.self.invariant.movable_set (absent_item k c.self.invariant absent) }
 
-pub change-requires-4 : goal.change-requires-4
-change-requires-4 c =
-    let k = c.number-number.result in
-    let number : c.args.thread.state.number ≡ k = sym (c.number-number.ensures.number ∙ c.number.ensures) in
-    let here : has_place c.self.inside.all k ≡ true = subst (λ i. has_place c.self.inside.all i ≡ true) number (subst (λ ps. has_place ps c.args.thread.state.number ≡ true) (sym c.self.view_is) c.requires.room) in
-    let absent : thread_in (states c.self.inside.all) k ≡ None =
-    subst (λ i. thread_in (states c.self.inside.all) i ≡ None) number (subst (λ ps. thread_in (states ps) c.args.thread.state.number ≡ None) (sym c.self.view_is) c.requires.absent) in
-    record { place = c.self.invariant.active_set.places k here; was = wasnt_marked k c.self.invariant.rises c.self.invariant.active_set (absent_item k c.self.invariant absent) }
+pub overflow_add-self : goal.overflow_add-self
+overflow_add-self c = let below = active_below c.self.invariant in let one = active_few (c.args.thread.state ∷ []) in omega (arith, below, one, c.active_in.ensures)

@@ -1,6 +1,6 @@
 use Rattle.std.proofs.Common.{◌<◌, ◌^◌, sym, subst, arith}
 use Rattle.server_parts.specs.Threads.{AreThreads}
-use Rattle.server_parts.proofs.StandLemmas.{free_runnable, free_waiting, free_movable, all_free}
+use Rattle.server_parts.proofs.StandLemmas.{free_runnable, free_waiting, all_free}
 use Rattle.server_parts.proofs.threads.Threads.reserve.Goals as goal
 
 pub invariant_of-self-in_err-reserve-2 : goal.invariant_of-self-in_err-reserve-2
@@ -16,16 +16,8 @@ invariant_of-self-in_err-reserve-3 c =
     let two = free_waiting c.number-number.result one below c.in_ok-reserve-2.ensures.place in
     subst (λ m. AreThreads c.self.inside.all c.reserve.new.self c.reserve-2.new.self m c.self.inside.active) (sym c.in_err-reserve-3.ensures.refused) two
 
-pub invariant_of-self-in_err-reserve-4 : goal.invariant_of-self-in_err-reserve-4
-invariant_of-self-in_err-reserve-4 c =
-    let below : c.number-number.result < 2 ^ 40 = omega (arith, c.number-number.ensures.number, c.number-number.ensures.few) in
-    let one = free_runnable c.number-number.result c.self.invariant below c.in_ok-reserve.ensures.place in
-    let two = free_waiting c.number-number.result one below c.in_ok-reserve-2.ensures.place in
-    let three = free_movable c.number-number.result two below c.in_ok-reserve-3.ensures.place in
-    subst (λ a. AreThreads c.self.inside.all c.reserve.new.self c.reserve-2.new.self c.reserve-3.new.self a) (sym c.in_err-reserve-4.ensures.refused) three
-
 pub invariant_of-self-2 : goal.invariant_of-self-2
 invariant_of-self-2 c =
     let below : c.number-number.result < 2 ^ 40 = omega (arith, c.number-number.ensures.number, c.number-number.ensures.few) in
-    all_free c.number-number.result c.reserve-5.result c.self.invariant below c.in_ok-reserve.ensures.place c.in_ok-reserve-2.ensures.place c.in_ok-reserve-3.ensures.place
-    c.in_ok-reserve-4.ensures.place c.reserve-5.ensures.place c.reserve-5.ensures.refused
+    all_free c.number-number.result c.reserve-4.result c.self.invariant below c.in_ok-reserve.ensures.place c.in_ok-reserve-2.ensures.place c.in_ok-reserve-3.ensures.place
+    c.reserve-4.ensures.place c.reserve-4.ensures.refused

@@ -2,9 +2,10 @@ use Rattle.std.proofs.Common.{◌≡◌, ◌<◌, ◌^◌, true, None, IsSome, o
 use Rattle.rank_map.specs.Places.{has_place, item_at}
 use Rattle.rank_map.proofs.MarkLemmas.{place_new}
 use Rattle.server_model.specs.Work.{thread_in, set_thread, without_thread}
+use Rattle.server_model.specs.Questions.{active_in}
 use Rattle.server_parts.specs.Threads.{states}
 use Rattle.server_parts.proofs.SeenLemmas.{was_marked}
-use Rattle.server_parts.proofs.ThreadLemmas.{take_states}
+use Rattle.server_parts.proofs.ThreadLemmas.{take_states, active_without}
 use Rattle.server_parts.proofs.StandLemmas.{all_changed, stands_at, there_item, found_thread, back_again, taken_absent, found_number}
 use Rattle.server_parts.proofs.threads.Threads.take.Goals as goal
 
@@ -38,16 +39,6 @@ change-requires-3 c =
       was = was_marked k c.in-Some.taken c.is_movable.result c.self.invariant.rises c.self.invariant.movable_set (sym c.take.ensures.item ∙ c.in-Some.is) c.is_movable.ensures;
     }
 
-pub change-requires-4 : goal.change-requires-4
-change-requires-4 c =
-    let k = c.number-number.result in
-    let stands : IsSome (thread_in (states c.self.inside.all) k) =
-    subst (λ i. IsSome (thread_in (states c.self.inside.all) i)) (sym c.number-number.ensures.number) (subst (λ ps. IsSome (thread_in (states ps) c.args.thread)) (sym c.self.view_is) c.requires.there) in
-    record {
-      place = c.self.invariant.active_set.places k (stands_at k c.self.invariant stands);
-      was = was_marked k c.in-Some.taken c.is_active.result c.self.invariant.rises c.self.invariant.active_set (sym c.take.ensures.item ∙ c.in-Some.is) c.is_active.ensures;
-    }
-
 pub take-requires : goal.take-requires
 take-requires c =
     let k = c.number-number.result in
@@ -70,7 +61,11 @@ invariant_of-self c =
     subst (λ i. IsSome (thread_in (states c.self.inside.all) i)) (sym c.number-number.ensures.number) (subst (λ ps. IsSome (thread_in (states ps) c.args.thread)) (sym c.self.view_is) c.requires.there) in
     let here = stands_at k c.self.invariant stands in
     let below : k < 2 ^ 40 = omega (arith, c.number-number.ensures.number, c.number-number.ensures.few) in
-    all_changed k None c.self.invariant here below tt c.take.ensures.places c.change.ensures c.change-2.ensures c.change-3.ensures c.change-4.ensures
+    let gone = ap states c.take.ensures.places ∙ take_states c.self.inside.all 0 (2 ^ 40) k c.self.invariant.rises c.self.invariant.numbered in
+    let found = found_thread k c.self.invariant ∙ ap (option_map (λ v. v.state)) (sym c.take.ensures.item ∙ c.in-Some.is) in
+    let many = active_without (states c.self.inside.all) k c.in-Some.taken.state found in
+    let fewer = ap active_in gone in
+    all_changed k None c.self.invariant here below tt c.take.ensures.places c.change.ensures c.change-2.ensures c.change-3.ensures (omega (arith, many, fewer, c.self.invariant.count, c.active_in.ensures))
 
 pub returns-clause-thread : goal.returns-clause-thread
 returns-clause-thread c =
@@ -107,3 +102,10 @@ returns-clause-absent c =
 
 pub returns-clause-number : goal.returns-clause-number
 returns-clause-number c = found_number _ _ _ (returns-clause-thread c)
+
+pub overflow_sub-self : goal.overflow_sub-self
+overflow_sub-self c =
+    let k = c.number-number.result in
+    let found = found_thread k c.self.invariant ∙ ap (option_map (λ v. v.state)) (sym c.take.ensures.item ∙ c.in-Some.is) in
+    let many = active_without (states c.self.inside.all) k c.in-Some.taken.state found in
+    omega (arith, many, c.self.invariant.count, c.active_in.ensures)
