@@ -4,6 +4,7 @@
 use drust_io::{NoGate, StdSink, StdSource};
 use drust_top::drust;
 use std::io::ErrorKind;
+use std::mem;
 use std::process::ExitCode;
 
 // The words after the program's name, none where one of them isn't text; `None` where there is no memory for them.
@@ -22,5 +23,8 @@ fn main(rt: HostRuntime) -> ExitCode {
     let mut source = StdSource::new(rt.stdin());
     let mut sink = StdSink::new(rt.stdout());
     let outcome = drust(&rt, rt.alloc(), &words, &mut source, &mut sink, &NoGate);
-    ExitCode::from(outcome.status)
+    let status = outcome.status;
+    // The run's memory goes with the process.
+    mem::forget(outcome);
+    ExitCode::from(status)
 }

@@ -1,9 +1,7 @@
 -- The cluster after a round, and the run.
 use Rattle.std.proofs.Common.{◌≡◌, ℕ, suc, ◌+◌, ◌-◌, ◌==◌, ◌<◌, ◌≤◌, Bool, true, false, if◌then◌else◌, List, [], ◌∷◌, ◌++◌, length, Option, Some, refl, sym, ap, subst, ◌∙◌, arith}
-use Rattle.std.specs.Prelude.{min, option_map, slice_get}
-use Rattle.std.specs.List.{AllByRecursion}
+use Rattle.std.specs.Prelude.{min, option_map, slice_get, Result, Ok, Err, IfOk}
 use Rattle.journal.specs.View.{EntryView}
-use Rattle.journal.specs.Journals.{NamesItsThread}
 use Rattle.rand_pcg.specs.Lcg.{Lcg}
 use Rattle.fr_base.specs.declared.instruction.Instr.{Instr}
 use Rattle.fr_base.specs.declared.settings.Options.{Options}
@@ -18,9 +16,7 @@ use Rattle.rounds_law.specs.Working.{CanWork}
 use Rattle.rounds_law.specs.UnderWay.{IsUnderWay, ServersCanWork}
 use Rattle.rounds_law.proofs.UnderWay.{turns_in_range}
 use Rattle.cluster_core.specs.Views.{states, code_in, options_in, events_in, cluster_of, AllKeep, AreServersOf}
-use Rattle.drust_run.specs.Desks.{AreReady, WorkInOrder, AreFresh, NoneLacks, servers_at, choices_at, entries_at}
-use Rattle.drust_run.specs.declared.desk.Desk.{Desk}
-use Rattle.drust_run.proofs.RoundLemmas.{AllCan, IsRound, length_append, ready, in_order}
+use Rattle.drust_run.proofs.RoundLemmas.{AllCan, IsRound, length_append}
 
 -- what all servers keep is what the first one keeps
 code_same : (code : List Instr) (o : Options) (vs : List ServerView) → 0 < length vs → AllKeep code o vs → (code_in vs ≡ code) × (options_in vs ≡ o)
@@ -28,15 +24,13 @@ code_same code o [] some keep = absurd (let bad : 1 ≤ 0 = omega (arith, some) 
 code_same code o (v ∷ vs) some keep = keep.0
 
 -- the servers of a run, once they have done a round
-pub run_kept : (p : Program) (left : ℕ) (ds es : List Desk) → AreServersOf p (servers_at ds) → IsRound (code_in (servers_at ds)) (options_in (servers_at ds)) left ds es
-    → AreServersOf p (servers_at es) × (code_in (servers_at es) ≡ code_in (servers_at ds)) × (options_in (servers_at es) ≡ options_in (servers_at ds))
-run_kept p left ds es are r =
-    let vs = servers_at ds in
-    let ws = servers_at es in
-    let same = code_same (code_in vs) (options_in vs) ws (omega (arith, r.long, are.some)) r.keep in (
+pub run_kept : (p : Program) (left : ℕ) (vs us : List ServerView) (gs hs : List Lcg) (es : List EntryView) → AreServersOf p vs → IsRound (code_in vs) (options_in vs) left vs us gs hs es
+    → AreServersOf p us × (code_in us ≡ code_in vs) × (options_in us ≡ options_in vs)
+run_kept p left vs us gs hs es are r =
+    let same = code_same (code_in vs) (options_in vs) us (omega (arith, r.long, are.some)) r.keep in (
       record {
         numbered = r.numbered 0 are.numbered;
-        alike = subst (λ c. AllKeep c (options_in ws) ws) (sym same.0) (subst (λ o. AllKeep (code_in vs) o ws) (sym same.1) r.keep);
+        alike = subst (λ c. AllKeep c (options_in us) us) (sym same.0) (subst (λ o. AllKeep (code_in vs) o us) (sym same.1) r.keep);
         count = r.long ∙ are.count ∙ ap (λ (o : Options). o.servers) (sym same.1);
         some = omega (arith, r.long, are.some);
         few = omega (arith, r.long, are.few);
@@ -53,31 +47,29 @@ cluster_after vs ws code options =
     ap (λ c. record { code = c; options = options_in vs; servers = states ws }) (sym code) ∙ ap (λ o. record { code = code_in ws; options = o; servers = states ws }) (sym options)
 
 -- the definition's round
-pub round_is : (r : Run) (ds es : List Desk) → r.cluster ≡ cluster_of (servers_at ds) → r.generators ≡ choices_at ds
-    → IsRound (code_in (servers_at ds)) (options_in (servers_at ds)) (events_left r) ds es → code_in (servers_at es) ≡ code_in (servers_at ds) → options_in (servers_at es) ≡ options_in (servers_at ds)
-    → round r ≡ Some (record { cluster = hand_over (cluster_of (servers_at es)); generators = choices_at es; journal = r.journal ++ entries_at es })
-round_is r ds es cluster generators done code options =
-    let vs = servers_at ds in
-    let ws = servers_at es in
+pub round_is : (r : Run) (vs us : List ServerView) (hs : List Lcg) (es : List EntryView) → r.cluster ≡ cluster_of vs → IsRound (code_in vs) (options_in vs) (events_left r) vs us r.generators hs es
+    → code_in us ≡ code_in vs → options_in us ≡ options_in vs → round r ≡ Some (record { cluster = hand_over (cluster_of us); generators = hs; journal = r.journal ++ es })
+round_is r vs us hs es cluster done code options =
     let left = events_left r in
-    let made : Round = record { servers = states ws; generators = choices_at es; entries = entries_at es } in
+    let made : Round = record { servers = states us; generators = hs; entries = es } in
     ap (λ (k : Cluster). option_map (after_round r) (round_of k.code k.options left k.servers r.generators)) cluster
-    ∙ ap (λ gs. option_map (after_round r) (round_of (code_in vs) (options_in vs) left (states vs) gs)) generators
     ∙ ap (option_map (after_round r)) done.is
-    ∙ ap (λ (k : Cluster). Some (record { cluster = hand_over (record k { servers = states ws }); generators = choices_at es; journal = r.journal ++ entries_at es })) cluster
-    ∙ ap (λ k. Some (record { cluster = hand_over k; generators = choices_at es; journal = r.journal ++ entries_at es })) (cluster_after vs ws code options)
+    ∙ ap (λ (k : Cluster). Some (record { cluster = hand_over (record k { servers = states us }); generators = hs; journal = r.journal ++ es })) cluster
+    ∙ ap (λ k. Some (record { cluster = hand_over k; generators = hs; journal = r.journal ++ es })) (cluster_after vs us code options)
 
 -- THE RUN BEFORE AND AFTER A ROUND
 
--- the run whose servers are at those desks
-abbrev pub at_desks : List Desk → List EntryView → Run
-at_desks ds journal = record { cluster = cluster_of (servers_at ds); generators = choices_at ds; journal = journal }
+-- the run of those servers
+abbrev pub run_at : List ServerView → List Lcg → List EntryView → Run
+run_at vs gs journal = record { cluster = cluster_of vs; generators = gs; journal = journal }
 
-pub at_desks_is : (r : Run) (vs : List ServerView) (ds : List Desk) → cluster_of vs ≡ r.cluster → servers_at ds ≡ vs → choices_at ds ≡ r.generators → r ≡ at_desks ds r.journal
-at_desks_is r vs ds cluster servers choices =
-    ap (λ k. record { cluster = k; generators = r.generators; journal = r.journal }) (sym cluster)
-    ∙ ap (λ l. record { cluster = cluster_of l; generators = r.generators; journal = r.journal }) (sym servers)
-    ∙ ap (λ l. record { cluster = cluster_of (servers_at ds); generators = l; journal = r.journal }) (sym choices)
+pub run_at_is : (r : Run) (vs : List ServerView) → cluster_of vs ≡ r.cluster → r ≡ run_at vs r.generators r.journal
+run_at_is r vs cluster = ap (λ k. record { cluster = k; generators = r.generators; journal = r.journal }) (sym cluster)
+
+-- and where they are called otherwise
+pub run_named : (r : Run) (vs ws : List ServerView) (gs : List Lcg) → cluster_of vs ≡ r.cluster → ws ≡ vs → gs ≡ r.generators → r ≡ run_at ws gs r.journal
+run_named r vs ws gs cluster servers choices =
+    run_at_is r vs cluster ∙ ap (λ l. run_at l r.generators r.journal) (sym servers) ∙ ap (λ l. run_at ws l r.journal) (sym choices)
 
 -- as many states as servers
 pub states_long : (vs : List ServerView) → length (states vs) ≡ length vs
@@ -90,41 +82,34 @@ all_can code o left [] gs can = tt
 all_can code o left (s ∷ ss) [] can = tt
 all_can code o left (s ∷ ss) (g ∷ gs) can = (can 0 s g refl refl, all_can code o left ss gs (λ i t h. can (suc i) t h))
 
--- the servers of a run under way are ready for a round
-pub ready_at : (p : Program) (ds : List Desk) (journal : List EntryView) → EachKeepsCoherence → ServersCanWork → IsUnderWay (at_desks ds journal) → AreServersOf p (servers_at ds) → AreFresh ds
-    → AreReady (options_in (servers_at ds)).quantum ((options_in (servers_at ds)).turns - length journal) ds
-ready_at p ds journal each servers way are fresh =
-    let vs = servers_at ds in
+-- the servers of a run under way can do a round
+pub all_ready : (vs : List ServerView) (gs : List Lcg) (journal : List EntryView) → EachKeepsCoherence → ServersCanWork → IsUnderWay (run_at vs gs journal)
+    → AllCan (code_in vs) (options_in vs) ((options_in vs).turns - length journal) (states vs) gs
+all_ready vs gs journal each servers way =
+    all_can (code_in vs) (options_in vs) ((options_in vs).turns - length journal) (states vs) gs (λ i s g there drawn. servers each (run_at vs gs journal) i s g way there drawn)
+
+-- once the servers have worked, with the journal after it
+pub record HasWorked (p : Program) (vs us : List ServerView) (gs hs : List Lcg) (journal after : List EntryView) : Type 0 where
+  pub run : AreServersOf p us
+  pub few : events_in (states us) ≤ 1000000000
+  pub round : round (run_at vs gs journal) ≡ Some (record { cluster = hand_over (cluster_of us); generators = hs; journal = after })
+  pub counted : events_in (states us) ≡ length after
+
+pub has_worked : (p : Program) (vs us : List ServerView) (gs hs : List Lcg) (journal es after : List EntryView) → IsUnderWay (run_at vs gs journal) → AreServersOf p vs → events_in (states vs) ≡ length journal
+    → IsRound (code_in vs) (options_in vs) ((options_in vs).turns - length journal) vs us gs hs es → after ≡ journal ++ es → HasWorked p vs us gs hs journal after
+has_worked p vs us gs hs journal es after way are counted r behind =
     let o = options_in vs in
     let left = o.turns - length journal in
-    ready (code_in vs) o left ds are.short are.alike fresh (all_can (code_in vs) o left (states vs) (choices_at ds) (λ i s g there drawn. servers each (at_desks ds journal) i s g way there drawn))
-
--- once the servers have worked
-pub record HasWorked (p : Program) (ds es : List Desk) (journal : List EntryView) : Type 0 where
-  pub names : AllByRecursion NamesItsThread (entries_at es)
-  pub run : AreServersOf p (servers_at es)
-  pub few : events_in (states (servers_at es)) ≤ 1000000000
-  pub round : round (at_desks ds journal) ≡ Some (record { cluster = hand_over (cluster_of (servers_at es)); generators = choices_at es; journal = journal ++ entries_at es })
-  pub counted : events_in (states (servers_at es)) ≡ length (journal ++ entries_at es)
-
-pub has_worked : (p : Program) (ds es : List Desk) (journal : List EntryView) → IsUnderWay (at_desks ds journal) → AreServersOf p (servers_at ds) → events_in (states (servers_at ds)) ≡ length journal
-    → WorkInOrder (options_in (servers_at ds)).quantum ((options_in (servers_at ds)).turns - length journal) ds es → NoneLacks es → HasWorked p ds es journal
-has_worked p ds es journal way are counted works none =
-    let vs = servers_at ds in
-    let o = options_in vs in
-    let left = o.turns - length journal in
-    let r = in_order (code_in vs) o left ds es are.alike works none in
-    let kept = run_kept p left ds es are r in
-    let long = length_append journal (entries_at es) in
+    let kept = run_kept p left vs us gs hs es are r in
+    let long = length_append journal es in
     let turns : o.turns ≤ 1000000000 = turns_in_range o way.within in
     let most : length journal ≤ o.turns = way.turns in
-    record {
-      names = r.names;
+    subst (HasWorked p vs us gs hs journal) (sym behind) (record {
       run = kept.0;
       few = omega (arith, r.events, counted, r.few, turns, most);
-      round = round_is (at_desks ds journal) ds es refl refl r kept.1 kept.2;
+      round = round_is (run_at vs gs journal) vs us hs es refl r kept.1 kept.2;
       counted = omega (arith, r.events, counted, long);
-    }
+    })
 
 -- HANDING OVER COUNTS NO EVENT
 
@@ -149,16 +134,6 @@ handed_counts k = all_accepted_counts (outboxes k.servers) (emptied k.servers) �
 
 -- WHAT THE CODE HOLDS
 
--- at the same desks, under the same options
-pub same_ready : (o p : Options) (m n : ℕ) (ds es : List Desk) → o ≡ p → m ≡ n → ds ≡ es → AreReady p.quantum (p.turns - n) es → AreReady o.quantum (o.turns - m) ds
-same_ready o p m n ds es options long desks r =
-    subst (λ (q : Options). AreReady q.quantum (q.turns - m) ds) (sym options) (subst (λ (i : ℕ). AreReady p.quantum (p.turns - i) ds) (sym long) (subst (AreReady p.quantum (p.turns - n)) (sym desks) r))
-
-pub same_works : (o p : Options) (m n : ℕ) (ds es ws : List Desk) → o ≡ p → m ≡ n → ds ≡ es → WorkInOrder o.quantum (o.turns - m) ds ws → WorkInOrder p.quantum (p.turns - n) es ws
-same_works o p m n ds es ws options long desks w =
-    subst (λ (l : List Desk). WorkInOrder p.quantum (p.turns - n) l ws) desks
-    (subst (λ (i : ℕ). WorkInOrder p.quantum (p.turns - i) ds ws) long (subst (λ (q : Options). WorkInOrder q.quantum (q.turns - m) ds ws) options w))
-
 -- a run by its parts
 abbrev pub run_with : Cluster → List Lcg → List EntryView → Option Run
 run_with k gs xs = Some (record { cluster = k; generators = gs; journal = xs })
@@ -167,3 +142,19 @@ pub run_by : (k c : Cluster) (gs hs : List Lcg) (xs ys : List EntryView) → k �
     → run_with k gs xs ≡ run_with c hs ys
 run_by k c gs hs xs ys cluster generators journal =
     ap (λ z. run_with z gs xs) cluster ∙ ap (λ z. run_with c z xs) generators ∙ ap (λ z. run_with c hs z) journal
+
+-- the run after it, handed over
+pub round_handed : (p : Program) (r : Run) (vs us ws : List ServerView) (gs hs ks : List Lcg) (before after journal : List EntryView) (k : Cluster) → r ≡ run_at vs gs before → HasWorked p vs us gs hs before after
+    → k ≡ hand_over (cluster_of ws) → ws ≡ us → ks ≡ hs → journal ≡ after → round r ≡ Some (record { cluster = k; generators = ks; journal = journal })
+round_handed p r vs us ws gs hs ks before after journal k is worked state servers choices entries =
+    ap round is ∙ worked.round ∙ run_by (hand_over (cluster_of us)) k hs ks after journal (ap (λ l. hand_over (cluster_of l)) (sym servers) ∙ sym state) (sym choices) (sym entries)
+
+pub counted_handed : (p : Program) (vs us ws : List ServerView) (gs hs : List Lcg) (before after journal : List EntryView) (k : Cluster) → HasWorked p vs us gs hs before after → k ≡ hand_over (cluster_of ws) → ws ≡ us → journal ≡ after
+    → events_in k.servers ≡ length journal
+counted_handed p vs us ws gs hs before after journal k worked state servers entries =
+    ap (λ (c : Cluster). events_in c.servers) state ∙ handed_counts (cluster_of ws) ∙ ap (λ l. events_in (states l)) servers ∙ worked.counted ∙ ap length (sym entries)
+
+-- where the answer is a value, three facts on it give another one
+pub ok_three : {X E : Type 0} {A B C Z : X → Type 0} (r : Result X E) → ((x : X) → A x → B x → C x → Z x) → IfOk r A → IfOk r B → IfOk r C → IfOk r Z
+ok_three (Ok x) f a b c = f x a b c
+ok_three (Err e) f a b c = tt

@@ -10,13 +10,14 @@ use Rattle.global_addr.proofs.word.Word.TheSendSync as word
 use Rattle.indexmap.proofs.map.IndexMap.TheSendSync as index
 use Rattle.join_home.proofs.tasks.Tasks.TheSendSync as tasks
 use Rattle.journal.proofs.act.Act.TheSendSync as act
-use Rattle.journal.proofs.entry.Entry.TheSendSync as entry
+use Rattle.journal.proofs.entries.Journal.TheSendSync as journal
 use Rattle.mutex_home.proofs.mutexes.Mutexes.TheSendSync as mutexes
 use Rattle.owner_box.proofs.partition.Partition.TheSendSync as partition
 use Rattle.rank_map.proofs.block.Block.TheSendSync as block
 use Rattle.rank_map.proofs.tree.Tree.TheLaws.TheKnot.{send-Tree}
 use Rattle.read_cache.proofs.slot.Slot.TheSendSync as slot
 use Rattle.server_msgs.proofs.message.Message.TheSendSync as message
+use Rattle.server_parts.proofs.idle.Idle.TheSendSync as idle
 use Rattle.thread_state.proofs.boxed.BoxedThread.TheSendSync as boxed
 use Rattle.thread_state.proofs.value.Value.TheSendSync as value
 use Rattle.rank_map.specs.contracts.map.RankMap as map
@@ -39,7 +40,7 @@ cache_send : IsSend (cache.the_field).row
 cache_send = search (crosses, sendable, map_send, slot.the_send, word.the_send, index.the_send) depth 30
 
 work_send : IsSend (work.the_field).row
-work_send = search (crosses, sendable, partition.the_send, mutexes.the_send, tasks.the_send, message.the_send, act.the_send, label.the_send, list.the_send, cache_send, queue_send) depth 30
+work_send = search (crosses, sendable, partition.the_send, mutexes.the_send, tasks.the_send, message.the_send, act.the_send, label.the_send, list.the_send, idle.the_send, cache_send, queue_send) depth 30
 
 threads_send : IsSend (threads.the_field).row
 threads_send = search (crosses, sendable, boxed.the_send, map_send) depth 30
@@ -50,6 +51,6 @@ spares_send = search (crosses, sendable, boxed.the_send, value.the_field_send) d
 server_send : IsSend (server.the_field).row
 server_send = search (crosses, sendable, code.the_send, code.the_sync, work_send, threads_send, spares_send) depth 30
 
--- a server at its desk, with its generator and its entries
+-- a server at its desk, with its generator and its journal
 pub desk_send : IsSend desk.the_row
-desk_send = search (crosses, sendable, choice.the_send, entry.the_send, server_send) depth 30
+desk_send = search (crosses, sendable, choice.the_send, journal.the_send, server_send) depth 30

@@ -1,6 +1,7 @@
 mod Crosses
 mod EventLemmas
 mod WorkLemmas
+mod TurnLemmas
 mod RoundLemmas
 mod ClusterLemmas
 mod SeatLemmas

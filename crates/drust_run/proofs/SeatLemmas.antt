@@ -1,9 +1,6 @@
 -- Servers at their desks, one after another.
 use Rattle.std.proofs.Common.{◌≡◌, ◌≤◌, ◌+◌, List, [], ◌∷◌, ◌++◌, length, refl, ap, arith}
 use Rattle.std.proofs.lemmas.List.{append_assoc}
-use Rattle.std.specs.List.{AllByRecursion}
-use Rattle.journal.specs.View.{EntryView}
-use Rattle.journal.specs.Journals.{NamesItsThread}
 use Rattle.server_core.specs.Servers.{ServerView}
 use Rattle.rand_pcg.specs.Lcg.{Lcg}
 use Rattle.drust_run.specs.Desks.{AreFresh, choices_at, servers_at}
@@ -35,8 +32,3 @@ moved xs ys x = append_assoc xs (x ∷ []) ys
 pub nothing : {X : Type 0} (xs : List X) → length xs ≡ 0 → xs ≡ []
 nothing [] e = refl
 nothing (x ∷ xs) e = absurd (let bad : 1 ≤ 0 = omega (arith, e) in omega (arith, bad))
-
--- what is so of all entries is so of the first and of the others
-pub names_split : (xs ys : List EntryView) → AllByRecursion NamesItsThread (xs ++ ys) → AllByRecursion NamesItsThread xs × AllByRecursion NamesItsThread ys
-names_split [] ys a = (tt, a)
-names_split (x ∷ xs) ys a = let rest = names_split xs ys a.1 in ((a.0, rest.0), rest.1)

@@ -1,13 +1,11 @@
 -- A server's work in a round, event by event.
 use Rattle.std.proofs.Common.{◌≡◌, ℕ, zero, suc, ◌+◌, ◌-◌, ◌≤◌, ◌<◌, List, [], ◌∷◌, ◌++◌, length, Option, Some, None, refl, sym, ap, subst, ◌∙◌, arith}
 use Rattle.std.specs.Prelude.{◌^◌, option_map, IsSome, IfSome}
-use Rattle.std.specs.List.{AllByRecursion}
 use Rattle.std.proofs.lemmas.List.{append_assoc, append-nil}
 use Rattle.rand_pcg.specs.Lcg.{Lcg}
 use Rattle.fr_base.specs.declared.instruction.Instr.{Instr}
 use Rattle.fr_base.specs.declared.settings.Options.{Options}
 use Rattle.journal.specs.View.{EntryView}
-use Rattle.journal.specs.Journals.{NamesItsThread}
 use Rattle.server_model.specs.declared.event.What.{What}
 use Rattle.server_model.specs.Servers.{Server}
 use Rattle.thread_state.specs.View.{ThreadState}
@@ -18,16 +16,23 @@ use Rattle.server_core.specs.Steps.{ThreadLeft, CountsLeft}
 use Rattle.drive_model.specs.Choice.{Drawn, next}
 use Rattle.drive_model.specs.Rounds.{Worked, nothing_done, after_entry, work_on, work}
 use Rattle.rounds_law.specs.Working.{HasSmallCounts, Goes, goes_where, CanWork}
+use Rattle.drust_run.specs.Turns.{with_before}
 use Rattle.drust_run.proofs.EventLemmas.{IsCounted, counted, same_number}
-
--- the same with entries before
-abbrev pub with_before : List EntryView → Worked → Worked
-with_before es w = record w { entries = es ++ w.entries }
 
 -- nothing before
 pub none_before : (o : Option Worked) → option_map (with_before []) o ≡ o
 none_before None = refl
 none_before (Some w) = refl
+
+-- work with entries before, and what of it was done now
+pub record IsBehind (es : List EntryView) (o : Option Worked) (w : Worked) : Type 0 where
+  pub entries : List EntryView
+  pub work : o ≡ Some (record w { entries = entries })
+  pub behind : w.entries ≡ es ++ entries
+
+pub behind_before : (es : List EntryView) (o : Option Worked) (w : Worked) → option_map (with_before es) o ≡ Some w → IsBehind es o w
+behind_before es None w e = absurd (cc e)
+behind_before es (Some v) w e = let same : with_before es v ≡ w = cc in subst (IsBehind es (Some v)) same (record { entries = v.entries; work = refl; behind = refl })
 
 -- an entry after those before
 pub one_before : (es : List EntryView) (e : EntryView) (o : Option Worked) → option_map (with_before (es ++ e ∷ [])) o ≡ option_map (with_before es) (option_map (after_entry e) o)
@@ -114,15 +119,14 @@ can_fewer code o (suc m) (suc n) s g less can = fewer_where code o m n s (next o
 
 -- WHAT IT KEEPS
 
--- a server after its work: it has its number, has counted its events, and each entry of a plain step names its thread
+-- a server after its work: it has its number, and has counted its events
 pub record IsKept (n : ℕ) (s : Server) (w : Worked) : Type 0 where
   pub number : w.server.rest.number ≡ s.rest.number
   pub events : w.server.events ≡ s.events + length w.entries
   pub few : length w.entries ≤ n
-  pub names : AllByRecursion NamesItsThread w.entries
 
 nothing_kept : (n : ℕ) (s : Server) (g : Lcg) (w : Worked) → Some (nothing_done s g) ≡ Some w → IsKept n s w
-nothing_kept n s g w e = let same : nothing_done s g ≡ w = cc in subst (IsKept n s) same (record { number = refl; events = omega arith; few = omega arith; names = tt })
+nothing_kept n s g w e = let same : nothing_done s g ≡ w = cc in subst (IsKept n s) same (record { number = refl; events = omega arith; few = omega arith })
 
 one_more : (n : ℕ) (s : Server) (d : Server × EntryView) (p : Option Worked) (w : Worked) → d.0.rest.number ≡ s.rest.number → IsCounted s d → ((v : Worked) → p ≡ Some v → IsKept n d.0 v)
     → option_map (after_entry d.1) p ≡ Some w → IsKept (suc n) s w
@@ -134,7 +138,6 @@ one_more n s d (Some v) w number counts keeps e =
       number = k.number ∙ number;
       events = omega (arith, k.events, counts.events);
       few = omega (arith, k.few);
-      names = (counts.names, k.names);
     })
 
 then_more : (code : List Instr) (o : Options) (n : ℕ) (s : Server) (d : Drawn) (p : Option (Server × EntryView)) (w : Worked) → ((t : Server) (g : Lcg) (v : Worked) → work code o n t g ≡ Some v → IsKept n t v)

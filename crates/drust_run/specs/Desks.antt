@@ -1,5 +1,5 @@
 -- Servers at their work in a round (this project's own).
-use Rattle.std.specs.Prelude.{◌≡◌, ◌≤◌, ◌^◌, ⊤, ℕ, ◌-◌, min, false, List, [], ◌∷◌, ◌++◌, length, Some}
+use Rattle.std.specs.Prelude.{◌≡◌, ◌≤◌, ◌^◌, ⊤, ℕ, false, List, [], ◌∷◌, ◌++◌, length, Some}
 use Rattle.rand_pcg.specs.Lcg.{Lcg}
 use Rattle.journal.specs.View.{EntryView}
 use Rattle.server_core.specs.Servers.{ServerView}
@@ -22,17 +22,6 @@ pub record Works (n : ℕ) (d e : Desk) : Type 0 where
   pub work : e.lacks ≡ false → work d.server.code d.server.options n d.server.state d.choice ≡ Some (done_at e)
   pub code : e.server.code ≡ d.server.code
   pub options : e.server.options ≡ d.server.options
-
--- each can do a quantum, or as many events as are left
-abbrev pub AreReady : (quantum left : ℕ) → List Desk → Type 0
-AreReady quantum left [] = ⊤
-AreReady quantum left (d ∷ ds) = IsReady (min quantum left) d × AreReady quantum left ds
-
--- one after another, each at most a quantum and no more than is then left
-abbrev pub WorkInOrder : (quantum left : ℕ) → List Desk → List Desk → Type 0
-WorkInOrder quantum left [] [] = ⊤
-WorkInOrder quantum left (d ∷ ds) (e ∷ es) = Works (min quantum left) d e × WorkInOrder quantum (left - length e.entries.items) ds es
-WorkInOrder quantum left ds es = ⊥
 
 -- each can do so many
 abbrev pub EachIsReady : ℕ → List Desk → Type 0

@@ -11,6 +11,7 @@ mod ran;
 mod round;
 mod rounds;
 mod seats;
+mod turns;
 mod work;
 
 pub use ran::Ran;

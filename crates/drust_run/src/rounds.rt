@@ -44,6 +44,19 @@ fn choices_of(alloc: Global, options: &Options) -> Result<Vec<Choice>, NoMemory>
     Ok(choices)
 }
 
+// No entry, and room for twice as many as the program has nodes, or fewer where the run may do no more events; most runs do no more than two for
+// each. It is there so that entries needn't be moved: where there is no memory for it, or not enough, the journal grows with the run.
+fn journal_for(alloc: Global, checked: &Checked, turns: u64) -> Journal
+    ensures { result.items ≡ [] }
+{
+    let mut journal = Journal::new(alloc);
+    match journal.reserve(checked.tree().len().saturating_mul(2).min(turns) as usize) {
+        Ok(()) => {}
+        Err(_) => {}
+    }
+    journal
+}
+
 // The start of a run. What there is to do isn't known yet, so its first round has all workers.
 fn start(alloc: Global, checked: &Arc<Checked>, options: &Options) -> Result<Drive, NoMemory>
     requires options { options_out options.now ≡ 0 }
@@ -57,7 +70,7 @@ fn start(alloc: Global, checked: &Arc<Checked>, options: &Options) -> Result<Dri
     Ok(Drive {
         cluster: Cluster::new(alloc, checked, options)?,
         choices: choices_of(alloc, options)?,
-        journal: Journal::new(alloc),
+        journal: journal_for(alloc, checked, options.turns),
         beside: u64::MAX,
     })
 }

@@ -1,14 +1,12 @@
 //! The servers take their desks before a round, and rise from them after it.
 
 ghost use Rattle.std.specs.Prelude.{◌≡◌, ◌≤◌, ◌++◌, true, length, IfOk, OnOk};
-ghost use Rattle.std.specs.List.{AllByRecursion};
-ghost use Rattle.journal.specs.Journals.{NamesItsThread};
 ghost use Rattle.drust_run.specs.Desks.{AreFresh, NoneLacks, choices_at, entries_at, servers_at};
 
 use crate::desk::Desk;
 use controller::Choice;
 use fr_base::NoMemory;
-use journal::{Entry, Journal};
+use journal::Journal;
 use server_core::Server;
 use std::alloc::Global;
 
@@ -34,7 +32,7 @@ pub(crate) fn seat(
             number: desks.len() as u8,
             server,
             choice,
-            entries: Vec::new(alloc),
+            entries: Journal::new(alloc),
             lacks: false,
         })?;
     }
@@ -51,24 +49,12 @@ pub(crate) fn none_lacks(desks: &[Desk]) -> bool
     }
 }
 
-// The entries of one server, at the end of the journal.
-fn add_all(journal: &mut Journal, entries: Vec<Entry>) -> Result<(), NoMemory>
-    requires names { AllByRecursion NamesItsThread entries.items }
-    ensures { OnOk result (journal.new.items ≡ journal.old.items ++ entries.items) }
-{
-    'entries: for entry in entries {
-        journal.push(entry)?;
-    }
-    Ok(())
-}
-
 // The servers and their generators again, and what each did is at the end of the journal, in the order of the servers.
 pub(crate) fn rise(
     alloc: Global,
     desks: Vec<Desk>,
     journal: &mut Journal,
 ) -> Result<(Vec<Server>, Vec<Choice>), NoMemory>
-    requires names { AllByRecursion NamesItsThread (entries_at desks.items) }
     ensures servers { IfOk result (λ r. r.0.items ≡ servers_at desks.items) }
     ensures choices { IfOk result (λ r. r.1.items ≡ choices_at desks.items) }
     ensures journal { OnOk result (journal.new.items ≡ journal.old.items ++ entries_at desks.items) }
@@ -79,10 +65,10 @@ pub(crate) fn rise(
         let Desk {
             server,
             choice,
-            entries,
+            mut entries,
             ..
         } = desk;
-        add_all(journal, entries)?;
+        journal.append(&mut entries)?;
         servers.push(server)?;
         choices.push(choice)?;
     }

@@ -1,18 +1,19 @@
 //! A server's work in a round.
 
-ghost use Rattle.std.specs.Prelude.{◌≡◌, ◌≤◌, ◌^◌, true, [], length, Some, IsSome, IfOk, OnOk};
+ghost use Rattle.std.specs.Prelude.{◌≡◌, ◌≤◌, ◌^◌, true, length, Some, IsSome, IfOk, OnOk, option_map};
 ghost use Rattle.server_model.specs.Events.{does, enabled};
 ghost use Rattle.server_core.specs.Steps.{CountsLeft};
 ghost use Rattle.drive_model.specs.Rounds.{work};
 ghost use Rattle.rounds_law.specs.Working.{CanWork};
 ghost use Rattle.drust_run.specs.Desks.{IsReady, Works};
+ghost use Rattle.drust_run.specs.Turns.{with_before};
 
 use crate::desk::Desk;
 use crate::fitted::fitted;
 use controller::{Choice, next};
 use drust_io::Gate;
 use fr_base::NoMemory;
-use journal::Entry;
+use journal::{Entry, Journal};
 use server_core::Server;
 use server_model::What;
 use std::alloc::Global;
@@ -29,7 +30,7 @@ pub(crate) fn act(server: &mut Server, what: &What) -> Result<Entry, NoMemory>
     Ok(server.act(*what))
 }
 
-// The same, with the entry in lists hardly longer than what stands in them; the server uses again those in which it wrote.
+// The same, with the entry in lists that have no more room than they need; the server uses again those in which it wrote.
 fn act_fitted(alloc: Global, server: &mut Server, what: &What) -> Result<Entry, NoMemory>
     requires enabled { enabled server.old.options server.old.state what.now ≡ true }
     requires result { IsSome (does server.old.code server.old.options server.old.state what.now) }
@@ -43,36 +44,43 @@ fn act_fitted(alloc: Global, server: &mut Server, what: &What) -> Result<Entry, 
     Ok(entry)
 }
 
-// At most so many events of a server, each the next one, until it has none.
-fn quantum(
+// At most so many events of a server, each the next one, until it has none. Their entries stand at the end of the journal.
+pub(crate) fn quantum(
+    alloc: Global,
     server: &mut Server,
     choice: &mut Choice,
-    entries: &mut Vec<Entry>,
+    journal: &mut Journal,
     most: u32,
 ) -> Result<(), NoMemory>
     requires able { CanWork server.old.code server.old.options most server.old.state choice.old }
     requires short { length server.old.code ≤ 2 ^ 30 }
-    requires fresh { entries.old.items ≡ [] }
-    ensures worked { OnOk result (work server.old.code server.old.options most server.old.state choice.old ≡ Some (record { server = server.new.state; generator = choice.new; entries = entries.new.items })) }
+    ensures worked { OnOk result (option_map (with_before journal.old.items) (work server.old.code server.old.options most server.old.state choice.old) ≡ Some (record { server = server.new.state; generator = choice.new; entries = journal.new.items })) }
     ensures kept { (server.new.code ≡ server.old.code) × (server.new.options ≡ server.old.options) }
 {
-    let alloc: Global = *entries.allocator();
     'events: for _ in 0..most {
         let Some(what) = next(server, choice) else {
             return Ok(());
         };
-        entries.push(act_fitted(alloc, server, &what)?)?;
+        journal.push(act_fitted(alloc, server, &what)?)?;
     }
     Ok(())
 }
 
 // The server's work arrives, and it does at most so many events; where memory is wanting, that is marked.
-pub(crate) fn work_at<G: Gate>(desk: &mut Desk, most: u32, gate: &G)
+pub(crate) fn work_at<G: Gate>(alloc: Global, desk: &mut Desk, most: u32, gate: &G)
     requires ready { IsReady most desk.old }
     ensures { Works most desk.old desk.new }
 {
     gate.arrive(desk.number);
-    if quantum(&mut desk.server, &mut desk.choice, &mut desk.entries, most).is_err() {
+    if quantum(
+        alloc,
+        &mut desk.server,
+        &mut desk.choice,
+        &mut desk.entries,
+        most,
+    )
+    .is_err()
+    {
         desk.lacks = true;
     }
 }

@@ -1,32 +1,22 @@
-use Rattle.std.proofs.Common.{◌≡◌, ◌≤◌, ◌*◌, ◌∙◌, List, length, sym, subst, arith}
-use Rattle.std.proofs.Math.ListN.{drop}
-use Rattle.std.proofs.lemmas.Result.{IfOk-weaker}
-use Rattle.drust_run.specs.Desks.{EachIsReady, WorkEach, WorkInOrder, NoneLacks}
-use Rattle.drust_run.specs.declared.desk.Desk.{Desk}
-use Rattle.drust_run.proofs.RoundLemmas.{for_each, for_each_is, each_ready, each_in_order, written_back}
+use Rattle.std.proofs.Common.{sym, subst}
+use denote.Param.Send.{sendable}
+use Rattle.std.specs.Prelude.{slice_index_or}
+use Rattle.drust_run.specs.Desks.{IsReady, Works}
+use Rattle.drust_run.proofs.Crosses.{desk_send}
+use Rattle.drust_run.proofs.RoundLemmas.{ready_here, each_at}
 use Rattle.drust_run.proofs.desks.at_work.Goals as goal
 
-pub beside-requires-clause-ready : goal.beside-requires-clause-ready
-beside-requires-clause-ready g c κs within =
-    let ds = c.args.desks.items in
-    let same = for_each_is c.args.quantum ds in
-    let all : length ds * c.args.quantum ≤ c.args.left = subst (λ (l : List Desk). length l * c.args.quantum ≤ c.args.left) c.deref.ensures.value (c.is_enough.ensures c.if-not-is_enough.false) in
-    let enough : for_each c.args.quantum ds ≤ c.args.left = omega (arith, same, all) in
-    subst (EachIsReady c.args.quantum) (sym c.deref_mut.ensures.value) (each_ready c.args.quantum c.args.left ds enough c.requires.ready)
+pub for_each_mut-requires-clause-accepts : goal.for_each_mut-requires-clause-accepts
+for_each_mut-requires-clause-accepts g c κs within i p below is =
+    subst (IsReady c.args.quantum) (sym is) (ready_here c.args.quantum c.args.desks.now i p.now below c.requires.ready)
 
 pub returns : goal.returns
 returns g c =
-    let ds = c.args.desks.items in
-    let es = c.beside.new.desks in
-    let same = for_each_is c.args.quantum ds in
-    let all : length ds * c.args.quantum ≤ c.args.left = subst (λ (l : List Desk). length l * c.args.quantum ≤ c.args.left) c.deref.ensures.value (c.is_enough.ensures c.if-not-is_enough.false) in
-    let enough : for_each c.args.quantum ds ≤ c.args.left = omega (arith, same, all) in
-    let long : length c.deref_mut.result.now ≡ c.args.desks.len = c.deref_mut.ensures.len in
-    let back = written_back c.args.desks.len es (drop (length es) ds) (c.beside.auto.desks ∙ long) in
-    let works : WorkEach c.args.quantum ds es = subst (λ l. WorkEach c.args.quantum l es) c.deref_mut.ensures.value c.beside.ensures in
-    subst (λ l. NoneLacks l → WorkInOrder c.args.quantum c.args.left ds l) (sym back) (each_in_order c.args.quantum c.args.left ds es enough works)
+    let ds = c.args.desks.now in
+    let es = c.for_each_mut.new.s in
+    each_at c.args.quantum ds es (c.for_each_mut.auto.s) (λ i d within.
+    let at = (c.for_each_mut.ensures i d within).1 in
+    subst (λ x. Works c.args.quantum x (slice_index_or es i d)) at.argument_is (subst (Works c.args.quantum at.argument.now) at.left at.call))
 
-pub returns-then-not-is_enough : goal.returns-then-not-is_enough
-returns-then-not-is_enough g c =
-    let ds = c.args.desks.items in
-    IfOk-weaker c.in_order.result (λ es. WorkInOrder c.args.quantum c.args.left ds es.items) (λ es. NoneLacks es.items → WorkInOrder c.args.quantum c.args.left ds es.items) (λ es works none. works) c.in_order.ensures
+pub for_each_mut-requires-send-T : goal.for_each_mut-requires-send-T
+for_each_mut-requires-send-T g c κs within = let sent = desk_send in search sendable depth 20

@@ -1,10 +1,8 @@
-use Rattle.std.proofs.Common.{rules, ◌≡◌, ◌++◌, ◌∷◌, [], sym, ap, subst, ◌∙◌, arith}
-use Rattle.std.specs.List.{AllByRecursion}
+use Rattle.std.proofs.Common.{rules, ◌≡◌, ◌++◌, ◌∷◌, [], sym, ap, ◌∙◌, arith}
 use Rattle.std.specs.Vec.Iter.{into_iter_items}
 use Rattle.std.proofs.lemmas.List.{append_assoc, append-nil}
-use Rattle.journal.specs.Journals.{NamesItsThread}
 use Rattle.drust_run.specs.Desks.{choices_at, entries_at, servers_at}
-use Rattle.drust_run.proofs.SeatLemmas.{moved, names_split, nothing}
+use Rattle.drust_run.proofs.SeatLemmas.{moved, nothing}
 use Rattle.drust_run.proofs.seats.rise.Goals as goal
 
 pub desks-init : goal.desks-init
@@ -16,29 +14,19 @@ desks-init c =
       servers = ap (λ l. l ++ servers_at (into_iter_items c.into_iter-desk-iterator.result)) servers ∙ ap servers_at whole;
       choices = ap (λ l. l ++ choices_at (into_iter_items c.into_iter-desk-iterator.result)) choices ∙ ap choices_at whole;
       journal = ap (λ l. c.args.journal.now.items ++ entries_at l) whole;
-      names = subst (λ l. AllByRecursion NamesItsThread (entries_at l)) (sym whole) c.requires.names;
     }
-
-pub add_all-requires : goal.add_all-requires
-add_all-requires c =
-    let rest = into_iter_items c.next.new.self in
-    let first : into_iter_items c.desks.desk-iterator ≡ c.in-Some.desk ∷ rest = search rules in
-    let names = names_split c.in-Some.desk.entries.items (entries_at rest) (subst (λ l. AllByRecursion NamesItsThread (entries_at l)) first c.desks.invariant.names) in
-    record { names = names.0 }
 
 pub desks-preserved : goal.desks-preserved
 desks-preserved c =
     let rest = into_iter_items c.next.new.self in
     let inv = c.desks.invariant in
     let first : into_iter_items c.desks.desk-iterator ≡ c.in-Some.desk ∷ rest = search rules in
-    let names = names_split c.in-Some.desk.entries.items (entries_at rest) (subst (λ l. AllByRecursion NamesItsThread (entries_at l)) first inv.names) in
     record {
       servers = ap (λ l. l ++ servers_at rest) c.in_ok-push.ensures.items ∙ moved c.desks.servers.items (servers_at rest) c.in-Some.desk.server ∙ ap (λ l. c.desks.servers.items ++ servers_at l) (sym first) ∙ inv.servers;
       choices = ap (λ l. l ++ choices_at rest) c.in_ok-push-2.ensures.items ∙ moved c.desks.choices.items (choices_at rest) c.in-Some.desk.choice ∙ ap (λ l. c.desks.choices.items ++ choices_at l) (sym first) ∙ inv.choices;
       journal =
-          ap (λ l. l ++ entries_at rest) c.in_ok-add_all.ensures ∙ append_assoc c.desks.journal.items c.in-Some.desk.entries.items (entries_at rest)
+          ap (λ l. l ++ entries_at rest) c.in_ok-append.ensures.items ∙ append_assoc c.desks.journal.items c.in-Some.desk.entries.items (entries_at rest)
           ∙ ap (λ l. c.desks.journal.items ++ entries_at l) (sym first) ∙ inv.journal;
-      names = names.1;
     }
 
 pub returns-clause-servers : goal.returns-clause-servers

@@ -2,7 +2,7 @@ use Rattle.std.proofs.Common.{◌≡◌, ◌≤◌, ◌-◌}
 use Rattle.std.specs.Prelude.{option_map}
 use Rattle.drive_model.specs.Rounds.{work}
 use Rattle.rounds_law.specs.Working.{CanWork}
-use Rattle.drust_run.proofs.WorkLemmas.{with_before}
+use Rattle.drust_run.specs.Turns.{with_before}
 use Rattle.drust_run.proofs.work.quantum.Given as goal
 
 -- the events that are left, after those that were done, are all of them
@@ -12,5 +12,5 @@ invariant-events l = record {
   options : l.server.options ≡ l.fn.server.options;
   within : l.counter ≤ l.fn.most;
   able : CanWork l.server.code l.server.options (l.fn.most - l.counter) l.server.state l.choice;
-  same : option_map (with_before l.entries.items) (work l.server.code l.server.options (l.fn.most - l.counter) l.server.state l.choice) ≡ work l.fn.server.code l.fn.server.options l.fn.most l.fn.server.state l.fn.choice;
+  same : option_map (with_before l.journal.items) (work l.server.code l.server.options (l.fn.most - l.counter) l.server.state l.choice) ≡ option_map (with_before l.fn.journal.items) (work l.fn.server.code l.fn.server.options l.fn.most l.fn.server.state l.fn.choice);
 }
