@@ -1,10 +1,10 @@
 //! Instructions of compiled code.
 
-use crate::list::List;
+use crate::boxed::BoxedList;
 use crate::place::{Lval, Op};
 
 /// The slots that a new thread captures, in order, each with whether its value is taken out; else it is copied.
-pub type Captures = List<(u32, bool)>;
+pub type Captures = BoxedList<(u32, bool)>;
 
 /// Where an instruction finds an operand: a constant, the constant unit, or the value on top of the temporary values.
 #[derive(Clone, Copy, Debug, PartialEq, Eq)]

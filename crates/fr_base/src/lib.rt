@@ -3,6 +3,7 @@
 //! No call here has a refusal but want of memory, and a number's parts are what it was made of.
 #![tactic(auto)]
 
+mod boxed;
 mod instruction;
 mod instructions;
 mod label;
@@ -15,6 +16,7 @@ mod release;
 mod settings;
 mod step;
 
+pub use boxed::BoxedList;
 pub use instruction::{Captures, Instr, Operand};
 pub use instructions::Code;
 pub use label::{Label, Labels, Plain};

@@ -6,12 +6,12 @@ ghost use Rattle.fr_syntax.specs.Bounds.{most_numbered};
 ghost use Rattle.fr_syntax.specs.Meanings.{meanings, meaning_at, build, stands_for, nodes_in, needs, names_in, root_of, AreBelow, AllBelow, Keeps};
 ghost use Rattle.fr_syntax.specs.Ordered.{IsArena};
 
-use fr_base::{List, NoMemory, Op};
+use fr_base::{BoxedList, NoMemory, Op};
 use std::alloc::Global;
 use std::marker::Model;
 
 /// Numbers of nodes, in order.
-pub type Nodes = List<u32>;
+pub type Nodes = BoxedList<u32>;
 
 /// A term, a place of a term, or a captured name. Its parts are numbers of nodes that stand before it, its names are
 /// numbers of names.
