@@ -1,0 +1,10 @@
+use Rattle.std.proofs.Common.{length}
+use Rattle.rank_map.specs.Places.{entries}
+use Rattle.server_index.proofs.MarkSetLemmas.{IsComing}
+use Rattle.server_index.proofs.marks.come_back.Given as goal
+
+abbrev pub invariant-marks : goal.invariant-marks
+invariant-marks l = IsComing l.initial.tree l.few.items l.tree
+
+abbrev pub decreases-marks : goal.decreases-marks
+decreases-marks l = length (entries l.tree)

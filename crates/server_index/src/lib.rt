@@ -1,0 +1,10 @@
+//! What a server looks for by a number or by a place: its threads, which of them are marked, and the messages that wait.
+#![tactic(auto)]
+
+mod marks;
+mod queue;
+mod table;
+
+pub use marks::MarkSet;
+pub use queue::FrontQueue;
+pub use table::Table;
