@@ -41,7 +41,13 @@ impl Choice {
         ensures place { result ≡ (pcg32 self.old).0 % count }
         ensures left { self.new ≡ (pcg32 self.old).1 }
     {
-        (u128::from(self.generator.next_word()) % count) as usize
+        let word = self.generator.next_word();
+        // A division of short numbers is several times as fast.
+        if count <= u128::from(u32::MAX) {
+            (word % count as u32) as usize
+        } else {
+            (u128::from(word) % count) as usize
+        }
     }
 }
 

@@ -30,7 +30,8 @@ pub(crate) fn act(server: &mut Server, what: &What) -> Result<Entry, NoMemory>
     Ok(server.act(*what))
 }
 
-// The same, with the entry in lists that have no more room than they need; the server uses again those in which it wrote.
+// The same, with the entry in lists that have no more room than they need (those of an entry without acts and labels have none); the server uses again
+// those in which it wrote.
 fn act_fitted(alloc: Global, server: &mut Server, what: &What) -> Result<Entry, NoMemory>
     requires enabled { enabled server.old.options server.old.state what.now ≡ true }
     requires result { IsSome (does server.old.code server.old.options server.old.state what.now) }
@@ -39,6 +40,9 @@ fn act_fitted(alloc: Global, server: &mut Server, what: &What) -> Result<Entry, 
     ensures kept { (server.new.code ≡ server.old.code) × (server.new.options ≡ server.old.options) }
 {
     let written = act(server, what)?;
+    if written.acts.len() == 0 && written.labels.len() == 0 {
+        return Ok(written);
+    }
     let entry = fitted(alloc, &written)?;
     server.reuse(written);
     Ok(entry)

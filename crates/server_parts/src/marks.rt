@@ -6,7 +6,7 @@ ghost use Rattle.rank_map.specs.Marks.{mark_if};
 ghost use Rattle.server_parts.specs.Seen.{seen, HasLeft};
 
 use fr_base::NoMemory;
-use rank_map::RankMap;
+use server_index::MarkSet;
 use std::alloc::Global;
 use std::marker::Model;
 
@@ -14,7 +14,7 @@ use std::marker::Model;
 /// mark that goes and comes back at once takes no step.
 #[derive(Drop)]
 pub(crate) struct Marks {
-    set: RankMap<()>,
+    set: MarkSet,
     // a number that isn't marked any more, and stands in the map
     left: Option<u64>,
 }
@@ -32,13 +32,13 @@ impl Model for Marks {
 }
 
 // The number that left goes from the map.
-fn forget(set: &mut RankMap<()>, left: &mut Option<u64>)
+fn forget(set: &mut MarkSet, left: &mut Option<u64>)
     requires left { HasLeft set.old left.old }
     ensures set { set.new ≡ seen set.old left.old }
     ensures left { left.new ≡ None }
 {
     if let Some(number) = *left {
-        set.take(number);
+        set.unmark(number);
         *left = None;
     }
 }
@@ -59,7 +59,7 @@ impl Marks {
         ensures { result ≡ [] }
     {
         Marks {
-            set: RankMap::new(alloc),
+            set: MarkSet::new(alloc),
             left: None,
         }
     }
@@ -92,7 +92,7 @@ impl Marks {
         }
         forget(&mut self.set, &mut self.left);
         if on {
-            self.set.insert(number, ());
+            self.set.mark(number);
         } else {
             self.left = Some(number);
         }

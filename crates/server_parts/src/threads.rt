@@ -13,7 +13,7 @@ ghost use Rattle.server_parts.specs.Threads.{states, steps, waits, moves};
 
 use crate::marks::Marks;
 use fr_base::{NoMemory, ThreadNo, Wait};
-use rank_map::RankMap;
+use server_index::Table;
 use std::alloc::Global;
 use std::marker::Model;
 use thread_state::{BoxedThread, Phase, Thread};
@@ -21,11 +21,12 @@ use thread_state::{BoxedThread, Phase, Thread};
 /// The threads that stand at a server, those that are over among them. Contracts see a place for each number for which there is
 /// room, by rising number, with its thread where one stands there.
 ///
-/// A thread is found, put and taken in some forty steps, the bits of a number, however many there are; so is the one of some rank among those that
-/// can step or wait, and the first that may be moved. Threads that are over cost nothing. Only `reserve` takes memory.
+/// A thread that a call found shortly before is found, put and taken in a handful of steps, any other in some forty, the bits of a number,
+/// however many there are; the one of some rank among those that can step or wait, and the first that may be moved, in one step where at most
+/// sixteen can, else in some forty. Threads that are over cost nothing. Only `reserve` takes memory.
 #[derive(Drop)]
 pub struct Threads {
-    all: RankMap<BoxedThread>,
+    all: Table<BoxedThread>,
     // those that can step, that wait at a lock, a join or a pair, and that may be moved
     runnable: Marks,
     waiting: Marks,
@@ -121,7 +122,7 @@ impl Threads {
         ensures { result ≡ [] }
     {
         Threads {
-            all: RankMap::new(alloc),
+            all: Table::new(alloc),
             runnable: Marks::new(alloc),
             waiting: Marks::new(alloc),
             movable: Marks::new(alloc),

@@ -15,8 +15,8 @@ use join_home::Tasks;
 use journal::{Act, Acts, Entry};
 use mutex_home::Mutexes;
 use owner_box::Partition;
-use rank_map::Queue;
 use read_cache::Cache;
+use server_index::FrontQueue;
 use server_msgs::Message;
 use std::alloc::Global;
 use std::collections::VecDeque;
@@ -42,7 +42,7 @@ pub struct Work {
     /// The threads that it started.
     pub tasks: Tasks,
     /// The messages that wait here.
-    pub inbox: Queue<Message>,
+    pub inbox: FrontQueue<Message>,
     /// The messages to other servers, the first one first.
     pub outbox: VecDeque<(u8, Message)>,
     /// How many threads it has started.
@@ -138,7 +138,7 @@ impl Work {
             cache: Cache::new(alloc),
             mutexes: Mutexes::new(alloc, number),
             tasks: Tasks::new(alloc),
-            inbox: Queue::new(alloc),
+            inbox: FrontQueue::new(alloc),
             outbox: VecDeque::new(alloc),
             started: 0,
             acts: Acts::new(alloc),
@@ -299,10 +299,11 @@ impl Work {
         self.room = self.room.min(self.acts.spare());
     }
 
-    /// The entry of the event, with the acts and labels that were noted; nothing is noted any more. The next event has the lists that were last
-    /// given back, with the room that they have.
-    pub fn entry(&mut self, thread: Option<ThreadNo>, done: Option<Fresh>) -> Entry
-        ensures entry { result ≡ entry_of thread done self.old.state }
+    // The acts and labels that were noted; nothing is noted any more, and the next event has the lists that were last given back, with the room that
+    // they have.
+    fn take_noted(&mut self) -> (Acts, Labels)
+        ensures acts { result.0.items ≡ self.old.state.acts }
+        ensures labels { result.1.items ≡ self.old.state.labels }
         ensures rest { self.new.state.rest ≡ self.old.state.rest }
         ensures nothing { (self.new.state.acts ≡ []) × (self.new.state.labels ≡ []) }
     {
@@ -311,8 +312,24 @@ impl Work {
         let (next_acts, next_labels) = idle.into_lists();
         let acts = mem::replace(&mut self.acts, next_acts);
         let labels = mem::replace(&mut self.labels, next_labels);
+        (acts, labels)
+    }
+
+    /// The entry of the event, with the acts and labels that were noted; nothing is noted any more. Where nothing was, the entry's lists have no room,
+    /// and those of the event stay for the next one.
+    pub fn entry(&mut self, thread: Option<ThreadNo>, done: Option<Fresh>) -> Entry
+        ensures entry { result ≡ entry_of thread done self.old.state }
+        ensures rest { self.new.state.rest ≡ self.old.state.rest }
+        ensures nothing { (self.new.state.acts ≡ []) × (self.new.state.labels ≡ []) }
+    {
+        let server = self.number;
+        let (acts, labels) = if self.acts.len() == 0 && self.labels.len() == 0 {
+            (Acts::new(self.alloc), Labels::new(self.alloc))
+        } else {
+            self.take_noted()
+        };
         Entry {
-            server: self.number,
+            server,
             thread,
             done,
             acts,

@@ -16,7 +16,7 @@ pub invariant_of-self-then-on : goal.invariant_of-self-then-on
 invariant_of-self-then-on c =
     let r : Rises 0 (2 ^ 40) c.forget.new.set = subst (Rises 0 (2 ^ 40)) (sym c.forget.ensures.set) (seen_rises c.self.inside.set c.self.inside.left c.self.invariant.0 c.self.invariant.1) in
     let there : has_place c.forget.new.set c.args.number ≡ true = ap (λ ps. has_place ps c.args.number) (c.forget.ensures.set ∙ c.self.view_is) ∙ c.requires.place in
-    (subst (Rises 0 (2 ^ 40)) (sym c.insert.ensures.places) (changed_rises c.forget.new.set c.args.number _ r there), none_left c.insert.new.self c.forget.new.left c.forget.ensures.left)
+    (subst (Rises 0 (2 ^ 40)) (sym c.mark.ensures) (changed_rises c.forget.new.set c.args.number _ r there), none_left c.mark.new.self c.forget.new.left c.forget.ensures.left)
 
 pub invariant_of-self-else-on : goal.invariant_of-self-else-on
 invariant_of-self-else-on c =
