@@ -20,7 +20,8 @@ use fr_base::{Code, Fresh, Instr, ThreadNo};
 use server_parts::{Spares, Threads, Work, access_of};
 use server_ready::{Prepared, prepare};
 use server_steps::{Committed, commit, settle};
-use thread_state::Thread;
+use std::alloc::Global;
+use thread_state::{Phase, Thread};
 
 // The step is done, and its walk ends; or the thread waits, and its hops and labels count later.
 #[tactic(auto, using(server_deliveries::proofs::DeliverLemmas::made_of))]
@@ -72,6 +73,18 @@ fn follow(
     }
 }
 
+// A thread that is over keeps no memory for its lists, if nothing stands in them.
+fn close(thread: &mut Thread, alloc: Global)
+    ensures { thread.new.state ≡ thread.old.state }
+{
+    let is_empty = thread.slots.is_empty() && thread.temps.is_empty() && thread.walk.is_empty();
+    if is_empty && matches!(&thread.phase, Phase::Over) {
+        thread.slots = Vec::new(alloc);
+        thread.temps = Vec::new(alloc);
+        thread.walk = Vec::new(alloc);
+    }
+}
+
 // A thread goes on with the plain step of its instruction as far as it can here.
 fn step(
     servers: u8,
@@ -91,7 +104,9 @@ fn step(
 {
     let access = access_of(instr, thread);
     let ready = prepare(work, thread, access);
-    follow(servers, instr, ready, work, thread, spares)
+    let names = follow(servers, instr, ready, work, thread, spares);
+    close(thread, spares.alloc);
+    names
 }
 
 /// The thread of that number steps, and stands where it stood. It stands here.
