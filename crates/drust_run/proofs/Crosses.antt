@@ -16,6 +16,8 @@ use Rattle.owner_box.proofs.partition.Partition.TheSendSync as partition
 use Rattle.rank_map.proofs.block.Block.TheSendSync as block
 use Rattle.rank_map.proofs.tree.Tree.TheLaws.TheKnot.{send-Tree}
 use Rattle.read_cache.proofs.slot.Slot.TheSendSync as slot
+use Rattle.server_index.specs.contracts.marks.MarkSet as marks
+use Rattle.server_index.specs.contracts.table.Table as table
 use Rattle.server_msgs.proofs.message.Message.TheSendSync as message
 use Rattle.server_parts.proofs.idle.Idle.TheSendSync as idle
 use Rattle.thread_state.proofs.boxed.BoxedThread.TheSendSync as boxed
@@ -42,8 +44,14 @@ cache_send = search (crosses, sendable, map_send, slot.the_send, word.the_send, 
 work_send : IsSend (work.the_field).row
 work_send = search (crosses, sendable, partition.the_send, mutexes.the_send, tasks.the_send, message.the_send, act.the_send, label.the_send, list.the_send, idle.the_send, cache_send, queue_send) depth 30
 
+table_send : (T : RattleType) → IsSend T → IsSend (table.the_field T).row
+table_send T s = search (crosses, sendable) depth 30
+
+marks_send : IsSend (marks.the_field).row
+marks_send = search (crosses, sendable) depth 30
+
 threads_send : IsSend (threads.the_field).row
-threads_send = search (crosses, sendable, boxed.the_send, map_send) depth 30
+threads_send = search (crosses, sendable, boxed.the_send, table_send, marks_send) depth 30
 
 spares_send : IsSend (spares.the_field).row
 spares_send = search (crosses, sendable, boxed.the_send, value.the_field_send) depth 30

@@ -1,2 +1,6 @@
 pub mod TableLemmas
+mod RowLemmas
+mod IndexLemmas
+mod SumLemmas
+mod RankLemmas
 mod MarkSetLemmas

@@ -1,6 +1,6 @@
 -- What a table's slots and index say of its places, once an item or a place comes or goes.
 use Rattle.std.proofs.Common.{◌≡◌, ◌≢◌, ◌⊎◌, inl, inr, ℕ, zero, suc, ◌+◌, ◌^◌, ◌<◌, Bool, true, false, true≢false, is_some, ◌==◌, nat_lt, if◌then◌else◌, List, [], ◌∷◌, ◌++◌, length, get_or, set, slice_get, Option, None, Some, option_map, refl, sym, subst, ap, ◌∙◌, arith}
-use Rattle.std.proofs.lemmas.Bool.{eqb-true, eqb-false, eq-eqb, ne_eqb, ltb-true, le-ltb}
+use Rattle.std.proofs.lemmas.Bool.{eqb-true, eqb-false, eq-eqb, ne_eqb, ltb-true}
 use Rattle.std.proofs.lemmas.Option.{slice_get_within, slice_get_read}
 use Rattle.rank_map.specs.Places.{Place, place_at, has_place, item_in, item_at, put_first, with_place, with_free, Rises}
 use Rattle.rank_map.proofs.PlaceLemmas.{below_all, rises_with}
@@ -34,21 +34,6 @@ place_other (p ∷ ps) k j x d = by (nat_lt k p.key) (p.key == k) refl (place_ot
     by true b e ih = first (p ∷ ps)
     by false true e ih = first ps ∙ sym (ap (λ b. if b then Some p.item else place_at ps j) (other e))
     by false false e ih = ap (λ o. if p.key == j then Some p.item else o) ih
-
--- of two changes of one place only the later one is left
-pub with_twice : {T : Type 0} (ps : List (Place T)) (k : ℕ) (x y : Option T) → with_place (with_place ps k (Some x)) k (Some y) ≡ with_place ps k (Some y)
-with_twice [] k x y = rw (le-ltb k k (omega arith), eq-eqb k k refl) refl
-with_twice (p ∷ ps) k x y = by (nat_lt k p.key) (p.key == k) refl refl (with_twice ps k x y)
-  where
-    first : (qs : List (Place _)) → with_place (put_first k (Some x) qs) k (Some y) ≡ put_first k (Some y) qs
-    first qs = rw (le-ltb k k (omega arith), eq-eqb k k refl) refl
-
-    by : (a b : Bool) → nat_lt k p.key ≡ a → (p.key == k) ≡ b → with_place (with_place ps k (Some x)) k (Some y) ≡ with_place ps k (Some y)
-        → with_place (if a then put_first k (Some x) (p ∷ ps) else (if b then put_first k (Some x) ps else p ∷ with_place ps k (Some x))) k (Some y)
-        ≡ (if a then put_first k (Some y) (p ∷ ps) else (if b then put_first k (Some y) ps else p ∷ with_place ps k (Some y)))
-    by true b is e ih = first (p ∷ ps)
-    by false true is e ih = first ps
-    by false false is e ih = rw (is, e) (ap (λ qs. p ∷ qs) ih)
 
 -- a table's place is the index's, with the item of the slot
 pub placed_place : {T : Type 0} (slots : List (Slot T)) (index : List (Place ℕ)) (k : ℕ) → place_at (placed slots index) k ≡ option_map (item_in_slot slots) (place_at index k)
@@ -113,10 +98,6 @@ leads_has slots (p ∷ ps) k l = by (p.key == k) (leads_has slots ps k l.1)
 -- so it tells a slot exactly for the keys of the table
 pub slot_has : {T : Type 0} {slots : List (Slot T)} {index : List (Place ℕ)} (k : ℕ) → IsTable slots index → is_some (item_at index k) ≡ has_place (placed slots index) k
 slot_has {slots = slots} {index} k w = leads_has slots index k w.leads ∙ sym (placed_has slots index k)
-
--- a slot with the key is the one that the index tells
-pub found : {T : Type 0} {slots : List (Slot T)} {index : List (Place ℕ)} (n s k : ℕ) (t : Slot T) → IsTable slots index → n ≡ length slots → s < n → t ≡ get_or slots s t → t.key ≡ k → Some s ≡ item_at index k
-found {slots = slots} n s k t w len inside read is = sym (w.back s k (ap (option_map (λ t. t.key)) (slice_get_read slots n s t len inside read) ∙ ap Some is))
 
 -- the slot that the index tells is there
 pub within : {T : Type 0} {slots : List (Slot T)} {index : List (Place ℕ)} (s k : ℕ) → IsTable slots index → Some s ≡ item_at index k → s < length slots
@@ -274,9 +255,9 @@ pub record IsPlaced {T : Type 0} (slots after : List (Slot T)) (index new : List
   pub places : placed after new ≡ with_free (placed slots index) k
 
 -- it has a free place more
-pub came : {T : Type 0} {slots after : List (Slot T)} {index free new : List (Place ℕ)} (s k : ℕ) → IsTable slots index → k < 2 ^ 40 → is_some (item_at index k) ≡ false → s ≡ length slots
-    → free ≡ with_free index k → new ≡ with_place free k (Some (Some s)) → after ≡ slots ++ record { key = k; item = None } ∷ [] → IsPlaced slots after index new k
-came {T} {slots} {after} {index} {free} {new} s k w below none last freed is pushed = record {
+pub came : {T : Type 0} {slots after : List (Slot T)} {index new : List (Place ℕ)} (s k : ℕ) → IsTable slots index → k < 2 ^ 40 → is_some (item_at index k) ≡ false → s ≡ length slots
+    → new ≡ with_place index k (Some (Some s)) → after ≡ slots ++ record { key = k; item = None } ∷ [] → IsPlaced slots after index new k
+came {T} {slots} {after} {index} {new} s k w below none last now pushed = record {
   table = record {
     rises = subst (Rises 0 (2 ^ 40)) (sym now) (rises_with index 0 (2 ^ 40) k (Some (Some s)) w.rises (omega arith) below);
     leads = subst (λ ps. Leads after ps) (sym now) (leads_with after index k (Some s) key (subst (λ ts. Leads ts index) (sym pushed) (leads_push slots (record { key = k; item = None }) index w.leads)));
@@ -290,9 +271,6 @@ came {T} {slots} {after} {index} {free} {new} s k w below none last freed is pus
   where
     bare : has_place index k ≡ false
     bare = sym (leads_has slots index k w.leads) ∙ none
-
-    now : new ≡ with_place index k (Some (Some s))
-    now = is ∙ ap (λ ps. with_place ps k (Some (Some s))) (freed ∙ ap (λ b. if b then index else with_place index k (Some None)) bare) ∙ with_twice index k None (Some s)
 
     at : slice_get after s ≡ Some (record { key = k; item = None })
     at = ap (λ ts. slice_get ts s) pushed ∙ ap (slice_get (slots ++ record { key = k; item = None } ∷ [])) last ∙ last_slot slots (record { key = k; item = None })

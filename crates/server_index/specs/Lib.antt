@@ -1,2 +1,6 @@
 pub mod Tables
+pub mod Rows
+pub mod Indexes
+pub mod Sums
+pub mod Ranks
 pub mod MarkSets

@@ -1,8 +1,13 @@
 //! What a server looks for by a number or by a place: its threads, which of them are marked, and the messages that wait.
 #![tactic(auto)]
 
+mod index;
+mod keys;
 mod marks;
 mod queue;
+mod ranks;
+mod row;
+mod sums;
 mod table;
 
 pub use marks::MarkSet;

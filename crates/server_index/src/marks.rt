@@ -5,9 +5,9 @@ ghost use Rattle.std.specs.List.{prefix_len};
 ghost use Rattle.rank_map.specs.Places.{has_place, with_place, with_free, entries, Rises};
 ghost use Rattle.server_index.specs.MarkSets.{Climbs, with_number, without_number, lit, numbers, HavePlaces};
 
+use crate::ranks::Ranks;
 use arrayvec::ArrayVec;
 use fr_base::NoMemory;
-use rank_map::RankMap;
 use std::alloc::Global;
 use std::marker::Model;
 
@@ -18,14 +18,19 @@ const FEW_AGAIN: usize = 8;
 /// Contracts see the places by rising number, each marked or not.
 ///
 /// Mostly few of many numbers are marked: up to sixteen marks stand in a short list, where `mark` and `unmark` take at most as many steps
-/// as there are marks, and `len` and `nth` one. The seventeenth moves them all to the places, where a call takes as long as one of
-/// `RankMap`, and they come back to the list once eight are left. So at least nine changes lie between two such moves.
+/// as there are marks, and `len` and `nth` one. The seventeenth moves them all to the places, and they come back to the list once eight
+/// are left. So at least nine changes lie between two such moves.
+///
+/// A place is a byte, found by the number's higher bits and then by its lower 32 bits. Above the bytes of the numbers with the same higher
+/// bits stand counts of the marks among each sixty-four, sums of sixty-four counts each, and sums of these. So there `mark` and `unmark`
+/// take a handful of steps, `len` one, and `nth` one for each value of the higher bits up to the number's, at most sixty-four among the
+/// bytes, the counts and the sums each, and among the upper sums one for each 262,144 numbers.
 #[derive(Drop)]
 pub struct MarkSet {
     // marked numbers, rising, while the marks haven't spilled
     few: ArrayVec<u64, 16>,
     // a place for each number that has one, and the marks that have spilled
-    tree: RankMap<()>,
+    ranks: Ranks,
     spilled: bool,
 }
 
@@ -36,9 +41,9 @@ impl Model for MarkSet {
 
     ghost Value = { List (Place (Unit {0})) };
 
-    ghost view = { λ s. lit s.few.items s.tree };
+    ghost view = { λ s. lit s.few.items s.ranks };
 
-    ghost invariant = { λ s. IsMarkSet s.few.items s.tree s.spilled };
+    ghost invariant = { λ s. IsMarkSet s.few.items s.ranks s.spilled };
 }
 
 // How many numbers from the first on are below one. In rising numbers that is where it stands or goes.
@@ -93,31 +98,31 @@ fn take_out(few: &mut ArrayVec<u64, 16>, number: u64)
 }
 
 // Moves the marks of the few to their places.
-fn spill(few: &mut ArrayVec<u64, 16>, tree: &mut RankMap<()>)
-    requires rises { Rises 0 (2 ^ 40) tree.old }
-    requires placed { HavePlaces few.old.items tree.old }
+fn spill(few: &mut ArrayVec<u64, 16>, ranks: &mut Ranks)
+    requires rises { Rises 0 (2 ^ 40) ranks.old }
+    requires placed { HavePlaces few.old.items ranks.old }
     ensures few { few.new.items ≡ [] }
-    ensures same { lit few.new.items tree.new ≡ lit few.old.items tree.old }
-    ensures rises { Rises 0 (2 ^ 40) tree.new }
+    ensures same { lit few.new.items ranks.new ≡ lit few.old.items ranks.old }
+    ensures rises { Rises 0 (2 ^ 40) ranks.new }
 {
     'marks: while let Some(number) = few.pop() {
-        tree.insert(number, ());
+        ranks.insert(number);
     }
 }
 
 // Moves the marks from their places to the list, by rising number.
-fn come_back(few: &mut ArrayVec<u64, 16>, tree: &mut RankMap<()>)
+fn come_back(few: &mut ArrayVec<u64, 16>, ranks: &mut Ranks)
     requires none { few.old.items ≡ [] }
-    requires rises { Rises 0 (2 ^ 40) tree.old }
-    requires room { length (entries tree.old) ≤ 16 }
-    ensures few { few.new.items ≡ numbers tree.old }
-    ensures same { lit few.new.items tree.new ≡ tree.old }
-    ensures none { entries tree.new ≡ [] }
-    ensures rises { Rises 0 (2 ^ 40) tree.new }
-    ensures placed { HavePlaces few.new.items tree.new }
+    requires rises { Rises 0 (2 ^ 40) ranks.old }
+    requires room { length (entries ranks.old) ≤ 16 }
+    ensures few { few.new.items ≡ numbers ranks.old }
+    ensures same { lit few.new.items ranks.new ≡ ranks.old }
+    ensures none { entries ranks.new ≡ [] }
+    ensures rises { Rises 0 (2 ^ 40) ranks.new }
+    ensures placed { HavePlaces few.new.items ranks.new }
 {
-    'marks: while let Some(number) = tree.nth(0) {
-        tree.take(number);
+    'marks: while let Some(number) = ranks.nth(0) {
+        ranks.take(number);
         few.push(number);
     }
 }
@@ -129,7 +134,7 @@ impl MarkSet {
     {
         MarkSet {
             few: ArrayVec::new(),
-            tree: RankMap::new(alloc),
+            ranks: Ranks::new(alloc),
             spilled: false,
         }
     }
@@ -139,7 +144,7 @@ impl MarkSet {
         ensures { result ≡ length (entries self.now) }
     {
         if self.spilled {
-            self.tree.len()
+            self.ranks.len()
         } else {
             self.few.len()
         }
@@ -151,13 +156,15 @@ impl MarkSet {
         ensures { result ≡ option_map (λ e. e.key) (slice_get (entries self.now) at) }
     {
         if self.spilled {
-            self.tree.nth(at)
+            self.ranks.nth(at)
         } else {
             number_at(self.few.as_slice(), at)
         }
     }
 
-    /// Makes a place for a number, not marked, where it has none. It takes as long as a call of `RankMap`.
+    /// Makes a place for a number, not marked, where it has none. It takes a byte for each number up to this one among those with the same
+    /// higher bits, once, and a sixteenth more for counts and sums; a list of these that is full moves to one that is twice as long, or as
+    /// long as is asked.
     ///
     /// # Errors
     ///
@@ -168,7 +175,7 @@ impl MarkSet {
         ensures had_place { has_place self.old number ≡ true → IsOk result }
         ensures refused { OnErr result (self.new ≡ self.old) }
     {
-        self.tree.reserve(number)
+        self.ranks.reserve(number)
     }
 
     /// Marks a number that has a place; one that is marked stays so. At most sixteen steps while few are marked.
@@ -177,15 +184,15 @@ impl MarkSet {
         ensures { self.new ≡ with_place self.old number (Some (Some tt)) }
     {
         if self.spilled {
-            self.tree.insert(number, ());
+            self.ranks.insert(number);
             return;
         }
         if put(&mut self.few, number) {
             return;
         }
-        spill(&mut self.few, &mut self.tree);
+        spill(&mut self.few, &mut self.ranks);
         self.spilled = true;
-        self.tree.insert(number, ());
+        self.ranks.insert(number);
     }
 
     /// Takes the mark from a number that has a place; one that isn't marked stays so. At most sixteen steps while few are marked.
@@ -194,9 +201,9 @@ impl MarkSet {
         ensures { self.new ≡ with_place self.old number (Some None) }
     {
         if self.spilled {
-            self.tree.take(number);
-            if self.tree.len() <= FEW_AGAIN {
-                come_back(&mut self.few, &mut self.tree);
+            self.ranks.take(number);
+            if self.ranks.len() <= FEW_AGAIN {
+                come_back(&mut self.few, &mut self.ranks);
                 self.spilled = false;
             }
         } else {

@@ -140,3 +140,41 @@ fn marks_few_and_many(rt: HostRuntime) -> Result<(), Fail> {
     }
     Ok(())
 }
+
+// A row has the numbers with the same higher bits.
+const ROW: u64 = 1 << 32;
+
+// So many numbers are marked in each of three rows, so far apart: a row's states have sums of sums of sums, and more than one of them.
+const MANY: u64 = 5_000;
+
+const APART: u64 = 60;
+
+const ALL: u64 = 3 * MANY;
+
+// The marked number of that rank.
+fn spread(at: u64) -> u64
+    requires { at < 15_000 }
+    ensures { result < 2 ^ 40 }
+{
+    at / MANY * ROW + at % MANY * APART
+}
+
+#[test]
+fn marks_in_rows(rt: HostRuntime) -> Result<(), Fail> {
+    let mut marks = MarkSet::new(rt.alloc());
+    for turn in 0..ALL {
+        // all of them in mixed order: 7,919 and 15,000 have no common divisor
+        change(&mut marks, spread(turn * 7_919 % ALL), true)?;
+    }
+    for at in 0..ALL {
+        assert_eq!(rt; marks.nth(at as usize), Some(spread(at)));
+    }
+    for turn in 0..ALL / 2 {
+        change(&mut marks, spread(turn * 2), false)?;
+    }
+    assert_eq!(rt; marks.len() as u64, ALL / 2);
+    for at in 0..ALL / 2 {
+        assert_eq!(rt; marks.nth(at as usize), Some(spread(at * 2 + 1)));
+    }
+    Ok(())
+}

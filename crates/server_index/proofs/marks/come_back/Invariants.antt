@@ -4,7 +4,7 @@ use Rattle.server_index.proofs.MarkSetLemmas.{IsComing}
 use Rattle.server_index.proofs.marks.come_back.Given as goal
 
 abbrev pub invariant-marks : goal.invariant-marks
-invariant-marks l = IsComing l.initial.tree l.few.items l.tree
+invariant-marks l = IsComing l.initial.ranks l.few.items l.ranks
 
 abbrev pub decreases-marks : goal.decreases-marks
-decreases-marks l = length (entries l.tree)
+decreases-marks l = length (entries l.ranks)

@@ -5,7 +5,7 @@ use Rattle.server_index.proofs.marks.spill.Given as goal
 
 -- what is seen stays
 abbrev pub invariant-marks : goal.invariant-marks
-invariant-marks l = (lit l.few.items l.tree ≡ lit l.initial.few.items l.initial.tree) × Rises 0 (2 ^ 40) l.tree × HavePlaces l.few.items l.tree
+invariant-marks l = (lit l.few.items l.ranks ≡ lit l.initial.few.items l.initial.ranks) × Rises 0 (2 ^ 40) l.ranks × HavePlaces l.few.items l.ranks
 
 abbrev pub decreases-marks : goal.decreases-marks
 decreases-marks l = length l.few.items

@@ -5,7 +5,7 @@ use Rattle.server_index.proofs.table.Table.take.Goals as goal
 
 pub unreachable-requires : goal.unreachable-requires
 unreachable-requires g c =
-    let told = ap is_some (sym c.in_default.is ∙ c.seek.ensures) ∙ slot_has c.args.key c.self.invariant ∙ ap (λ v. has_place v c.args.key) c.self.view_is in
+    let told = ap is_some (sym c.in_default.is ∙ c.get.ensures) ∙ slot_has c.args.key c.self.invariant ∙ ap (λ v. has_place v c.args.key) c.self.view_is in
     true≢false (sym c.requires.place ∙ sym told)
 
 pub index_mut-requires : goal.index_mut-requires
