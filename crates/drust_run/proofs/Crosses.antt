@@ -20,6 +20,7 @@ use Rattle.server_index.specs.contracts.marks.MarkSet as marks
 use Rattle.server_index.specs.contracts.table.Table as table
 use Rattle.server_msgs.proofs.message.Message.TheSendSync as message
 use Rattle.server_parts.proofs.idle.Idle.TheSendSync as idle
+use Rattle.server_parts.proofs.kind.Kind.TheSendSync as kind
 use Rattle.thread_state.proofs.boxed.BoxedThread.TheSendSync as boxed
 use Rattle.thread_state.proofs.value.Value.TheSendSync as value
 use Rattle.rank_map.specs.contracts.map.RankMap as map
@@ -51,7 +52,7 @@ marks_send : IsSend (marks.the_field).row
 marks_send = search (crosses, sendable) depth 30
 
 threads_send : IsSend (threads.the_field).row
-threads_send = search (crosses, sendable, boxed.the_send, table_send, marks_send) depth 30
+threads_send = search (crosses, sendable, boxed.the_send, kind.the_send, table_send, marks_send) depth 30
 
 spares_send : IsSend (spares.the_field).row
 spares_send = search (crosses, sendable, boxed.the_send, value.the_field_send) depth 30

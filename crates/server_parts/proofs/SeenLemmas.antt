@@ -1,13 +1,14 @@
 -- A set whose last one to leave may still stand in the map.
-use Rattle.std.proofs.Common.{if◌then◌else◌, ◌≡◌, is_some, true≢false, ℕ, zero, suc, ◌+◌, ◌<◌, ◌≤◌, ◌^◌, Bool, true, false, ◌==◌, nat_lt, List, [], ◌∷◌, length, slice_get, Option, None, Some, option_map, Result, Ok, Err, OnOk, OnErr, refl, sym, ap, subst, ◌∙◌, arith}
+use Rattle.std.proofs.Common.{if◌then◌else◌, ◌≡◌, inl, inr, is_some, true≢false, ℕ, zero, suc, ◌+◌, ◌<◌, ◌≤◌, ◌^◌, Bool, true, false, ◌==◌, nat_lt, List, [], ◌∷◌, length, slice_get, Option, None, Some, option_map, Result, Ok, Err, OnOk, OnErr, refl, sym, ap, subst, ◌∙◌, arith}
 use Rattle.std.proofs.Math.Bool.{beq}
 use Rattle.std.proofs.lemmas.Bool.{eq-eqb, eqb-true, eqb-false, ltb-true, ltb-false, le-ltb, lt-ltb}
 use Rattle.rank_map.specs.Places.{Place, Entry, place_at, item_in, item_at, put_first, with_place, with_free, has_place, entry_first, entries, count_of, Rises}
 use Rattle.rank_map.specs.Marks.{mark_if, mark_of, marked, IsMarked}
 use Rattle.rank_map.proofs.PlaceLemmas.{below_all, above_all, rises_with, few_entries, count_with}
 use Rattle.rank_map.proofs.MarkLemmas.{free_rises, marked_rises}
-use Rattle.server_parts.specs.Seen.{seen, HasLeft}
-use Rattle.server_parts.proofs.RoomLemmas.{new_place}
+use Rattle.server_parts.specs.declared.kind.Kind.{Kind}
+use Rattle.server_parts.specs.declared.kind.Kind.TheVariants as kind
+use Rattle.server_parts.specs.Seen.{SetsView, seen, IsSet, StandsAs, IsFreed, left_if, left_of, in_runnable, in_waiting, in_movable, AreSets, HasMarks, with_marks}
 
 -- a place that changes twice
 pub twice : {T : Type 0} (ps : List (Place T)) (k : ℕ) (x y : Option T) → with_place (with_place ps k (Some x)) k (Some y) ≡ with_place ps k (Some y)
@@ -129,54 +130,24 @@ rank_left {T} (p ∷ ps) low high k x i r h = by (nat_lt k p.key) (p.key == k) r
 abbrev Set : Type 0
 Set = List (Place (Unit {0}))
 
-pub seen_rises : (ps : Set) (l : Option ℕ) → Rises 0 (2 ^ 40) ps → HasLeft ps l → Rises 0 (2 ^ 40) (seen ps l)
-seen_rises ps None r h = r
-seen_rises ps (Some k) r h = rises_with ps 0 (2 ^ 40) k (Some None) r (omega arith) h.0
+pub seen_rises : (ps : Set) (l : Option ℕ) → IsSet ps l → Rises 0 (2 ^ 40) (seen ps l)
+seen_rises ps None s = s.0
+seen_rises ps (Some k) s = rises_with ps 0 (2 ^ 40) k (Some None) s.0 (omega arith) s.1.0
 
--- what is kept of a set from which none has left
-pub none_left : (ps : Set) (l : Option ℕ) → l ≡ None → HasLeft ps l
-none_left ps l e = subst (HasLeft ps) (sym e) tt
+-- a set for which a place was made, or refused
+pub reserved_freed : {X E : Type 0} (ps before new : Set) (k : ℕ) (x : Result X E) → before ≡ ps → OnOk x (new ≡ with_free before k) → OnErr x (new ≡ before) → IsFreed ps new k
+reserved_freed ps before new k (Ok x) is made kept = inr (made ∙ ap (λ qs. with_free qs k) is)
+reserved_freed ps before new k (Err e) is made kept = inl (kept ∙ is)
 
-pub reserved_rises : {X E : Type 0} (ps new : Set) (k : ℕ) (x : Result X E) → Rises 0 (2 ^ 40) ps → k < 2 ^ 40 → OnOk x (new ≡ with_free ps k) → OnErr x (new ≡ ps) → Rises 0 (2 ^ 40) new
-reserved_rises ps new k (Ok x) r below made kept = subst (Rises 0 (2 ^ 40)) (sym made) (free_rises ps k r below)
-reserved_rises ps new k (Err e) r below made kept = subst (Rises 0 (2 ^ 40)) (sym kept) r
+freed_rises : {ps new : Set} (k : ℕ) → Rises 0 (2 ^ 40) ps → k < 2 ^ 40 → IsFreed ps new k → Rises 0 (2 ^ 40) new
+freed_rises k r below (inl is) = subst (Rises 0 (2 ^ 40)) (sym is) r
+freed_rises {ps} k r below (inr is) = subst (Rises 0 (2 ^ 40)) (sym is) (free_rises ps k r below)
 
--- a place that changes
-pub changed_rises : (ps : Set) (k : ℕ) (x : Option (Unit {0})) → Rises 0 (2 ^ 40) ps → has_place ps k ≡ true → Rises 0 (2 ^ 40) (with_place ps k (Some x))
-changed_rises ps k x r h = rises_with ps 0 (2 ^ 40) k (Some x) r (omega arith) (place_below ps 0 (2 ^ 40) k r h)
-
-differs_on : (on was : Bool) → beq on was ≡ false → was ≡ false → on ≡ true
-differs_on true was d e = refl
-differs_on false false d e = absurd (true≢false d)
-differs_on false true d e = absurd (true≢false e)
-
-differs_off : (on was : Bool) → beq on was ≡ false → on ≡ false → was ≡ true
-differs_off on true d e = refl
-differs_off true false d e = absurd (true≢false e)
-differs_off false false d e = absurd (true≢false d)
-
-alike : (on was : Bool) → beq on was ≡ true → on ≡ was
+pub alike : (a b : Bool) → beq a b ≡ true → a ≡ b
 alike true true e = refl
 alike false false e = refl
 alike true false e = absurd (true≢false (sym e))
 alike false true e = absurd (true≢false (sym e))
-
-unmarked : (b : Bool) → None ≡ mark_if b → b ≡ false
-unmarked true e = absurd cc
-unmarked false e = refl
-
--- the mark that left comes back
-pub comes_back : (ps v : Set) (l : Option ℕ) (k : ℕ) (was on : Bool) → Rises 0 (2 ^ 40) ps → HasLeft ps l → l ≡ Some k → seen ps l ≡ v → item_at v k ≡ mark_if was → beq on was ≡ false → ps ≡ with_place v k (Some (mark_if on))
-comes_back ps v None k was on r h e s m d = absurd cc
-comes_back ps v (Some j) k was on r h e s m d =
-    let key : j ≡ k = cc in
-    let gone : None ≡ mark_if was = sym (ap item_in (ap (λ i. place_at (with_place ps j (Some None)) i) (sym key) ∙ new_place ps j None)) ∙ ap (λ u. item_at u k) s ∙ m in
-    sym
-    (ap (λ u. with_place u k (Some (mark_if on))) (sym s)
-    ∙ ap (λ q. with_place (with_place ps j (Some None)) k (Some (mark_if q))) (differs_on on was d (unmarked was gone))
-    ∙ ap (λ i. with_place (with_place ps i (Some None)) k (Some (Some tt))) key
-    ∙ twice ps k None (Some tt)
-    ∙ same ps 0 (2 ^ 40) k (Some tt) r (ap (place_at ps) (sym key) ∙ place_of ps j tt h.1))
 
 place_kept : {T : Type 0} (ps : List (Place T)) (k : ℕ) → has_place ps k ≡ true → place_at ps k ≡ Some (item_at ps k)
 place_kept {T} ps k h = by (place_at ps k) h
@@ -186,28 +157,146 @@ place_kept {T} ps k h = by (place_at ps k) h
     by (Some o) g = refl
 
 -- a mark that stays as it is
-pub mark_kept : (v : Set) (k : ℕ) (was on : Bool) → Rises 0 (2 ^ 40) v → has_place v k ≡ true → item_at v k ≡ mark_if was → beq on was ≡ true → v ≡ with_place v k (Some (mark_if on))
-mark_kept v k was on r there m e = sym (same v 0 (2 ^ 40) k (mark_if on) r (place_kept v k there ∙ ap Some (m ∙ ap mark_if (sym (alike on was e)))))
+pub mark_kept : (v : Set) (k : ℕ) (was on : Bool) → Rises 0 (2 ^ 40) v → place_at v k ≡ Some (mark_if was) → was ≡ on → v ≡ with_place v k (Some (mark_if on))
+mark_kept v k was on r m e = sym (same v 0 (2 ^ 40) k (mark_if on) r (m ∙ ap (λ b. Some (mark_if b)) e))
 
--- a mark that goes stands there
-pub stood : (v : Set) (k : ℕ) (was on : Bool) → item_at v k ≡ mark_if was → beq on was ≡ false → on ≡ false → item_at v k ≡ Some tt
-stood v k was on m d e = m ∙ ap mark_if (differs_off on was d e)
+-- A NUMBER WHOSE MARK CHANGES
+
+-- a set in which the number stands as told, and to which a change of its place does what it does to what was seen
+pub record Stands (ps v : Set) (k : ℕ) (b : Bool) : Type 0 where
+  pub mark : StandsAs ps k b
+  pub changes : (x : Option (Unit {0})) → with_place ps k (Some x) ≡ with_place v k (Some x)
+
+-- the number is the one that left
+stands_back : (ps v : Set) (k : ℕ) (had : Bool) → IsSet ps (left_if had k) → seen ps (left_if had k) ≡ v → place_at v k ≡ Some None → Stands ps v k had
+stands_back ps v k true s is m = record { mark = (s.0, place_of ps k tt s.1.1); changes = λ x. sym (ap (λ u. with_place u k (Some x)) (sym is) ∙ twice ps k None x) }
+stands_back ps v k false s is m = record { mark = (s.0, ap (λ u. place_at u k) is ∙ m); changes = λ x. ap (λ u. with_place u k (Some x)) is }
+
+-- the one that left went from the set
+stands_other : (ps v new : Set) (l : Option ℕ) (k : ℕ) (was : Bool) → IsSet ps l → seen ps l ≡ v → new ≡ seen ps l → place_at v k ≡ Some (mark_if was) → Stands new v k was
+stands_other ps v new l k was s is now m =
+    record {
+      mark = (subst (Rises 0 (2 ^ 40)) (sym now) (seen_rises ps l s), ap (λ u. place_at u k) (now ∙ is) ∙ m);
+      changes = λ x. ap (λ u. with_place u k (Some x)) (now ∙ is);
+    }
+
+-- the number leaves with its mark, or without one
+left_set : {ps v : Set} {k : ℕ} {b : Bool} → Stands ps v k b → IsSet ps (left_if b k)
+left_set {ps} {v} {k} {b = true} s = (s.mark.0, (place_below ps 0 (2 ^ 40) k s.mark.0 (ap is_some s.mark.1), ap item_in s.mark.1))
+left_set {ps} {v} {k} {b = false} s = (s.mark.0, tt)
+
+left_seen : {ps v : Set} {k : ℕ} {b : Bool} → Stands ps v k b → seen ps (left_if b k) ≡ with_place v k (Some None)
+left_seen {b = true} s = s.changes None
+left_seen {ps} {v} {k} {b = false} s = mark_kept ps k false false s.mark.0 s.mark.1 refl ∙ s.changes None
+
+-- it comes back with the mark that it had
+kept_seen : {ps v : Set} {k : ℕ} {b : Bool} (on : Bool) → Stands ps v k b → b ≡ on → ps ≡ with_place v k (Some (mark_if on))
+kept_seen {ps} {v} {k} {b} on s is = mark_kept ps k b on s.mark.0 s.mark.1 is ∙ s.changes (mark_if on)
+
+-- and with another mark it stands there
+renewed_set : {ps v new : Set} {k : ℕ} {b : Bool} (on : Bool) → Stands ps v k b → new ≡ with_place ps k (Some (mark_if on)) → IsSet new None
+renewed_set {ps} {v} {new} {k} on s is =
+    (subst (Rises 0 (2 ^ 40)) (sym is) (rises_with ps 0 (2 ^ 40) k (Some (mark_if on)) s.mark.0 (omega arith) (place_below ps 0 (2 ^ 40) k s.mark.0 (ap is_some s.mark.1))), tt)
+
+renewed_seen : {ps v new : Set} {k : ℕ} {b : Bool} (on : Bool) → Stands ps v k b → new ≡ with_place ps k (Some (mark_if on)) → new ≡ with_place v k (Some (mark_if on))
+renewed_seen on s is = is ∙ s.changes (mark_if on)
+
+-- THE SETS OF ALL KINDS
+
+-- what is seen of each
+abbrev pub AreSeen : Set → Set → Set → Option (ℕ × Kind) → SetsView → Type 0
+AreSeen r w m left v = record { runnable = seen r (left_of in_runnable left); waiting = seen w (left_of in_waiting left); movable = seen m (left_of in_movable left) } ≡ v
+
+-- a number that stands in each set as told
+pub record AllStand (r w m : Set) (v : SetsView) (k : ℕ) (has : Kind) : Type 0 where
+  pub runnable : Stands r v.runnable k (in_runnable has)
+  pub waiting : Stands w v.waiting k (in_waiting has)
+  pub movable : Stands m v.movable k (in_movable has)
+
+pub comes_back : {r w m : Set} {left : Option (ℕ × Kind)} {v : SetsView} (k : ℕ) (had : Kind) → AreSets r w m left → AreSeen r w m left v → left ≡ Some (k, had) → HasMarks v k kind.Other → AllStand r w m v k had
+comes_back {r} {w} {m} {left} {v} k had sets is here marks = by (subst (AreSets r w m) here sets) (subst (λ l. AreSeen r w m l v) here is)
+  where
+    by : AreSets r w m (Some (k, had)) → AreSeen r w m (Some (k, had)) v → AllStand r w m v k had
+    by s e =
+        record {
+          runnable = stands_back r v.runnable k (in_runnable had) s.runnable_set (ap (λ x. x.runnable) e) marks.runnable;
+          waiting = stands_back w v.waiting k (in_waiting had) s.waiting_set (ap (λ x. x.waiting) e) marks.waiting;
+          movable = stands_back m v.movable k (in_movable had) s.movable_set (ap (λ x. x.movable) e) marks.movable;
+        }
+
+pub other_left : {r w m r2 w2 m2 : Set} {left : Option (ℕ × Kind)} {v : SetsView} (k : ℕ) (has : Kind) → AreSets r w m left → AreSeen r w m left v → HasMarks v k has
+    → r2 ≡ seen r (left_of in_runnable left) → w2 ≡ seen w (left_of in_waiting left) → m2 ≡ seen m (left_of in_movable left) → AllStand r2 w2 m2 v k has
+other_left {r} {w} {m} {r2} {w2} {m2} {left} {v} k has sets is marks rs ws ms =
+    record {
+      runnable = stands_other r v.runnable r2 (left_of in_runnable left) k (in_runnable has) sets.runnable_set (ap (λ x. x.runnable) is) rs marks.runnable;
+      waiting = stands_other w v.waiting w2 (left_of in_waiting left) k (in_waiting has) sets.waiting_set (ap (λ x. x.waiting) is) ws marks.waiting;
+      movable = stands_other m v.movable m2 (left_of in_movable left) k (in_movable has) sets.movable_set (ap (λ x. x.movable) is) ms marks.movable;
+    }
+
+-- three sets, each with the mark
+as_told : {r w m : Set} (v : SetsView) (k : ℕ) (has : Kind) → r ≡ with_place v.runnable k (Some (mark_if (in_runnable has))) → w ≡ with_place v.waiting k (Some (mark_if (in_waiting has)))
+    → m ≡ with_place v.movable k (Some (mark_if (in_movable has))) → record { runnable = r; waiting = w; movable = m } ≡ with_marks v k has
+as_told {r} {w} {m} v k has rs ws ms =
+    let told = with_marks v k has in
+    ap (λ x. record { runnable = x; waiting = w; movable = m }) rs ∙ ap (λ x. record { runnable = told.runnable; waiting = x; movable = m }) ws ∙ ap (λ x. record { runnable = told.runnable; waiting = told.waiting; movable = x }) ms
+
+-- a number whose marks stay
+pub same_marks : {r w m : Set} {left : Option (ℕ × Kind)} {v : SetsView} (k : ℕ) (had has : Kind) → AreSets r w m left → AreSeen r w m left v → HasMarks v k had → had ≡ has → v ≡ with_marks v k has
+same_marks {r} {w} {m} {left} {v} k had has s is marks e =
+    as_told v k has (mark_kept v.runnable k (in_runnable had) (in_runnable has) (rises (λ u. u.runnable) (seen_rises r (left_of in_runnable left) s.runnable_set)) marks.runnable (ap in_runnable e))
+    (mark_kept v.waiting k (in_waiting had) (in_waiting has) (rises (λ u. u.waiting) (seen_rises w (left_of in_waiting left) s.waiting_set)) marks.waiting (ap in_waiting e))
+    (mark_kept v.movable k (in_movable had) (in_movable has) (rises (λ u. u.movable) (seen_rises m (left_of in_movable left) s.movable_set)) marks.movable (ap in_movable e))
+  where
+    rises : (part : SetsView → Set) → Rises 0 (2 ^ 40) (part (record { runnable = seen r (left_of in_runnable left); waiting = seen w (left_of in_waiting left); movable = seen m (left_of in_movable left) })) → Rises 0 (2 ^ 40) (part v)
+    rises part h = subst (λ u. Rises 0 (2 ^ 40) (part u)) is h
+
+-- it leaves with its marks
+pub left_all : {r w m : Set} {v : SetsView} {k : ℕ} {had : Kind} → AllStand r w m v k had → AreSets r w m (Some (k, had))
+left_all s = record { runnable_set = left_set s.runnable; waiting_set = left_set s.waiting; movable_set = left_set s.movable }
+
+pub left_marks : {r w m : Set} {v : SetsView} {k : ℕ} {had : Kind} → AllStand r w m v k had → AreSeen r w m (Some (k, had)) (with_marks v k kind.Other)
+left_marks {v = v} {k} s = as_told v k kind.Other (left_seen s.runnable) (left_seen s.waiting) (left_seen s.movable)
+
+-- it comes back with those that it had
+pub kept_marks : {r w m : Set} {v : SetsView} {k : ℕ} {had : Kind} (has : Kind) → AllStand r w m v k had → had ≡ has → AreSeen r w m None (with_marks v k has)
+kept_marks {v = v} {k} has s e = as_told v k has (kept_seen (in_runnable has) s.runnable (ap in_runnable e)) (kept_seen (in_waiting has) s.waiting (ap in_waiting e)) (kept_seen (in_movable has) s.movable (ap in_movable e))
+
+-- or with others
+pub renewed_all : {r w m r2 w2 m2 : Set} {v : SetsView} {k : ℕ} {had : Kind} (has : Kind) → AllStand r w m v k had → r2 ≡ with_place r k (Some (mark_if (in_runnable has))) → w2 ≡ with_place w k (Some (mark_if (in_waiting has)))
+    → m2 ≡ with_place m k (Some (mark_if (in_movable has))) → AreSets r2 w2 m2 None
+renewed_all has s rs ws ms = record { runnable_set = renewed_set (in_runnable has) s.runnable rs; waiting_set = renewed_set (in_waiting has) s.waiting ws; movable_set = renewed_set (in_movable has) s.movable ms }
+
+pub renewed_marks : {r w m r2 w2 m2 : Set} {v : SetsView} {k : ℕ} {had : Kind} (has : Kind) → AllStand r w m v k had → r2 ≡ with_place r k (Some (mark_if (in_runnable has))) → w2 ≡ with_place w k (Some (mark_if (in_waiting has)))
+    → m2 ≡ with_place m k (Some (mark_if (in_movable has))) → AreSeen r2 w2 m2 None (with_marks v k has)
+renewed_marks {v = v} {k} has s rs ws ms = as_told v k has (renewed_seen (in_runnable has) s.runnable rs) (renewed_seen (in_waiting has) s.waiting ws) (renewed_seen (in_movable has) s.movable ms)
+
+-- places that were made where none has left
+pub freed_sets : {r w m r2 w2 m2 : Set} {left after : Option (ℕ × Kind)} (k : ℕ) → AreSets r w m left → k < 2 ^ 40 → IsFreed (seen r (left_of in_runnable left)) r2 k → IsFreed (seen w (left_of in_waiting left)) w2 k
+    → IsFreed (seen m (left_of in_movable left)) m2 k → after ≡ None → AreSets r2 w2 m2 after
+freed_sets {r} {w} {m} {r2} {w2} {m2} {left} k s below rf wf mf none =
+    subst (AreSets r2 w2 m2) (sym none)
+    (record {
+      runnable_set = (freed_rises k (seen_rises r (left_of in_runnable left) s.runnable_set) below rf, tt);
+      waiting_set = (freed_rises k (seen_rises w (left_of in_waiting left) s.waiting_set) below wf, tt);
+      movable_set = (freed_rises k (seen_rises m (left_of in_movable left) s.movable_set) below mf, tt);
+    })
+
+-- BY RANK
 
 -- one mark fewer than stand in the map
-pub one_fewer : (ps v : Set) (l : Option ℕ) (k : ℕ) → Rises 0 (2 ^ 40) ps → HasLeft ps l → l ≡ Some k → seen ps l ≡ v → length (entries v) + 1 ≡ length (entries ps)
-one_fewer ps v None k r h e s = absurd cc
-one_fewer ps v (Some j) k r h e s =
-    let count = count_with ps 0 (2 ^ 40) j (Some None) r (ap is_some (place_of ps j tt h.1)) in
-    let item : count_of (item_at ps j) ≡ 1 = ap count_of h.1 in
-    let there : length (entries v) ≡ length (entries (with_place ps j (Some None))) = ap (λ u. length (entries u)) (sym s) in
-    omega (arith, count, item, there)
+pub one_fewer : (ps : Set) (l : Option ℕ) (k : ℕ) → IsSet ps l → l ≡ Some k → length (entries (seen ps l)) + 1 ≡ length (entries ps)
+one_fewer ps None k s e = absurd cc
+one_fewer ps (Some j) k s e =
+    let count = count_with ps 0 (2 ^ 40) j (Some None) s.0 (ap is_some (place_of ps j tt s.1.1)) in
+    let item : count_of (item_at ps j) ≡ 1 = ap count_of s.1.1 in
+    omega (arith, count, item)
 
 -- the mark of some rank
-pub rank_seen : (ps v : Set) (l : Option ℕ) (k i : ℕ) → Rises 0 (2 ^ 40) ps → HasLeft ps l → l ≡ Some k → seen ps l ≡ v → key_at v i ≡ passed k (key_at ps i) (key_at ps (i + 1))
-rank_seen ps v None k i r h e s = absurd cc
-rank_seen ps v (Some j) k i r h e s =
+pub rank_seen : (ps : Set) (l : Option ℕ) (k i : ℕ) → IsSet ps l → l ≡ Some k → key_at (seen ps l) i ≡ passed k (key_at ps i) (key_at ps (i + 1))
+rank_seen ps None k i s e = absurd cc
+rank_seen ps (Some j) k i s e =
     let key : j ≡ k = cc in
-    ap (λ u. key_at u i) (sym s) ∙ rank_left ps 0 (2 ^ 40) j tt i r h.1 ∙ ap (λ q. passed q (key_at ps i) (key_at ps (suc i))) key ∙ ap (λ m. passed k (key_at ps i) (key_at ps m)) next
+    rank_left ps 0 (2 ^ 40) j tt i s.0 s.1.1 ∙ ap (λ q. passed q (key_at ps i) (key_at ps (suc i))) key ∙ ap (λ m. passed k (key_at ps i) (key_at ps m)) next
   where
     next : suc i ≡ i + 1
     next = omega arith
@@ -266,10 +355,6 @@ marked_item : {T : Type 0} {f : T → Bool} {all : List (Place T)} {set : Set} (
 marked_item {f = f} {all} {set} k r m =
     item_found set 0 (2 ^ 40) k m.rises ∙ ap (λ es. find es k) m.same ∙ sym (item_found (marked f all) 0 (2 ^ 40) k (marked_rises f all 0 (2 ^ 40) r)) ∙ ap item_in (marks_at f all k) ∙ mark_in f (place_at all k)
 
--- one that stands there
-pub was_marked : {T : Type 0} {f : T → Bool} {all : List (Place T)} {set : Set} (k : ℕ) (v : T) (b : Bool) → Rises 0 (2 ^ 40) all → IsMarked f all set → item_at all k ≡ Some v → b ≡ f v → item_at set k ≡ mark_if b
-was_marked {f = f} k v b r m here test = marked_item k r m ∙ ap (mark_of f) here ∙ ap mark_if (sym test)
-
--- and a number without an item isn't
-pub wasnt_marked : {T : Type 0} {f : T → Bool} {all : List (Place T)} {set : Set} (k : ℕ) → Rises 0 (2 ^ 40) all → IsMarked f all set → item_at all k ≡ None → item_at set k ≡ None
-wasnt_marked {f = f} k r m none = marked_item k r m ∙ ap (mark_of f) none
+-- and so is the place of a key, with an item or without one
+pub mark_at : {T : Type 0} {f : T → Bool} {all : List (Place T)} {set : Set} (k : ℕ) (x : Option T) → Rises 0 (2 ^ 40) all → IsMarked f all set → has_place all k ≡ true → item_at all k ≡ x → place_at set k ≡ Some (mark_of f x)
+mark_at {f = f} {all} {set} k x r m place here = place_kept set k (m.places k place) ∙ ap Some (marked_item k r m ∙ ap (mark_of f) here)

@@ -1,5 +1,5 @@
 -- The threads of a server beside the sets of those that can step, wait and may be moved, and how many aren't over.
-use Rattle.std.proofs.Common.{if◌then◌else◌, ◌≡◌, ℕ, ◌^◌, ◌≤◌, ◌<◌, ◌==◌, ◌&&◌, Bool, true, false, true≢false, List, [], ◌∷◌, map, length, slice_get, is_some, Option, None, Some, IsSome, option_map, Result, Ok, Err, OnOk, OnErr, refl, sym, subst, ap, ◌∙◌, arith}
+use Rattle.std.proofs.Common.{if◌then◌else◌, ◌≡◌, inl, inr, ℕ, ◌^◌, ◌≤◌, ◌<◌, ◌==◌, ◌&&◌, Bool, true, false, true≢false, List, [], ◌∷◌, map, length, slice_get, is_some, Option, None, Some, IsSome, option_map, Result, Ok, Err, OnOk, OnErr, refl, sym, subst, ap, ◌∙◌, arith}
 use Rattle.std.proofs.lemmas.Bool.{eqb-true}
 use Rattle.std.proofs.lemmas.List.{length-map}
 use Rattle.std.proofs.lemmas.Option.{slice_get-map}
@@ -14,6 +14,7 @@ use Rattle.thread_state.specs.declared.phase.Phase.{Phase}
 use Rattle.server_model.specs.Events.{can_step, is_ready, has_phase}
 use Rattle.server_model.specs.Work.{thread_in, set_thread, with_thread}
 use Rattle.server_model.specs.Questions.{runnable_in, active_in, movable_in}
+use Rattle.server_parts.specs.Seen.{IsFreed}
 use Rattle.server_parts.specs.Threads.{states, HasKey, AreNumbered, steps, waits, moves, AreThreads}
 use Rattle.server_parts.proofs.RoomLemmas.{new_place}
 use Rattle.server_parts.proofs.SeenLemmas.{marks_at}
@@ -33,15 +34,21 @@ no_threads =
       count = refl;
     }
 
--- a free place for a number in each set
-pub free_runnable : {all : List (Place ThreadView)} {r w m new : List (Place (Unit {0}))} {a : ℕ} (k : ℕ) → AreThreads all r w m a → k < 2 ^ 40 → new ≡ with_free r k → AreThreads all new w m a
-free_runnable k t below is = record { rises = t.rises; numbered = t.numbered; runnable_set = set_free k t.runnable_set below is; waiting_set = t.waiting_set; movable_set = t.movable_set; count = t.count }
+-- a set that has a free place for a number, or is as it was
+freed_set : {f : ThreadView → Bool} {all : List (Place ThreadView)} {set new : List (Place (Unit {0}))} (k : ℕ) → IsMarked f all set → k < 2 ^ 40 → IsFreed set new k → IsMarked f all new
+freed_set {f} {all} k m below (inl is) = subst (IsMarked f all) (sym is) m
+freed_set k m below (inr is) = set_free k m below is
 
-pub free_waiting : {all : List (Place ThreadView)} {r w m new : List (Place (Unit {0}))} {a : ℕ} (k : ℕ) → AreThreads all r w m a → k < 2 ^ 40 → new ≡ with_free w k → AreThreads all r new m a
-free_waiting k t below is = record { rises = t.rises; numbered = t.numbered; runnable_set = t.runnable_set; waiting_set = set_free k t.waiting_set below is; movable_set = t.movable_set; count = t.count }
-
-pub free_movable : {all : List (Place ThreadView)} {r w m new : List (Place (Unit {0}))} {a : ℕ} (k : ℕ) → AreThreads all r w m a → k < 2 ^ 40 → new ≡ with_free m k → AreThreads all r w new a
-free_movable k t below is = record { rises = t.rises; numbered = t.numbered; runnable_set = t.runnable_set; waiting_set = t.waiting_set; movable_set = set_free k t.movable_set below is; count = t.count }
+pub sets_freed : {all : List (Place ThreadView)} {r w m r2 w2 m2 : List (Place (Unit {0}))} {a : ℕ} (k : ℕ) → AreThreads all r w m a → k < 2 ^ 40 → IsFreed r r2 k → IsFreed w w2 k → IsFreed m m2 k → AreThreads all r2 w2 m2 a
+sets_freed k t below rf wf mf =
+    record {
+      rises = t.rises;
+      numbered = t.numbered;
+      runnable_set = freed_set k t.runnable_set below rf;
+      waiting_set = freed_set k t.waiting_set below wf;
+      movable_set = freed_set k t.movable_set below mf;
+      count = t.count;
+    }
 
 numbered_free : (ps : List (Place ThreadView)) (k : ℕ) → AreNumbered ps → AreNumbered (with_free ps k)
 numbered_free ps k n = by (has_place ps k)
@@ -61,7 +68,7 @@ same_states ps k = ap (λ es. map (λ v. v.state) (map (λ e. e.item) es)) (free
 pub all_free : {X E : Type 0} {all after : List (Place ThreadView)} {r w m r2 w2 m2 : List (Place (Unit {0}))} {a : ℕ} (k : ℕ) (x : Result X E) → AreThreads all r w m a → k < 2 ^ 40 → r2 ≡ with_free r k → w2 ≡ with_free w k → m2 ≡ with_free m k
     → OnOk x (after ≡ with_free all k) → OnErr x (after ≡ all) → AreThreads after r2 w2 m2 a
 all_free {all = all} {r = r} {w} {m} k (Ok x) t below rf wf mf is same =
-    let sets = free_movable k (free_waiting k (free_runnable k t below rf) below wf) below mf in
+    let sets = sets_freed k t below (inr rf) (inr wf) (inr mf) in
     record {
       rises = subst (Rises 0 (2 ^ 40)) (sym is) (free_rises all k t.rises below);
       numbered = subst AreNumbered (sym is) (numbered_free all k t.numbered);
@@ -71,7 +78,7 @@ all_free {all = all} {r = r} {w} {m} k (Ok x) t below rf wf mf is same =
       count = t.count ∙ ap active_in (sym (ap states is ∙ same_states all k));
     }
 all_free {r2 = r2} {w2} {m2} {a} k (Err e) t below rf wf mf is same =
-    subst (λ ps. AreThreads ps r2 w2 m2 a) (sym same) (free_movable k (free_waiting k (free_runnable k t below rf) below wf) below mf)
+    subst (λ ps. AreThreads ps r2 w2 m2 a) (sym same) (sets_freed k t below (inr rf) (inr wf) (inr mf))
 
 -- another thread at a place, or none, with its marks
 pub all_changed : {all after : List (Place ThreadView)} {r w m r2 w2 m2 : List (Place (Unit {0}))} {a a2 : ℕ} (k : ℕ) (x : Option ThreadView) → AreThreads all r w m a → has_place all k ≡ true → k < 2 ^ 40 → HasKey k x

@@ -4,6 +4,7 @@
 
 mod access;
 mod idle;
+mod kind;
 mod marks;
 mod needing;
 mod places;

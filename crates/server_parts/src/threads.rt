@@ -8,9 +8,11 @@ ghost use Rattle.server_model.specs.Work.{thread_in, set_thread, with_thread, wi
 ghost use Rattle.thread_state.specs.View.{ThreadState};
 ghost use Rattle.server_model.specs.Questions.{runnable_in, wait_of, waits_among, active_in, movable_in};
 ghost use Rattle.server_parts.specs.Growing.{HaveThreadsGrown};
+ghost use Rattle.server_parts.specs.Seen.{in_runnable, in_waiting, in_movable};
 ghost use Rattle.server_parts.specs.Sites.{HasItems};
 ghost use Rattle.server_parts.specs.Threads.{states, steps, waits, moves};
 
+use crate::kind::Kind;
 use crate::marks::Marks;
 use fr_base::{NoMemory, ThreadNo, Wait};
 use server_index::Table;
@@ -21,16 +23,14 @@ use thread_state::{BoxedThread, Phase, Thread};
 /// The threads that stand at a server, those that are over among them. Contracts see a place for each number for which there is
 /// room, by rising number, with its thread where one stands there.
 ///
-/// A thread that a call found shortly before is found, put and taken in a handful of steps, any other in some forty, the bits of a number,
-/// however many there are; the one of some rank among those that can step or wait, and the first that may be moved, in one step where at most
-/// sixteen can, else in some forty. Threads that are over cost nothing. Only `reserve` takes memory.
+/// A thread is found, put and taken in a handful of steps, however many there are; the one of some rank among those that can step or wait, and
+/// the first that may be moved, in one step where at most sixteen can, else in at most some three hundred (`MarkSet`). Threads that are over
+/// cost nothing. Only `reserve` takes memory.
 #[derive(Drop)]
 pub struct Threads {
     all: Table<BoxedThread>,
     // those that can step, that wait at a lock, a join or a pair, and that may be moved
-    runnable: Marks,
-    waiting: Marks,
-    movable: Marks,
+    marks: Marks,
     // how many aren't over
     active: usize,
 }
@@ -45,7 +45,7 @@ impl Model for Threads {
 
     ghost view = { λ t. t.all };
 
-    ghost invariant = { λ t. AreThreads t.all t.runnable t.waiting t.movable t.active };
+    ghost invariant = { λ t. AreThreads t.all t.marks.runnable t.marks.waiting t.marks.movable t.active };
 }
 
 /// Whether the thread doesn't wait.
@@ -58,24 +58,22 @@ pub fn can_step(thread: &Thread) -> bool
     )
 }
 
-// The same of a thread in its box.
-fn is_runnable(thread: &BoxedThread) -> bool
-    ensures { result ≡ steps thread.now }
+// Which marks a thread has.
+fn kind_of(thread: &BoxedThread) -> Kind
+    ensures runnable { in_runnable result ≡ steps thread.now }
+    ensures waiting { in_waiting result ≡ waits thread.now }
+    ensures movable { in_movable result ≡ moves thread.now }
 {
-    can_step(thread.get())
+    match &thread.thread.phase {
+        Phase::Ready if thread.thread.moved_since_step => Kind::Steps,
+        Phase::Ready => Kind::Moves,
+        Phase::Got | Phase::GotPar(_, _) | Phase::Taken(_) => Kind::Steps,
+        Phase::WaitLock(_) | Phase::WaitJoin(_) | Phase::WaitPar(_, _) => Kind::Waits,
+        Phase::WaitCell(_) | Phase::WaitDup(_) | Phase::Over => Kind::Other,
+    }
 }
 
-// Whether it waits at a lock, a join or a pair.
-fn is_waiting(thread: &BoxedThread) -> bool
-    ensures { result ≡ waits thread.now }
-{
-    matches!(
-        &thread.thread.phase,
-        Phase::WaitLock(_) | Phase::WaitJoin(_) | Phase::WaitPar(_, _)
-    )
-}
-
-// What it waits for there.
+// What a thread waits for at a lock, a join or a pair.
 fn wait_of(thread: &BoxedThread) -> Option<Wait>
     ensures { result ≡ wait_of thread.now.state.phase }
 {
@@ -85,13 +83,6 @@ fn wait_of(thread: &BoxedThread) -> Option<Wait>
         Phase::WaitPar(first, second) => Some(Wait::Par(*first, *second)),
         _ => None,
     }
-}
-
-// Whether it is ready and hasn't moved since its last plain step.
-fn is_movable(thread: &BoxedThread) -> bool
-    ensures { result ≡ moves thread.now }
-{
-    matches!(&thread.thread.phase, Phase::Ready) && !thread.thread.moved_since_step
 }
 
 // One, if it isn't over.
@@ -123,9 +114,7 @@ impl Threads {
     {
         Threads {
             all: Table::new(alloc),
-            runnable: Marks::new(alloc),
-            waiting: Marks::new(alloc),
-            movable: Marks::new(alloc),
+            marks: Marks::new(alloc),
             active: 0,
         }
     }
@@ -143,9 +132,7 @@ impl Threads {
         if self.all.has_place(number) {
             return Ok(());
         }
-        self.runnable.reserve(number)?;
-        self.waiting.reserve(number)?;
-        self.movable.reserve(number)?;
+        self.marks.reserve(number)?;
         self.all.reserve(number)
     }
 
@@ -168,9 +155,7 @@ impl Threads {
         ensures places { self.new ≡ with_place self.old thread.state.number (Some (Some thread)) }
     {
         let number = thread.number().number();
-        self.runnable.change(number, false, is_runnable(&thread));
-        self.waiting.change(number, false, is_waiting(&thread));
-        self.movable.change(number, false, is_movable(&thread));
+        self.marks.come(number, kind_of(&thread));
         self.active += active_in(&thread);
         self.all.insert(number, thread);
     }
@@ -192,9 +177,7 @@ impl Threads {
         let Some(taken) = self.all.take(number) else {
             unreachable!();
         };
-        self.runnable.change(number, is_runnable(&taken), false);
-        self.waiting.change(number, is_waiting(&taken), false);
-        self.movable.change(number, is_movable(&taken), false);
+        self.marks.leave(number, kind_of(&taken));
         self.active -= active_in(&taken);
         taken
     }
@@ -228,7 +211,7 @@ impl Threads {
     pub fn stepping(&self) -> usize
         ensures { result ≡ length (runnable_in (states self.now)) }
     {
-        self.runnable.len()
+        self.marks.stepping()
     }
 
     /// The thread at that place, from 0, among those that can step, by rising number; it stands there. `None` exactly past the end.
@@ -236,7 +219,7 @@ impl Threads {
         ensures thread { result ≡ slice_get (runnable_in (states self.now)) at }
         ensures stands { IfSome result (λ thread. has_phase can_step (thread_in (states self.now) thread) ≡ true) }
     {
-        match self.runnable.nth(at) {
+        match self.marks.runnable(at) {
             Some(number) => Some(ThreadNo::from_number(number)),
             None => None,
         }
@@ -247,7 +230,7 @@ impl Threads {
     pub fn waits_at(&self, at: usize) -> Option<(ThreadNo, Wait)>
         ensures { result ≡ slice_get (waits_among (states self.now) []) at }
     {
-        let Some(number) = self.waiting.nth(at) else {
+        let Some(number) = self.marks.waiting(at) else {
             return None;
         };
         match self.all.get(number) {
@@ -264,7 +247,7 @@ impl Threads {
         ensures thread { result ≡ movable_in (states self.now) }
         ensures stands { IfSome result (λ thread. has_phase is_ready (thread_in (states self.now) thread) ≡ true) }
     {
-        match self.movable.nth(0) {
+        match self.marks.movable(0) {
             Some(number) => Some(ThreadNo::from_number(number)),
             None => None,
         }

@@ -1,9 +1,27 @@
-use Rattle.std.proofs.Common.{sym, subst, ◌^◌}
-use Rattle.rank_map.specs.Places.{Rises}
-use Rattle.server_parts.proofs.SeenLemmas.{seen_rises, none_left, reserved_rises}
+use Rattle.std.proofs.Common.{inl}
+use Rattle.server_parts.proofs.SeenLemmas.{reserved_freed, freed_sets}
 use Rattle.server_parts.proofs.marks.Marks.reserve.Goals as goal
 
 pub invariant_of-self : goal.invariant_of-self
 invariant_of-self c =
-    let r : Rises 0 (2 ^ 40) c.forget.new.set = subst (Rises 0 (2 ^ 40)) (sym c.forget.ensures.set) (seen_rises c.self.inside.set c.self.inside.left c.self.invariant.0 c.self.invariant.1) in
-    (reserved_rises c.forget.new.set c.reserve.new.self c.args.number c.reserve.result r c.requires.few c.reserve.ensures.place c.reserve.ensures.refused, none_left c.reserve.new.self c.forget.new.left c.forget.ensures.left)
+    freed_sets c.args.number c.self.invariant c.requires.few
+    (reserved_freed _ c.forget.new.runnable c.reserve.new.self c.args.number c.reserve.result c.forget.ensures.runnable c.reserve.ensures.place c.reserve.ensures.refused)
+    (inl c.forget.ensures.waiting)
+    (inl c.forget.ensures.movable)
+    c.forget.ensures.left
+
+pub invariant_of-self-in_err-reserve-2 : goal.invariant_of-self-in_err-reserve-2
+invariant_of-self-in_err-reserve-2 c =
+    freed_sets c.args.number c.self.invariant c.requires.few
+    (reserved_freed _ c.forget.new.runnable c.reserve.new.self c.args.number c.reserve.result c.forget.ensures.runnable c.reserve.ensures.place c.reserve.ensures.refused)
+    (reserved_freed _ c.forget.new.waiting c.reserve-2.new.self c.args.number c.reserve-2.result c.forget.ensures.waiting c.reserve-2.ensures.place c.reserve-2.ensures.refused)
+    (inl c.forget.ensures.movable)
+    c.forget.ensures.left
+
+pub invariant_of-self-2 : goal.invariant_of-self-2
+invariant_of-self-2 c =
+    freed_sets c.args.number c.self.invariant c.requires.few
+    (reserved_freed _ c.forget.new.runnable c.reserve.new.self c.args.number c.reserve.result c.forget.ensures.runnable c.reserve.ensures.place c.reserve.ensures.refused)
+    (reserved_freed _ c.forget.new.waiting c.reserve-2.new.self c.args.number c.reserve-2.result c.forget.ensures.waiting c.reserve-2.ensures.place c.reserve-2.ensures.refused)
+    (reserved_freed _ c.forget.new.movable c.reserve-3.new.self c.args.number c.reserve-3.result c.forget.ensures.movable c.reserve-3.ensures.place c.reserve-3.ensures.refused)
+    c.forget.ensures.left

@@ -5,7 +5,7 @@ use Rattle.server_model.specs.Work.{thread_in, with_thread}
 use Rattle.server_model.specs.Questions.{active_in}
 use Rattle.server_parts.specs.Threads.{states}
 use Rattle.server_parts.proofs.ThreadLemmas.{put_states, active_with, active_few}
-use Rattle.server_parts.proofs.SeenLemmas.{wasnt_marked}
+use Rattle.server_parts.proofs.SeenLemmas.{mark_at}
 use Rattle.server_parts.proofs.StandLemmas.{all_changed, absent_item, active_below}
 use Rattle.server_parts.proofs.threads.Threads.insert.Goals as goal
 
@@ -20,9 +20,9 @@ invariant_of-self c =
     let placed = ap states c.insert.ensures.places ∙ put_states c.self.inside.all 0 (2 ^ 40) k c.args.thread c.self.invariant.rises c.self.invariant.numbered number (absent_item k c.self.invariant absent) in
     let many = ap active_in placed ∙ active_with (states c.self.inside.all) c.args.thread.state in
     all_changed k (Some c.args.thread) c.self.invariant here below number c.insert.ensures.places
-    (c.change.ensures ∙ ap (λ b. with_place c.self.inside.runnable k (Some (mark_if b))) c.is_runnable.ensures)
-    (c.change-2.ensures ∙ ap (λ b. with_place c.self.inside.waiting k (Some (mark_if b))) c.is_waiting.ensures)
-    (c.change-3.ensures ∙ ap (λ b. with_place c.self.inside.movable k (Some (mark_if b))) c.is_movable.ensures)
+    (ap (λ v. v.runnable) c.come.ensures ∙ ap (λ b. with_place c.self.inside.marks.runnable k (Some (mark_if b))) c.kind_of.ensures.runnable)
+    (ap (λ v. v.waiting) c.come.ensures ∙ ap (λ b. with_place c.self.inside.marks.waiting k (Some (mark_if b))) c.kind_of.ensures.waiting)
+    (ap (λ v. v.movable) c.come.ensures ∙ ap (λ b. with_place c.self.inside.marks.movable k (Some (mark_if b))) c.kind_of.ensures.movable)
     (omega (arith, many, c.self.invariant.count, c.active_in.ensures))
 
 pub returns-clause-state : goal.returns-clause-state
@@ -35,32 +35,20 @@ returns-clause-state c =
     ∙ put_states c.self.inside.all 0 (2 ^ 40) k c.args.thread c.self.invariant.rises c.self.invariant.numbered number (absent_item k c.self.invariant absent)
     ∙ ap (λ ps. with_thread (states ps) c.args.thread.state) c.self.view_is
 
-pub change-requires : goal.change-requires
-change-requires c =
+pub come-requires : goal.come-requires
+come-requires c =
     let k = c.number-number.result in
     let number : c.args.thread.state.number ≡ k = sym (c.number-number.ensures.number ∙ c.number.ensures) in
     let here : has_place c.self.inside.all k ≡ true = subst (λ i. has_place c.self.inside.all i ≡ true) number (subst (λ ps. has_place ps c.args.thread.state.number ≡ true) (sym c.self.view_is) c.requires.room) in
     let absent : thread_in (states c.self.inside.all) k ≡ None =
     subst (λ i. thread_in (states c.self.inside.all) i ≡ None) number (subst (λ ps. thread_in (states ps) c.args.thread.state.number ≡ None) (sym c.self.view_is) c.requires.absent) in
-    record { place = c.self.invariant.runnable_set.places k here; was = wasnt_marked k c.self.invariant.rises c.self.invariant.runnable_set (absent_item k c.self.invariant absent) }
-
-pub change-requires-2 : goal.change-requires-2
-change-requires-2 c =
-    let k = c.number-number.result in
-    let number : c.args.thread.state.number ≡ k = sym (c.number-number.ensures.number ∙ c.number.ensures) in
-    let here : has_place c.self.inside.all k ≡ true = subst (λ i. has_place c.self.inside.all i ≡ true) number (subst (λ ps. has_place ps c.args.thread.state.number ≡ true) (sym c.self.view_is) c.requires.room) in
-    let absent : thread_in (states c.self.inside.all) k ≡ None =
-    subst (λ i. thread_in (states c.self.inside.all) i ≡ None) number (subst (λ ps. thread_in (states ps) c.args.thread.state.number ≡ None) (sym c.self.view_is) c.requires.absent) in
-    record { place = c.self.invariant.waiting_set.places k here; was = wasnt_marked k c.self.invariant.rises c.self.invariant.waiting_set (absent_item k c.self.invariant absent) }
-
-pub change-requires-3 : goal.change-requires-3
-change-requires-3 c =
-    let k = c.number-number.result in
-    let number : c.args.thread.state.number ≡ k = sym (c.number-number.ensures.number ∙ c.number.ensures) in
-    let here : has_place c.self.inside.all k ≡ true = subst (λ i. has_place c.self.inside.all i ≡ true) number (subst (λ ps. has_place ps c.args.thread.state.number ≡ true) (sym c.self.view_is) c.requires.room) in
-    let absent : thread_in (states c.self.inside.all) k ≡ None =
-    subst (λ i. thread_in (states c.self.inside.all) i ≡ None) number (subst (λ ps. thread_in (states ps) c.args.thread.state.number ≡ None) (sym c.self.view_is) c.requires.absent) in
-    record { place = c.self.invariant.movable_set.places k here; was = wasnt_marked k c.self.invariant.rises c.self.invariant.movable_set (absent_item k c.self.invariant absent) }
+    record {
+      marks = record {
+        runnable = mark_at k None c.self.invariant.rises c.self.invariant.runnable_set here (absent_item k c.self.invariant absent);
+        waiting = mark_at k None c.self.invariant.rises c.self.invariant.waiting_set here (absent_item k c.self.invariant absent);
+        movable = mark_at k None c.self.invariant.rises c.self.invariant.movable_set here (absent_item k c.self.invariant absent);
+      };
+    }
 
 pub overflow_add-self : goal.overflow_add-self
 overflow_add-self c = let below = active_below c.self.invariant in let one = active_few (c.args.thread.state ∷ []) in omega (arith, below, one, c.active_in.ensures)

@@ -5,4 +5,4 @@ use Rattle.server_parts.proofs.StandLemmas.{runnable_many}
 use Rattle.server_parts.proofs.threads.Threads.stepping.Goals as goal
 
 pub returns : goal.returns
-returns c = c.len.ensures ∙ runnable_many c.self.invariant ∙ ap (λ ps. length (runnable_in (states ps))) c.self.view_is
+returns c = c.stepping.ensures ∙ runnable_many c.self.invariant ∙ ap (λ ps. length (runnable_in (states ps))) c.self.view_is

@@ -1,42 +1,28 @@
-use Rattle.std.proofs.Common.{◌≡◌, ◌<◌, ◌^◌, true, None, IsSome, option_map, sym, subst, ap, ◌∙◌, arith}
+use Rattle.std.proofs.Common.{◌≡◌, ◌<◌, ◌^◌, true, None, Some, IsSome, option_map, sym, subst, ap, ◌∙◌, arith}
 use Rattle.rank_map.specs.Places.{has_place, item_at}
+use Rattle.rank_map.specs.Marks.{mark_if}
 use Rattle.rank_map.proofs.MarkLemmas.{place_new}
 use Rattle.server_model.specs.Work.{thread_in, set_thread, without_thread}
 use Rattle.server_model.specs.Questions.{active_in}
 use Rattle.server_parts.specs.Threads.{states}
-use Rattle.server_parts.proofs.SeenLemmas.{was_marked}
+use Rattle.server_parts.proofs.SeenLemmas.{mark_at}
 use Rattle.server_parts.proofs.ThreadLemmas.{take_states, active_without}
 use Rattle.server_parts.proofs.StandLemmas.{all_changed, stands_at, there_item, found_thread, back_again, taken_absent, found_number}
 use Rattle.server_parts.proofs.threads.Threads.take.Goals as goal
 
-pub change-requires : goal.change-requires
-change-requires c =
+pub leave-requires : goal.leave-requires
+leave-requires c =
     let k = c.number-number.result in
     let stands : IsSome (thread_in (states c.self.inside.all) k) =
     subst (λ i. IsSome (thread_in (states c.self.inside.all) i)) (sym c.number-number.ensures.number) (subst (λ ps. IsSome (thread_in (states ps) c.args.thread)) (sym c.self.view_is) c.requires.there) in
+    let here = stands_at k c.self.invariant stands in
+    let item = sym c.take.ensures.item ∙ c.in-Some.is in
     record {
-      place = c.self.invariant.runnable_set.places k (stands_at k c.self.invariant stands);
-      was = was_marked k c.in-Some.taken c.is_runnable.result c.self.invariant.rises c.self.invariant.runnable_set (sym c.take.ensures.item ∙ c.in-Some.is) c.is_runnable.ensures;
-    }
-
-pub change-requires-2 : goal.change-requires-2
-change-requires-2 c =
-    let k = c.number-number.result in
-    let stands : IsSome (thread_in (states c.self.inside.all) k) =
-    subst (λ i. IsSome (thread_in (states c.self.inside.all) i)) (sym c.number-number.ensures.number) (subst (λ ps. IsSome (thread_in (states ps) c.args.thread)) (sym c.self.view_is) c.requires.there) in
-    record {
-      place = c.self.invariant.waiting_set.places k (stands_at k c.self.invariant stands);
-      was = was_marked k c.in-Some.taken c.is_waiting.result c.self.invariant.rises c.self.invariant.waiting_set (sym c.take.ensures.item ∙ c.in-Some.is) c.is_waiting.ensures;
-    }
-
-pub change-requires-3 : goal.change-requires-3
-change-requires-3 c =
-    let k = c.number-number.result in
-    let stands : IsSome (thread_in (states c.self.inside.all) k) =
-    subst (λ i. IsSome (thread_in (states c.self.inside.all) i)) (sym c.number-number.ensures.number) (subst (λ ps. IsSome (thread_in (states ps) c.args.thread)) (sym c.self.view_is) c.requires.there) in
-    record {
-      place = c.self.invariant.movable_set.places k (stands_at k c.self.invariant stands);
-      was = was_marked k c.in-Some.taken c.is_movable.result c.self.invariant.rises c.self.invariant.movable_set (sym c.take.ensures.item ∙ c.in-Some.is) c.is_movable.ensures;
+      marks = record {
+        runnable = mark_at k (Some c.in-Some.taken) c.self.invariant.rises c.self.invariant.runnable_set here item ∙ ap (λ b. Some (mark_if b)) (sym c.kind_of.ensures.runnable);
+        waiting = mark_at k (Some c.in-Some.taken) c.self.invariant.rises c.self.invariant.waiting_set here item ∙ ap (λ b. Some (mark_if b)) (sym c.kind_of.ensures.waiting);
+        movable = mark_at k (Some c.in-Some.taken) c.self.invariant.rises c.self.invariant.movable_set here item ∙ ap (λ b. Some (mark_if b)) (sym c.kind_of.ensures.movable);
+      };
     }
 
 pub take-requires : goal.take-requires
@@ -65,7 +51,8 @@ invariant_of-self c =
     let found = found_thread k c.self.invariant ∙ ap (option_map (λ v. v.state)) (sym c.take.ensures.item ∙ c.in-Some.is) in
     let many = active_without (states c.self.inside.all) k c.in-Some.taken.state found in
     let fewer = ap active_in gone in
-    all_changed k None c.self.invariant here below tt c.take.ensures.places c.change.ensures c.change-2.ensures c.change-3.ensures (omega (arith, many, fewer, c.self.invariant.count, c.active_in.ensures))
+    all_changed k None c.self.invariant here below tt c.take.ensures.places (ap (λ v. v.runnable) c.leave.ensures) (ap (λ v. v.waiting) c.leave.ensures) (ap (λ v. v.movable) c.leave.ensures)
+    (omega (arith, many, fewer, c.self.invariant.count, c.active_in.ensures))
 
 pub returns-clause-thread : goal.returns-clause-thread
 returns-clause-thread c =
