@@ -167,7 +167,7 @@ impl Server {
     /// Does an event, and gives its entry of the journal. The event is enabled and has a result here, as each enabled one has at a server of
     /// a coherent cluster; `room` made room for it, and no count of the server is near its end. Refuses nothing and takes no memory. A step
     /// takes time in the stars of its place, an eviction, a migration and a delivery in the values of the thread that they move, and each
-    /// finds its thread in some forty steps.
+    /// finds its thread in a handful of steps.
     #[tactic(auto, using(crate::proofs::ActLemmas::begins_step, crate::proofs::ActLemmas::ends_step, crate::proofs::ActLemmas::leaves, crate::proofs::ActLemmas::can_take, server_deliveries::proofs::DeliverLemmas::made_of))]
     pub fn act(&mut self, what: What) -> Entry
         requires enabled { enabled self.old.options self.old.state what ≡ true }
