@@ -10,6 +10,9 @@ use std::test::Fail;
 // How many items come.
 const COME: u64 = 60;
 
+// A row has the numbers with the same higher bits.
+const ROW: u64 = 1 << 32;
+
 // Puts an item last in a queue and in a list.
 fn put(queue: &mut FrontQueue<u64>, list: &mut Vec<u64>, item: u64) -> Result<(), NoMemory> {
     queue.reserve(1)?;
@@ -61,8 +64,16 @@ fn takes_from_front_and_behind(rt: HostRuntime) -> Result<(), Fail> {
     Ok(())
 }
 
-// A prime number: so many keys, some of which share a remainder by 64.
+// How many keys there are: a prime number.
 const KEYS: u64 = 257;
+
+// The key of a number, in one of three rows.
+fn key_of(number: u64) -> u64
+    requires { number < 257 }
+    ensures { result < 2 ^ 40 }
+{
+    number % 3 * ROW + number
+}
 
 // Puts an item at a key, for which it makes a place.
 #[tactic(auto, using(rank_map::proofs::MarkLemmas::free_there))]
@@ -86,15 +97,16 @@ fn leave(table: &mut Table<u64>, key: u64) -> Result<Option<u64>, NoMemory>
 fn finds_by_number(rt: HostRuntime) -> Result<(), Fail> {
     let mut table = Table::new(rt.alloc());
     for turn in 0..KEYS {
-        let key = turn * 37 % KEYS;
+        let key = key_of(turn * 37 % KEYS);
         assert!(rt; !table.has_place(key) && table.get(key).is_none());
         assert_eq!(rt; stand(&mut table, key, turn)?, None);
     }
     for turn in 0..KEYS {
-        let key = turn * 101 % KEYS;
+        let number = turn * 101 % KEYS;
+        let key = key_of(number);
         // 37 times 132 is 1 more than a multiple of 257
-        assert_eq!(rt; table.get(key), Some(&(key * 132 % KEYS)));
-        assert_eq!(rt; stand(&mut table, key, turn)?, Some(key * 132 % KEYS));
+        assert_eq!(rt; table.get(key), Some(&(number * 132 % KEYS)));
+        assert_eq!(rt; stand(&mut table, key, turn)?, Some(number * 132 % KEYS));
         assert_eq!(rt; leave(&mut table, key)?, Some(turn));
         assert!(rt; table.has_place(key) && table.get(key).is_none());
     }
@@ -140,9 +152,6 @@ fn marks_few_and_many(rt: HostRuntime) -> Result<(), Fail> {
     }
     Ok(())
 }
-
-// A row has the numbers with the same higher bits.
-const ROW: u64 = 1 << 32;
 
 // So many numbers are marked in each of three rows, so far apart: a row's states have sums of sums of sums, and more than one of them.
 const MANY: u64 = 5_000;
