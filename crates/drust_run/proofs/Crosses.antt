@@ -17,6 +17,7 @@ use Rattle.rank_map.proofs.block.Block.TheSendSync as block
 use Rattle.rank_map.proofs.tree.Tree.TheLaws.TheKnot.{send-Tree}
 use Rattle.read_cache.proofs.slot.Slot.TheSendSync as slot
 use Rattle.server_index.specs.contracts.marks.MarkSet as marks
+use Rattle.server_index.specs.contracts.queue.FrontQueue as queue
 use Rattle.server_index.specs.contracts.table.Table as table
 use Rattle.server_msgs.proofs.message.Message.TheSendSync as message
 use Rattle.server_parts.proofs.idle.Idle.TheSendSync as idle
@@ -24,7 +25,6 @@ use Rattle.server_parts.proofs.kind.Kind.TheSendSync as kind
 use Rattle.thread_state.proofs.boxed.BoxedThread.TheSendSync as boxed
 use Rattle.thread_state.proofs.value.Value.TheSendSync as value
 use Rattle.rank_map.specs.contracts.map.RankMap as map
-use Rattle.rank_map.specs.contracts.queue.Queue as queue
 use Rattle.read_cache.specs.contracts.cache.Cache as cache
 use Rattle.server_core.specs.contracts.server.Server as server
 use Rattle.server_parts.specs.contracts.spares.Spares as spares
@@ -37,7 +37,7 @@ map_send : (T : RattleType) → IsSend T → IsSend (map.the_field T).row
 map_send T s = search (crosses, sendable, send-Tree, block.the_send) depth 30
 
 queue_send : (T : RattleType) → IsSend T → IsSend (queue.the_field T).row
-queue_send T s = let a = map_send T s in search (crosses, sendable) depth 30
+queue_send T s = search (crosses, sendable) depth 30
 
 cache_send : IsSend (cache.the_field).row
 cache_send = search (crosses, sendable, map_send, slot.the_send, word.the_send, index.the_send) depth 30

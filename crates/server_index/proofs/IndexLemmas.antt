@@ -4,7 +4,8 @@ use Rattle.std.proofs.lemmas.List.{length-map, get_or-map, map-set, map_push}
 use Rattle.std.specs.declared.alloc.Global.{Global}
 use Rattle.rank_map.specs.Places.{Place, with_place}
 use Rattle.server_index.specs.Rows.{row_places, places_from, AreShort}
-use Rattle.server_index.specs.Indexes.{place_in, lists}
+use Rattle.server_index.specs.Lists.{lists}
+use Rattle.server_index.specs.Indexes.{place_in}
 use Rattle.server_index.proofs.RowLemmas.{short_at, IsNoted, noted}
 
 -- the entries of a row that is read

@@ -4,3 +4,4 @@ mod IndexLemmas
 mod SumLemmas
 mod RankLemmas
 mod MarkSetLemmas
+mod LineLemmas

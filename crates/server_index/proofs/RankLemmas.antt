@@ -8,7 +8,7 @@ use Rattle.server_index.specs.Rows.{row_places, places_from, AreShort}
 use Rattle.server_index.specs.Sums.{before, IsAbove}
 use Rattle.server_index.specs.Ranks.{mark_in, count_in, marks, IsRow, IsRanks}
 use Rattle.server_index.proofs.RowLemmas.{told, untold, rows_rise, row_set, rows_with, short_set, short_at, IsNoted, noted}
-use Rattle.server_index.proofs.SumLemmas.{before_next, before_past, before_grows, before_more, set_within, upper_least, adjusted, taller, wider}
+use Rattle.server_index.proofs.SumLemmas.{before_next, before_past, before_grows, before_more, set_within, above_all, upper_least, adjusted, taller, wider}
 
 -- a state has one mark at most
 pub one_mark : (s : ℕ) → count_in s ≤ 1
@@ -19,41 +19,6 @@ pub few_marks : (es : List ℕ) (n : ℕ) → before (marks es) n ≤ length es
 few_marks [] n = omega arith
 few_marks (e ∷ es) zero = omega arith
 few_marks (e ∷ es) (suc n) = let one = one_mark e in let rest = few_marks es n in omega (arith, one, rest)
-
--- one mark at a state, at most
-mark_most : (es : List ℕ) (n : ℕ) → get_or (marks es) n 0 ≤ 1
-mark_most [] n = omega arith
-mark_most (e ∷ es) zero = one_mark e
-mark_most (e ∷ es) (suc n) = mark_most es n
-
--- so no more marks than states between two of them
-marks_between : (es : List ℕ) (k n : ℕ) → before (marks es) (n + k) ≤ before (marks es) n + k
-marks_between es zero n = let same = ap (before (marks es)) (by n) in omega (arith, same)
-  where
-    by : (n : ℕ) → n + 0 ≡ n
-    by n = omega arith
-marks_between es (suc k) n =
-    let same = ap (before (marks es)) (by n k) in
-    let next = before_next (marks es) (n + k) in
-    let most = mark_most es (n + k) in
-    let rest = marks_between es k n in
-    omega (arith, same, next, most, rest)
-  where
-    by : (n k : ℕ) → n + suc k ≡ n + k + 1
-    by n k = omega arith
-
--- and each count above the states is sixty-four at most
-counts_few : (es sums : List ℕ) (n : ℕ) → IsAbove (marks es) sums → get_or sums n 0 ≤ 64
-counts_few es sums n a =
-    let next = before_next sums n in
-    let start = a.sums n in
-    let end = a.sums (n + 1) in
-    let most = marks_between es 64 (n * 64) in
-    let same = ap (before (marks es)) (by n) in
-    omega (arith, next, start, end, most, same)
-  where
-    by : (n : ℕ) → (n + 1) * 64 ≡ n * 64 + 64
-    by n = omega arith
 
 -- the marks of a row are its marked places
 pub row_count : (es : List ℕ) (first : ℕ) → before (marks es) (length es) ≡ length (entries (row_places mark_in first es))
@@ -143,11 +108,14 @@ marks_more [] zero = refl
 marks_more [] (suc k) = ap (λ ms. 0 ∷ ms) (marks_more [] k)
 marks_more (e ∷ es) k = ap (λ ms. count_in e ∷ ms) (marks_more es k)
 
+-- the sums of a row are few
+pub row_sums : (es sums : List ℕ) (count : ℕ) → IsRow es sums count → before sums (length sums) ≤ 2 ^ 32
+row_sums es sums count row = let short = row.short in omega (arith, above_all (marks es) sums row.above, few_marks es (length (marks es)), short)
+
 -- what another state in a row asks of its sums and its count, and what it leaves
 pub record CanPut (es sums : List ℕ) (count i q less more x : ℕ) : Type 0 where
   pub least : less ≤ get_or sums q 0
-  pub few : (n : ℕ) → get_or sums n 0 ≤ 64
-  pub most : more ≤ 64
+  pub sums_fit : before sums (length sums) + more < 2 ^ 64
   pub counted : less ≤ count
   pub fits : count + more < 2 ^ 64
   pub kept : IsRow (set es i x) (set sums q (get_or sums q 0 - less + more)) (count - less + more)
@@ -156,13 +124,12 @@ pub record CanPut (es sums : List ℕ) (count i q less more x : ℕ) : Type 0 wh
 mark_here : (es : List ℕ) (i s : ℕ) → i < length es → s ≡ get_or es i s → get_or (marks es) i 0 ≡ count_in s
 mark_here es i s inside read = get_or-map count_in es i 0 0 inside ∙ ap count_in (sym (get_or_read_under es i (length es) s 0 read inside refl))
 
-pub can_put : (es v sums : List ℕ) (count i q s less more x : ℕ) → IsRow es sums count → es ≡ v → i < length v → s ≡ get_or es i s → less ≡ count_in s → more ≡ count_in x → q * 64 ≤ i → i < q * 64 + 64
+pub can_put : (es v sums : List ℕ) (count i q s less more x : ℕ) → IsRow es sums count → es ≡ v → i < length v → s ≡ get_or es i s → less ≡ count_in s → more ≡ count_in x → q * 16 ≤ i → i < q * 16 + 16
     → CanPut es sums count i q less more x
 can_put es v sums count i q s less more x row is within read was now from to =
     record {
       least = omega (arith, here, was, upper_least (marks es) sums i q row.above from to);
-      few = λ n. counts_few es sums n row.above;
-      most = omega (arith, now, one_mark x);
+      sums_fit = omega (arith, row_sums es sums count row, now, one_mark x);
       counted = let all = row.counted in omega (arith, all, next, here, was, before_grows (marks es) (i + 1) (length es) (omega (arith, inside)));
       fits = let all = row.counted in let short = row.short in omega (arith, all, few_marks es (length es), short, now, one_mark x);
       kept = record {
@@ -213,7 +180,7 @@ pub row_taller : (es sums new : List ℕ) (count k : ℕ) → IsRow es sums coun
 row_taller es sums new count k row is = record { short = row.short; above = subst (IsAbove (marks es)) (sym is) (taller (marks es) sums k row.above); counted = row.counted }
 
 -- and one whose states are more too
-pub row_wider : (es sums more new : List ℕ) (count n m : ℕ) → IsRow es sums count → n ≤ 2 ^ 32 → n ≤ m * 64 → more ≡ es ++ replicate (n - length es) 0 → new ≡ sums ++ replicate (m - length sums) 0 → IsRow more new count
+pub row_wider : (es sums more new : List ℕ) (count n m : ℕ) → IsRow es sums count → n ≤ 2 ^ 32 → n ≤ m * 16 → more ≡ es ++ replicate (n - length es) 0 → new ≡ sums ++ replicate (m - length sums) 0 → IsRow more new count
 row_wider es sums more new count n m row few h is now = subst (λ cs. IsRow cs new count) (sym is) (subst (λ us. IsRow (es ++ replicate (n - length es) 0) us count) (sym now) by)
   where
     k : ℕ

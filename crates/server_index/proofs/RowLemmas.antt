@@ -1,7 +1,7 @@
 -- What rows of entries tell of a key, and what another entry and more rows or columns do to it.
-use Rattle.std.proofs.Common.{◌≡◌, ℕ, zero, suc, ◌+◌, ◌*◌, ◌^◌, ◌<◌, ◌≤◌, List, [], ◌∷◌, ◌++◌, length, get_or, set, replicate, Option, None, Some, Result, Ok, Err, OnOk, OnErr, refl, sym, subst, ap, ◌∙◌, arith}
+use Rattle.std.proofs.Common.{◌≡◌, ℕ, zero, suc, ◌+◌, ◌-◌, ◌*◌, ◌^◌, ◌<◌, ◌≤◌, List, [], ◌∷◌, ◌++◌, length, get_or, set, replicate, Option, None, Some, Result, Ok, Err, OnOk, OnErr, refl, sym, subst, ap, ◌∙◌, arith}
 use Rattle.std.proofs.lemmas.Bool.{eq-eqb, ne_eqb, le-ltb}
-use Rattle.std.proofs.lemmas.List.{get_or_past}
+use Rattle.std.proofs.lemmas.List.{get_or_past, length-append, length-replicate}
 use Rattle.rank_map.specs.Places.{Place, place_at, put_first, with_place, Rises}
 use Rattle.rank_map.proofs.PlaceLemmas.{below_all, at_low, at_high, with_below, with_low, with_high, first_rises, rises_wider, rises_append}
 use Rattle.server_index.specs.Rows.{row_places, places_from, AreShort}
@@ -124,6 +124,10 @@ bare_places f (suc n) first bare = ap (λ o. put_first first o (row_places f (fi
 pub row_more : {T : Type 0} (f : ℕ → Option (Option T)) (es : List ℕ) (n first : ℕ) → f 0 ≡ None → row_places f first (es ++ replicate n 0) ≡ row_places f first es
 row_more f [] n first bare = bare_places f n first bare
 row_more f (e ∷ es) n first bare = ap (put_first first (f e)) (row_more f es n (first + 1) bare)
+
+-- with so many columns it is as long as that, or as long as it was
+pub row_long : (es more : List ℕ) (n : ℕ) → more ≡ es ++ replicate (n - length es) 0 → length more ≡ length es + (n - length es)
+row_long es more n is = ap length is ∙ length-append es (replicate (n - length es) 0) ∙ ap (λ k. length es + k) (length-replicate {A = ℕ} (n - length es) 0)
 
 -- a short row in another one's place leaves all of them short
 pub short_set : (rs : List (List ℕ)) (row : ℕ) (r : List ℕ) → length r ≤ 2 ^ 32 → AreShort rs → AreShort (set rs row r)

@@ -3,9 +3,11 @@
 ghost use Rattle.std.specs.Prelude.{◌≡◌, ℕ, ◌+◌, ◌-◌, ◌<◌, ◌≤◌, ◌^◌, [], Some, length, slice_index_or, OnOk, OnErr};
 ghost use Rattle.rank_map.specs.Places.{item_in, item_at, with_place};
 ghost use Rattle.server_index.specs.Rows.{row_places, places_from, AreShort};
-ghost use Rattle.server_index.specs.Indexes.{place_in, lists};
+ghost use Rattle.server_index.specs.Lists.{lists};
+ghost use Rattle.server_index.specs.Indexes.{place_in};
 
 use crate::keys::split;
+use crate::widen::widen;
 use fr_base::NoMemory;
 use std::alloc::Global;
 use std::marker::Model;
@@ -23,7 +25,8 @@ impl Model for Index {
     ghost use Rattle.std.specs.Prelude.{ℕ, List};
     ghost use Rattle.rank_map.specs.Places.{Place};
     ghost use Rattle.server_index.specs.Rows.{places_from, AreShort};
-    ghost use Rattle.server_index.specs.Indexes.{place_in, lists};
+    ghost use Rattle.server_index.specs.Lists.{lists};
+    ghost use Rattle.server_index.specs.Indexes.{place_in};
 
     ghost Value = { List (Place ℕ) };
 
@@ -61,20 +64,6 @@ fn make_rows(alloc: Global, rows: &mut Vec<Vec<u32>>, count: usize) -> Result<()
     Ok(())
 }
 
-// Makes that many columns at least; those that are new have no place.
-fn make_columns(row: &mut Vec<u32>, count: usize) -> Result<(), NoMemory>
-    requires few { count ≤ 2 ^ 32 }
-    requires short { length row.old.items ≤ 2 ^ 32 }
-    ensures enough { OnOk result (count ≤ length row.new.items) }
-    ensures same { (first : ℕ) → row_places place_in first row.new.items ≡ row_places place_in first row.old.items }
-    ensures short { length row.new.items ≤ 2 ^ 32 }
-{
-    if row.len() < count {
-        row.resize(count, 0)?;
-    }
-    Ok(())
-}
-
 // Notes a key's slot at its column.
 fn note(row: &mut Vec<u32>, column: usize, slot: usize) -> Result<(), NoMemory>
     requires column { column < 2 ^ 32 }
@@ -84,7 +73,7 @@ fn note(row: &mut Vec<u32>, column: usize, slot: usize) -> Result<(), NoMemory>
     ensures refused { OnErr result ((first : ℕ) → row_places place_in first row.new.items ≡ row_places place_in first row.old.items) }
     ensures short { length row.new.items ≤ 2 ^ 32 }
 {
-    make_columns(row, column + 1)?;
+    widen(row, column + 1, 0)?;
     row[column] = slot as u32 + 1;
     Ok(())
 }

@@ -3,12 +3,14 @@
 
 mod index;
 mod keys;
+mod line;
 mod marks;
 mod queue;
 mod ranks;
 mod row;
 mod sums;
 mod table;
+mod widen;
 
 pub use marks::MarkSet;
 pub use queue::FrontQueue;

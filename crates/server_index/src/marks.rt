@@ -22,9 +22,10 @@ const FEW_AGAIN: usize = 8;
 /// are left. So at least nine changes lie between two such moves.
 ///
 /// A place is a byte, found by the number's higher bits and then by its lower 32 bits. Above the bytes of the numbers with the same higher
-/// bits stand counts of the marks among each sixty-four, sums of sixty-four counts each, and sums of these. So there `mark` and `unmark`
-/// take a handful of steps, `len` one, and `nth` one for each value of the higher bits up to the number's, at most sixty-four among the
-/// bytes, the counts and the sums each, and among the upper sums one for each 262,144 numbers.
+/// bits stand counts of the marks among each sixteen, and above these levels of sums of sixteen each, until the top one has sixteen at most:
+/// some half a byte more for each number. With the counts there are no more levels than the highest lower bits have hexadecimal digits: four
+/// for 65,536 numbers. So there `mark` and `unmark` change a byte and a count or a sum at each level, `len` takes one step, and `nth` one for
+/// each value of the higher bits up to the number's, and at most sixteen among the bytes and at each level.
 #[derive(Drop)]
 pub struct MarkSet {
     // marked numbers, rising, while the marks haven't spilled
@@ -163,8 +164,8 @@ impl MarkSet {
     }
 
     /// Makes a place for a number, not marked, where it has none. It takes a byte for each number up to this one among those with the same
-    /// higher bits, once, and a sixteenth more for counts and sums; a list of these that is full moves to one that is twice as long, or as
-    /// long as is asked.
+    /// higher bits, once, and some half a byte more for counts and sums; a list of these that is full moves to one that is twice as long, or
+    /// as long as is asked.
     ///
     /// # Errors
     ///

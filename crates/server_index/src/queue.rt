@@ -3,39 +3,39 @@
 ghost use Rattle.std.specs.Prelude.{◌≡◌, ◌+◌, ◌++◌, ◌<◌, ◌≤◌, [], ◌∷◌, Some, length, option_map, slice_get, IsOk, OnOk, OnErr};
 ghost use Rattle.std.specs.List.{remove};
 
+use crate::line::Line;
 use fr_base::NoMemory;
-use rank_map::Queue;
 use std::alloc::Global;
 use std::marker::Model;
 
 // How many items stand in front, at most.
 const FRONT: usize = 16;
 
-// How many items wait at a time, at most: a `Queue` takes no more in its whole life.
-const MOST: usize = 1 << 40;
-
 /// Items in the order in which they came, any of which can be taken out. Contracts see the items as `items`, and beside them as
 /// `room` how many more fit without memory.
 ///
-/// Up to sixteen items stand side by side, so a call takes a few steps while no more wait; the later ones stand in a `Queue`, where it takes the
-/// steps that are said there. An item that is taken moves at most fifteen others. 2^40 items fit over a queue's whole life.
+/// Up to sixteen items stand side by side. The later ones stand in slots, where the item of a place is found by the marks before it, in the
+/// logarithm of how many slots there are: at most sixteen steps for each hexadecimal digit of that number, and sixteen more. An item that is
+/// taken out of the front moves at most fifteen others, and one behind it none. A queue that has no room for what is asked moves to slots
+/// twice as many as wait and are asked for, so that the moves come to a constant for each item that was pushed; room that was made stays.
+/// There are no more than 2^32 slots.
 #[derive(Drop)]
 pub struct FrontQueue<T> {
     front: Vec<T>,
     // those behind them
-    rest: Queue<T>,
+    rest: Line<T>,
     room: u64,
 }
 
 impl<T> Model for FrontQueue<T> {
-    ghost use Rattle.std.specs.Prelude.{◌+◌, ◌^◌, ◌≤◌, ◌++◌, length};
+    ghost use Rattle.std.specs.Prelude.{◌≤◌, ◌++◌, length};
     ghost use Rattle.rank_map.specs.Queues.{QueueView};
 
     ghost Value = { QueueView T };
 
     ghost view = { λ q. record { items = q.front.items ++ q.rest.items; room = q.room } };
 
-    ghost invariant = { λ q. (length q.front.items ≤ 16) × (q.room ≤ q.rest.room) × (length q.rest.items + q.room ≤ 2 ^ 40) };
+    ghost invariant = { λ q. (length q.front.items ≤ 16) × (q.room ≤ q.rest.room) };
 }
 
 impl<T: Drop> FrontQueue<T> {
@@ -46,7 +46,7 @@ impl<T: Drop> FrontQueue<T> {
     {
         FrontQueue {
             front: Vec::new(alloc),
-            rest: Queue::new(alloc),
+            rest: Line::new(alloc),
             room: 0,
         }
     }
@@ -69,8 +69,8 @@ impl<T: Drop> FrontQueue<T> {
         }
     }
 
-    /// Makes room for `n` more items. The items stay as they are, also where it is refused; room that was made stays. More than the queue
-    /// can take in its life are refused at once.
+    /// Makes room for `n` more items. The items stay as they are, also where it is refused; room that was made stays. More than 2^32 slots
+    /// are refused at once.
     pub fn reserve(&mut self, n: usize) -> Result<(), NoMemory>
         ensures items { self.new.items ≡ self.old.items }
         ensures room { OnOk result (n ≤ self.new.room) }
@@ -80,13 +80,10 @@ impl<T: Drop> FrontQueue<T> {
         if n as u64 <= self.room {
             return Ok(());
         }
-        if n > MOST - self.rest.len() {
-            return Err(NoMemory);
-        }
+        self.rest.reserve(n)?;
         if self.front.capacity() == 0 && self.front.reserve(FRONT).is_err() {
             return Err(NoMemory);
         }
-        self.rest.reserve(n)?;
         self.room = n as u64;
         Ok(())
     }

@@ -123,7 +123,7 @@ impl Ranks {
         let (row, column) = split(number);
         let less = count_in(self.state(number));
         self.rows[row].put(column, state);
-        self.total = self.total - less as usize + count_in(state) as usize;
+        self.total = self.total - less + count_in(state);
     }
 
     // Marks a number that has a place.

@@ -1,12 +1,13 @@
 //! States in a row, found by the marks before.
 
-ghost use Rattle.std.specs.Prelude.{◌≡◌, ℕ, ◌+◌, ◌-◌, ◌^◌, ◌<◌, ◌≤◌, ◌++◌, [], Some, None, length, replicate, set, slice_index_or, OnOk, OnErr};
+ghost use Rattle.std.specs.Prelude.{◌≡◌, ℕ, ◌+◌, ◌-◌, ◌^◌, ◌<◌, ◌≤◌, ◌++◌, [], Some, None, length, replicate, set, slice_index_or, IfOk, OnOk, OnErr};
 ghost use Rattle.rank_map.specs.Places.{with_place};
 ghost use Rattle.server_index.specs.Rows.{row_places};
 ghost use Rattle.server_index.specs.Sums.{before};
 ghost use Rattle.server_index.specs.Ranks.{mark_in, count_in, marks};
 
 use crate::sums::{Sums, WIDTH};
+use crate::widen::widen;
 use fr_base::NoMemory;
 use std::alloc::Global;
 use std::marker::Model;
@@ -24,7 +25,7 @@ pub(crate) const MARK: u8 = 2;
 #[derive(Drop)]
 pub(crate) struct Row {
     states: Vec<u8>,
-    // how many marks there are among each sixty-four
+    // how many marks there are among each sixteen
     sums: Sums,
     count: usize,
 }
@@ -41,24 +42,13 @@ impl Model for Row {
 }
 
 // One mark, or none.
-pub(crate) fn count_in(state: u8) -> u32
+pub(crate) fn count_in(state: u8) -> usize
     ensures { result ≡ count_in state }
 {
     match state {
         NONE | FREE => 0,
         _ => 1,
     }
-}
-
-// Makes that many states at least; those that are new are none.
-fn widen(states: &mut Vec<u8>, count: usize) -> Result<(), NoMemory>
-    ensures more { OnOk result (states.new.items ≡ states.old.items ++ replicate (count - length states.old.items) 0) }
-    ensures refused { OnErr result (states.new.items ≡ states.old.items) }
-{
-    if states.len() < count {
-        states.resize(count, NONE)?;
-    }
-    Ok(())
 }
 
 // The first marked state, from the first place on, once so many others are left out.
@@ -69,7 +59,7 @@ fn scan(states: &[u8], first: usize, rest: usize) -> usize
 {
     let mut left = rest;
     'states: for at in first..states.len() {
-        let count = count_in(states[at]) as usize;
+        let count = count_in(states[at]);
         if left < count {
             return at;
         }
@@ -88,6 +78,16 @@ impl Row {
             sums: Sums::new(alloc),
             count: 0,
         }
+    }
+
+    // So many states, each none.
+    pub(crate) fn of_free(alloc: Global, count: usize) -> Result<Row, NoMemory>
+        requires few { count ≤ 2 ^ 32 }
+        ensures { IfOk result (λ r. r ≡ replicate count 0) }
+    {
+        let mut row = Row::new(alloc);
+        row.widen(count)?;
+        Ok(row)
     }
 
     // How many marks there are.
@@ -128,19 +128,19 @@ impl Row {
         self.states[column] = state;
         if less != more {
             self.sums.adjust(column / WIDTH, less, more);
-            self.count = self.count - less as usize + more as usize;
+            self.count = self.count - less + more;
         }
     }
 
     // Makes that many states at least; those that are new are none.
     fn widen(&mut self, count: usize) -> Result<(), NoMemory>
         requires few { count ≤ 2 ^ 32 }
-        ensures enough { OnOk result (count ≤ length self.new) }
-        ensures same { (first : ℕ) → row_places mark_in first self.new ≡ row_places mark_in first self.old }
+        ensures more { OnOk result (self.new ≡ self.old ++ replicate (count - length self.old) 0) }
+        ensures refused { OnErr result (self.new ≡ self.old) }
         ensures short { length self.new ≤ 2 ^ 32 }
     {
         self.sums.reserve(count / WIDTH + 1)?;
-        widen(&mut self.states, count)
+        widen(&mut self.states, count, NONE)
     }
 
     // Makes a free place at a column that has none.

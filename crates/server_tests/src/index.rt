@@ -10,6 +10,9 @@ use std::test::Fail;
 // How many items come.
 const COME: u64 = 60;
 
+// And how many where the later ones are to move to more slots several times.
+const CROWD: u64 = 600;
+
 // A row has the numbers with the same higher bits.
 const ROW: u64 = 1 << 32;
 
@@ -57,10 +60,20 @@ fn takes_from_front_and_behind(rt: HostRuntime) -> Result<(), Fail> {
         assert!(rt; take_same(&mut queue, &mut list, (turn * 5 % 11) as usize));
         assert!(rt; same(&queue, &list));
     }
-    for item in 0..COME {
+    for item in 0..CROWD {
         put(&mut queue, &mut list, item)?;
+        if item % 3 == 2 {
+            // out of the front, or of the middle
+            let at = (item * 7) as usize % list.len().max(1);
+            assert!(rt; take_same(&mut queue, &mut list, at));
+        }
     }
     assert!(rt; same(&queue, &list));
+    for turn in 0..CROWD {
+        let at = (turn * 31) as usize % list.len().max(1);
+        assert!(rt; take_same(&mut queue, &mut list, at));
+    }
+    assert!(rt; list.is_empty() && queue.len() == 0);
     Ok(())
 }
 

@@ -1,6 +1,7 @@
 use Rattle.std.proofs.Common.{sym, subst, ap, ◌∙◌, arith}
 use Rattle.server_index.specs.Rows.{places_from, AreShort}
-use Rattle.server_index.specs.Indexes.{place_in, lists}
+use Rattle.server_index.specs.Lists.{lists}
+use Rattle.server_index.specs.Indexes.{place_in}
 use Rattle.server_index.proofs.IndexLemmas.{rows_more}
 use Rattle.server_index.proofs.RowLemmas.{rows_push, short_push}
 use Rattle.server_index.proofs.index.make_rows.Goals as goal

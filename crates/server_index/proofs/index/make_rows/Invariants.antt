@@ -1,7 +1,8 @@
 use Rattle.std.proofs.Common.{◌≡◌, ◌+◌, ◌≤◌}
 use Rattle.std.specs.Vec.{vec_len, vec_capacity}
 use Rattle.server_index.specs.Rows.{places_from, AreShort}
-use Rattle.server_index.specs.Indexes.{place_in, lists}
+use Rattle.server_index.specs.Lists.{lists}
+use Rattle.server_index.specs.Indexes.{place_in}
 use Rattle.server_index.proofs.index.make_rows.Given as goal
 
 -- one row more each time, and no place

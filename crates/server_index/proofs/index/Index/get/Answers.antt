@@ -1,7 +1,8 @@
 use Rattle.std.proofs.Common.{◌<◌, ◌≤◌, length, get_or, refl, ap, ◌∙◌, arith}
 use Rattle.std.proofs.lemmas.List.{length-map}
 use Rattle.rank_map.specs.Places.{item_in, item_at}
-use Rattle.server_index.specs.Indexes.{place_in, lists}
+use Rattle.server_index.specs.Lists.{lists}
+use Rattle.server_index.specs.Indexes.{place_in}
 use Rattle.server_index.proofs.RowLemmas.{told, untold}
 use Rattle.server_index.proofs.IndexLemmas.{row_here}
 use Rattle.server_index.proofs.index.Index.get.Goals as goal
