@@ -1,6 +1,6 @@
 //! What a report counts of a journal.
 
-ghost use Rattle.std.specs.Prelude.{◌≡◌, ◌<◌, ◌≤◌, ◌^◌, ◌∷◌, [], is_some};
+ghost use Rattle.std.specs.Prelude.{◌≡◌, ◌<◌, ◌≤◌, ◌^◌, ◌∷◌, [], false, is_some};
 ghost use Rattle.fr_base.specs.Lists.{one};
 ghost use Rattle.coloured_heap.specs.Figures.{evictions, hits, issues, renewals, steps};
 ghost use Rattle.tracer.specs.Counting.{figure_of, with_acts};
@@ -72,6 +72,13 @@ fn steps_in(entry: &Entry) -> u64
     if entry.done.is_some() { 1 } else { 0 }
 }
 
+// Whether an entry has acts.
+fn has_acts(entry: &Entry) -> bool
+    ensures no { result ≡ false → entry.now.acts ≡ [] }
+{
+    entry.acts.len() > 0
+}
+
 /// The figures of a journal, in one pass. No memory; it takes time in the number of acts.
 pub(crate) fn figures_of(journal: &Journal) -> Figures
     ensures steps { result.steps ≡ steps journal.now.items }
@@ -87,10 +94,12 @@ pub(crate) fn figures_of(journal: &Journal) -> Figures
     let mut evictions = 0;
     'entries: for entry in journal.as_slice() {
         steps += steps_in(entry);
-        issued += count_in(Figure::Issued, entry);
-        renewed += count_in(Figure::Renewed, entry);
-        hits += count_in(Figure::Hits, entry);
-        evictions += count_in(Figure::Evictions, entry);
+        if has_acts(entry) {
+            issued += count_in(Figure::Issued, entry);
+            renewed += count_in(Figure::Renewed, entry);
+            hits += count_in(Figure::Hits, entry);
+            evictions += count_in(Figure::Evictions, entry);
+        }
     }
     Figures {
         steps,
