@@ -1,13 +1,15 @@
 //! The environment.
 
-ghost use Rattle.std.specs.Prelude.{◌≡◌, ℕ, ◌<◌, ◌≤◌, ◌↔◌, [], ◌∷◌, List, length, drop, slice_index_or, IsSome, IfOk, OnOk, OnErr, IfSome, None};
+ghost use Rattle.std.specs.Prelude.{◌≡◌, ℕ, ◌<◌, ◌≤◌, ◌↔◌, [], ◌∷◌, ◌++◌, List, length, drop, slice_index_or, vec_len, IsSome, IfOk, OnOk, OnErr, IfSome, None};
+ghost use Rattle.std.specs.Vec.{vec_capacity};
 ghost use Rattle.fr_terms.specs.Terms.{Text};
 ghost use Rattle.fr_typing.specs.Places.{AreBelow, piece_places, read_blocked, write_blocked, put_at, kind_shape, shape_at, equal_shapes};
 ghost use Rattle.fr_typing.specs.Checks.{has_shape_of};
 ghost use Rattle.fr_types.specs.Bounds.{most_slots};
 ghost use Rattle.fr_types.specs.Types.{kind_of, piece_of};
 ghost use Rattle.fr_types.specs.States.{slot_in, part_in, put_in, env_of, IsNew, AreNested};
-ghost use Rattle.fr_types.specs.Inside.{HasRoom, with_entry};
+ghost use Rattle.fr_types.specs.Inside.{HasRoom, with_entry, newest, IsTabled};
+ghost use Rattle.fr_types.specs.SlotShapes.{AreShapes};
 ghost use Rattle.fr_types.specs.Lent.{loans_at};
 ghost use Rattle.fr_types.specs.Bases.{starred, base, target_at};
 
@@ -113,17 +115,20 @@ impl Env {
         ensures pushed { OnOk result (self.new ≡ record { name = name; part = piece_of part } ∷ self.old) }
         ensures refused { OnErr result (self.new ≡ self.old) }
     {
-        let slot = self.slots.len() as u32;
-        make_room(&mut self.slot_of, name)?;
-        make_space(&mut self.loans, slot)?;
-        make_targets(&mut self.targets, slot)?;
-        self.slots.reserve(1)?;
-        self.shapes.push(&part)?;
-        lend(&mut self.loans, &part);
-        let target = aim(self.targets.as_slice(), &part);
-        self.targets[slot as usize] = target;
-        self.slots.push_reserved(Variable { name, part });
-        note(&mut self.slot_of, name, Some(slot));
+        let variable = Variable { name, part };
+        let entered = enter(
+            &mut self.slots,
+            &mut self.slot_of,
+            &mut self.loans,
+            &mut self.targets,
+            &mut self.shapes,
+            &variable,
+        );
+        if let Err(e) = entered {
+            drop(variable);
+            return Err(e);
+        }
+        self.slots.push_reserved(variable);
         Ok(())
     }
 
@@ -169,14 +174,7 @@ impl Env {
         let loans = copied_loans(&self.loans)?;
         let targets = copied_targets(&self.targets)?;
         let shapes = self.shapes.copy()?;
-        let mut slots = Vec::new(alloc);
-        'slots: for at in 0..self.slots.len() {
-            let Variable { name, part } = &self.slots[at];
-            slots.push(Variable {
-                name: *name,
-                part: part.copy(alloc)?,
-            })?;
-        }
+        let slots = copied_slots(alloc, self.slots.as_slice())?;
         Ok(Env {
             slots,
             slot_of,
@@ -255,6 +253,55 @@ fn copied(slot_of: &Vec<Option<u32>>) -> Result<Vec<Option<u32>>, NoMemory>
     ensures { IfOk result (λ xs. xs.items ≡ slot_of.now.items) }
 {
     Ok(slot_of.clone()?)
+}
+
+// Equal slots.
+fn copied_slots(alloc: Global, slots: &[Variable]) -> Result<Vec<Variable>, NoMemory>
+    ensures { IfOk result (λ vs. newest vs.items ≡ newest slots.now) }
+{
+    let mut made = Vec::new(alloc);
+    'slots: for at in 0..slots.len() {
+        let Variable { name, part } = &slots[at];
+        made.push(Variable {
+            name: *name,
+            part: part.copy(alloc)?,
+        })?;
+    }
+    Ok(made)
+}
+
+// The tables with one slot more, and room for the slot itself; after a refusal they still are those of the slots there.
+fn enter(
+    slots: &mut Vec<Variable>,
+    slot_of: &mut Vec<Option<u32>>,
+    loans: &mut Vec<Loans>,
+    targets: &mut Vec<Option<Starred>>,
+    shapes: &mut SlotShapes,
+    variable: &Variable,
+) -> Result<(), NoMemory>
+    requires tabled { IsTabled (newest slots.old.items) slot_of.old.items loans.old.items targets.old.items }
+    requires shaped { AreShapes (newest slots.old.items) shapes.old }
+    requires below { AreBelow (length (newest slots.old.items)) (piece_places (piece_of variable.now.part)) }
+    requires new { IsNew (newest slots.old.items) variable.now.name }
+    requires few { length (newest slots.old.items) < most_slots }
+    ensures slots { slots.new.items ≡ slots.old.items }
+    ensures room { OnOk result (vec_len slots.new < vec_capacity slots.new) }
+    ensures tabled { OnOk result (IsTabled (newest (slots.old.items ++ variable.now ∷ [])) slot_of.new.items loans.new.items targets.new.items) }
+    ensures shaped { OnOk result (AreShapes (newest (slots.old.items ++ variable.now ∷ [])) shapes.new) }
+    ensures still_tabled { OnErr result (IsTabled (newest slots.old.items) slot_of.new.items loans.new.items targets.new.items) }
+    ensures still_shaped { OnErr result (AreShapes (newest slots.old.items) shapes.new) }
+{
+    let slot = slots.len() as u32;
+    make_room(slot_of, variable.name)?;
+    make_space(loans, slot)?;
+    make_targets(targets, slot)?;
+    slots.reserve(1)?;
+    shapes.push(&variable.part)?;
+    lend(loans, &variable.part);
+    let target = aim(targets.as_slice(), &variable.part);
+    targets[slot as usize] = target;
+    note(slot_of, variable.name, Some(slot));
+    Ok(())
 }
 
 // Places that hold nothing, up to that of the name.

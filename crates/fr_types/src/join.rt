@@ -9,7 +9,7 @@ ghost use Rattle.fr_types.specs.Answers.{kind_in, piece_in};
 ghost use Rattle.fr_types.specs.States.{env_of};
 
 use crate::env::Env;
-use crate::kinds::same_owned;
+use crate::kinds::{same_owned, same_type};
 use crate::places::Places;
 use crate::shape::have_one_shape;
 use crate::types::{O, Part, Ty};
@@ -22,12 +22,6 @@ pub fn join_types(alloc: Global, env: &Env, a: &Ty, b: &Ty) -> Result<Option<Ty>
     ensures { (names : List Text) → IfOk result (λ t. kind_in t ≡ join_kind (alike (env_of names env.now)) (kind_of a.now) (kind_of b.now)) }
 {
     match (a, b) {
-        (Ty::Unit, Ty::Unit) => Ok(Some(Ty::Unit)),
-        (Ty::Int, Ty::Int) => Ok(Some(Ty::Int)),
-        (Ty::Box(o), Ty::Box(q)) if same_owned(o, q) => Ok(Some(Ty::Box(o.copy(alloc)?))),
-        (Ty::Mutex(o), Ty::Mutex(q)) if same_owned(o, q) => Ok(Some(Ty::Mutex(o.copy(alloc)?))),
-        (Ty::Task(o), Ty::Task(q)) if same_owned(o, q) => Ok(Some(Ty::Task(o.copy(alloc)?))),
-        (Ty::View(o), Ty::View(q)) if same_owned(o, q) => Ok(Some(Ty::View(o.copy(alloc)?))),
         (Ty::Shared(us), Ty::Shared(vs)) => match join_places(alloc, env, us, vs)? {
             Some(ws) => Ok(Some(Ty::Shared(ws))),
             None => Ok(None),
@@ -36,6 +30,8 @@ pub fn join_types(alloc: Global, env: &Env, a: &Ty, b: &Ty) -> Result<Option<Ty>
             Some(ws) => Ok(Some(Ty::Mut(ws))),
             None => Ok(None),
         },
+        (Ty::View(o), Ty::View(q)) if same_owned(o, q) => Ok(Some(Ty::View(o.copy(alloc)?))),
+        (a, b) if same_type(a, b) => Ok(Some(a.copy(alloc)?)),
         _ => Ok(None),
     }
 }

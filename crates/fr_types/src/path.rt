@@ -87,6 +87,7 @@ fn met_below(alloc: Global, env: &Env, part: Part, w: Lval, test: Test) -> Resul
             return Ok(true);
         }
     }
+    drop(part);
     Ok(false)
 }
 

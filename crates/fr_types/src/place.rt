@@ -89,8 +89,14 @@ pub fn star(alloc: Global, env: &Env, part: Part, bound: u32) -> Result<Part, Ty
         Part::Whole(Ty::View(o)) => Ok(Part::Whole(o.into_type())),
         Part::Whole(Ty::Shared(us)) => join_set(alloc, env, us.as_slice(), bound),
         Part::Whole(Ty::Mut(us)) => join_set(alloc, env, us.as_slice(), bound),
-        Part::Whole(_) => Err(TypeError::NoTarget),
-        Part::Gone(_) => Err(TypeError::NotDefined),
+        Part::Whole(t) => {
+            drop(t);
+            Err(TypeError::NoTarget)
+        }
+        Part::Gone(t) => {
+            drop(t);
+            Err(TypeError::NotDefined)
+        }
         Part::Box(p) => Ok(Box::into_inner(p)),
     }
 }

@@ -1,6 +1,7 @@
 //! Parts with something else in them.
 
 ghost use Rattle.std.specs.Prelude.{◌≡◌, IfOk};
+ghost use Rattle.fr_typing.specs.Kinds.{own, whole};
 ghost use Rattle.fr_types.specs.Parts.{put_owned, put_part};
 ghost use Rattle.fr_types.specs.OwnedTypes.{owned_of};
 ghost use Rattle.fr_types.specs.Types.{piece_of};
@@ -22,8 +23,18 @@ fn put_owned(alloc: Global, o: &O, stars: u8, new: Part) -> Result<Part, NoMemor
             let inner = put_owned(alloc, o, stars - 1, new)?;
             boxed(alloc, inner)
         }
-        o => Ok(Part::Whole(o.copy(alloc)?.into_type())),
+        o => {
+            drop(new);
+            whole_of(alloc, o)
+        }
     }
+}
+
+// A whole part of an owned type.
+fn whole_of(alloc: Global, o: &O) -> Result<Part, NoMemory>
+    ensures { IfOk result (λ p. piece_of p ≡ whole (own (owned_of o.now))) }
+{
+    Ok(Part::Whole(o.copy(alloc)?.into_type()))
 }
 
 /// The part with another one under so many stars; it costs the stars, and the levels of a part without so many boxes.
@@ -42,6 +53,9 @@ pub fn put_under(alloc: Global, part: &Part, stars: u8, new: Part) -> Result<Par
             let inner = put_owned(alloc, o, stars - 1, new)?;
             boxed(alloc, inner)
         }
-        part => part.copy(alloc),
+        part => {
+            drop(new);
+            part.copy(alloc)
+        }
     }
 }

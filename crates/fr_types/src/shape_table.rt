@@ -141,11 +141,12 @@ impl ShapeTable {
         let (inner, sort) = match o {
             O::Unit => return Ok(0),
             O::Int => return Ok(1),
-            O::Box(o) => (self.add_owned(o)?, Sort::Box),
-            O::Mutex(o) => (self.add_owned(o)?, Sort::Mutex),
-            O::Task(o) => (self.add_owned(o)?, Sort::Task),
+            O::Box(o) => (o, Sort::Box),
+            O::Mutex(o) => (o, Sort::Mutex),
+            O::Task(o) => (o, Sort::Task),
         };
-        self.hold(inner, sort)
+        let no = self.add_owned(inner)?;
+        self.hold(no, sort)
     }
 
     /// Whether both have a shape, and the same one.
