@@ -1,6 +1,7 @@
 -- The two blocks of a `par`: their parts, their typing and their usages.
-use Rattle.std.proofs.Common.{◌≡◌, ℕ, ◌+◌, ◌<◌, ◌≤◌, List, [], ◌∷◌, ◌++◌, length, set, Option, Some, None, refl, sym, ap, ◌∙◌, subst, arith, append_assoc, length-append}
-use Rattle.std.specs.Prelude.{◌==◌, Result, Ok, Err}
+use Rattle.std.proofs.Common.{◌≡◌, ℕ, ◌+◌, ◌<◌, ◌≤◌, List, [], ◌∷◌, ◌++◌, length, set, Option, Some, None, refl, sym, ap, ap₂, ◌∙◌, subst, arith, append_assoc, length-append}
+use Rattle.std.specs.Prelude.{◌==◌, Result, Ok, Err, Box as Boxed}
+use Rattle.std.specs.declared.alloc.Global.{Global}
 use Rattle.std.specs.List.{list_any}
 use Rattle.std.proofs.lemmas.Bool.{or_parts}
 use Rattle.std.proofs.lemmas.List.{append-nil}
@@ -14,6 +15,7 @@ use Rattle.fr_typing.specs.Rules.{par_rule}
 use Rattle.fr_typing.specs.Captures.{Capturer, by_par, capture_all, capture_both, env_left_by_all, env_of_all}
 use Rattle.fr_typing.specs.Typing.{typing}
 use Rattle.fr_base.specs.Rooms.{WithRoom}
+use Rattle.fr_syntax.specs.declared.tree.Term.{Term}
 use Rattle.fr_syntax.specs.declared.tree.Term.TheVariants.{Par}
 use Rattle.fr_syntax.specs.declared.tree.Node.{Node}
 use Rattle.fr_syntax.specs.Arena.{Arena}
@@ -34,23 +36,31 @@ use Rattle.borrow_check.proofs.CheckLemmas.{nodes_append, needs_append, names_th
 
 -- NODES
 
-pub par_here : (a : Arena) (at : ℕ) (cs : WithRoom ℕ) (v : ℕ) (ds : WithRoom ℕ) (w : ℕ) (n : Node) → IsHere a at n → n.term ≡ Par cs v ds w → term_at (meanings a) at ≡ par_t n.place (captures_at (meanings a) cs.items) (term_at (meanings a) v) (captures_at (meanings a) ds.items) (term_at (meanings a) w)
-par_here a at cs v ds w n h is = term_here a at n (par_t n.place (captures_at (meanings a) cs.items) (term_at (meanings a) v) (captures_at (meanings a) ds.items) (term_at (meanings a) w)) h (ap (stands_for a.names (meanings a) n.place) is)
+-- these nodes behind a pointer
+abbrev pub behind : Boxed (WithRoom ℕ) Global → WithRoom ℕ → Boxed (WithRoom ℕ) Global
+behind b xs = record b { value = xs }
+
+-- a node with two branches has the names that are seen behind its pointers
+pub par_seen : (t : Term) (cs ds : Boxed (WithRoom ℕ) Global) (v w : ℕ) (xs ys : WithRoom ℕ) → t ≡ Par cs v ds w → xs ≡ cs.value → ys ≡ ds.value → t ≡ Par (behind cs xs) v (behind ds ys) w
+par_seen t cs ds v w xs ys is e f = is ∙ ap₂ (λ (x : WithRoom ℕ) (y : WithRoom ℕ). Par (behind cs x) v (behind ds y) w) (sym e) (sym f)
+
+pub par_here : (a : Arena) (at : ℕ) (cs : Boxed (WithRoom ℕ) Global) (v : ℕ) (ds : Boxed (WithRoom ℕ) Global) (w : ℕ) (n : Node) → IsHere a at n → n.term ≡ Par cs v ds w → term_at (meanings a) at ≡ par_t n.place (captures_at (meanings a) cs.value.items) (term_at (meanings a) v) (captures_at (meanings a) ds.value.items) (term_at (meanings a) w)
+par_here a at cs v ds w n h is = term_here a at n (par_t n.place (captures_at (meanings a) cs.value.items) (term_at (meanings a) v) (captures_at (meanings a) ds.value.items) (term_at (meanings a) w)) h (ap (stands_for a.names (meanings a) n.place) is)
 
 -- the nodes of the two lists of names and of the two blocks, and itself
-par_nodes : (a : Arena) (at : ℕ) (cs : WithRoom ℕ) (v : ℕ) (ds : WithRoom ℕ) (w : ℕ) (n : Node) → IsHere a at n → n.term ≡ Par cs v ds w →
-    (meaning_at (meanings a) at).nodes ≡ (nodes_in (meanings a) (all_need capture_s cs.items) ++ ((meaning_at (meanings a) v).nodes ++ (nodes_in (meanings a) (all_need capture_s ds.items) ++ (meaning_at (meanings a) w).nodes))) ++ at ∷ []
+par_nodes : (a : Arena) (at : ℕ) (cs : Boxed (WithRoom ℕ) Global) (v : ℕ) (ds : Boxed (WithRoom ℕ) Global) (w : ℕ) (n : Node) → IsHere a at n → n.term ≡ Par cs v ds w →
+    (meaning_at (meanings a) at).nodes ≡ (nodes_in (meanings a) (all_need capture_s cs.value.items) ++ ((meaning_at (meanings a) v).nodes ++ (nodes_in (meanings a) (all_need capture_s ds.value.items) ++ (meaning_at (meanings a) w).nodes))) ++ at ∷ []
 par_nodes a at cs v ds w n h is =
     let ms = meanings a in
-    let first = nodes_in ms (all_need capture_s cs.items) in
-    let second = nodes_in ms (all_need capture_s ds.items) in
+    let first = nodes_in ms (all_need capture_s cs.value.items) in
+    let second = nodes_in ms (all_need capture_s ds.value.items) in
     let ours = (meaning_at ms v).nodes in
     let theirs = (meaning_at ms w).nodes in
-    let front = all_need capture_s cs.items ++ (need term_s v ∷ all_need capture_s ds.items) in
+    let front = all_need capture_s cs.value.items ++ (need term_s v ∷ all_need capture_s ds.value.items) in
     h.nodes ∙ ap (λ t. nodes_in ms (needs t) ++ at ∷ []) is
     ∙ ap (λ l. l ++ at ∷ []) (nodes_append ms front (need term_s w ∷ []))
     ∙ ap (λ l. (nodes_in ms front ++ l) ++ at ∷ []) (append-nil theirs)
-    ∙ ap (λ l. (l ++ theirs) ++ at ∷ []) (nodes_append ms (all_need capture_s cs.items) (need term_s v ∷ all_need capture_s ds.items))
+    ∙ ap (λ l. (l ++ theirs) ++ at ∷ []) (nodes_append ms (all_need capture_s cs.value.items) (need term_s v ∷ all_need capture_s ds.value.items))
     ∙ ap (λ l. l ++ at ∷ []) (append_assoc first (ours ++ second) theirs)
     ∙ ap (λ l. (first ++ l) ++ at ∷ []) (append_assoc ours second theirs)
 
@@ -65,20 +75,20 @@ pub record AreBranches (a : Arena) (at : ℕ) (cs : List ℕ) (v : ℕ) (ds : Li
   pub count : length (nodes_in (meanings a) (all_need capture_s cs)) + length (meaning_at (meanings a) v).nodes + length (nodes_in (meanings a) (all_need capture_s ds)) + length (meaning_at (meanings a) w).nodes + 1 ≤ length (meaning_at (meanings a) at).nodes
   pub apart : AreDifferent ((meaning_at (meanings a) v).nodes ++ nodes_in (meanings a) (all_need capture_s ds))
 
-pub par_parts : (a : Arena) (at : ℕ) (cs : WithRoom ℕ) (v : ℕ) (ds : WithRoom ℕ) (w : ℕ) (n : Node) → IsHere a at n → n.term ≡ Par cs v ds w → IsReady a at → AreBranches a at cs.items v ds.items w
+pub par_parts : (a : Arena) (at : ℕ) (cs : Boxed (WithRoom ℕ) Global) (v : ℕ) (ds : Boxed (WithRoom ℕ) Global) (w : ℕ) (n : Node) → IsHere a at n → n.term ≡ Par cs v ds w → IsReady a at → AreBranches a at cs.value.items v ds.value.items w
 par_parts a at cs v ds w n h is ready =
     let ms = meanings a in
-    let first = nodes_in ms (all_need capture_s cs.items) in
-    let second = nodes_in ms (all_need capture_s ds.items) in
+    let first = nodes_in ms (all_need capture_s cs.value.items) in
+    let second = nodes_in ms (all_need capture_s ds.value.items) in
     let ours = (meaning_at ms v).nodes in
     let theirs = (meaning_at ms w).nodes in
-    let back = needs_append ms at (all_need capture_s cs.items ++ (need term_s v ∷ all_need capture_s ds.items)) (need term_s w ∷ []) (subst (AreBelow ms at) (ap needs is) h.parts) in
-    let front = needs_append ms at (all_need capture_s cs.items) (need term_s v ∷ all_need capture_s ds.items) back.0 in
+    let back = needs_append ms at (all_need capture_s cs.value.items ++ (need term_s v ∷ all_need capture_s ds.value.items)) (need term_s w ∷ []) (subst (AreBelow ms at) (ap needs is) h.parts) in
+    let front = needs_append ms at (all_need capture_s cs.value.items) (need term_s v ∷ all_need capture_s ds.value.items) back.0 in
     let nodes = par_nodes a at cs v ds w n h is in
     let rest : AreDifferent (ours ++ (second ++ theirs)) = different_back first (ours ++ (second ++ theirs)) (different_front (first ++ (ours ++ (second ++ theirs))) (at ∷ []) (subst AreDifferent nodes ready.own)) in
     record {
-      first = names_there a at cs.items ready.here front.0;
-      second = names_there a at ds.items ready.here front.1.2;
+      first = names_there a at cs.value.items ready.here front.0;
+      second = names_there a at ds.value.items ready.here front.1.2;
       ours_before = front.1.0;
       theirs_before = back.1.0;
       ours = record { here = omega (arith, front.1.0, ready.here); sort = front.1.1; own = different_front ours (second ++ theirs) rest };
@@ -176,21 +186,21 @@ written_other a b c ys zs ls ks h g d =
     subst (λ l. AreWritten a l (zs ++ ys) (ks ++ ls)) (sym (g.same ∙ ap (λ l. written l zs ks) h.same ∙ written_swap a ys zs ls ks d))
     (written_both a (written a zs ks) (written (written a zs ks) ys ls) zs ys ks ls other last)
 
-pub par_used : (a : Arena) (at : ℕ) (cs : WithRoom ℕ) (v : ℕ) (ds : WithRoom ℕ) (w : ℕ) (n : Node) (e e1 e2 : Env) (old mid next new : List Usage) → IsHere a at n → n.term ≡ Par cs v ds w → IsReady a at → at < length old →
-    e1 ≡ env_of_all by_par e (captures_at (meanings a) cs.items) → e2 ≡ env_of_all by_par (env_left_by_all by_par e (captures_at (meanings a) cs.items)) (captures_at (meanings a) ds.items) →
-    AreBothWritten old mid (nodes_in (meanings a) (all_need capture_s cs.items)) (nodes_in (meanings a) (all_need capture_s ds.items)) (capture_usages by_par e [] (captures_at (meanings a) cs.items)) (capture_usages by_par (env_left_by_all by_par e (captures_at (meanings a) cs.items)) [] (captures_at (meanings a) ds.items)) →
+pub par_used : (a : Arena) (at : ℕ) (cs : Boxed (WithRoom ℕ) Global) (v : ℕ) (ds : Boxed (WithRoom ℕ) Global) (w : ℕ) (n : Node) (e e1 e2 : Env) (old mid next new : List Usage) → IsHere a at n → n.term ≡ Par cs v ds w → IsReady a at → at < length old →
+    e1 ≡ env_of_all by_par e (captures_at (meanings a) cs.value.items) → e2 ≡ env_of_all by_par (env_left_by_all by_par e (captures_at (meanings a) cs.value.items)) (captures_at (meanings a) ds.value.items) →
+    AreBothWritten old mid (nodes_in (meanings a) (all_need capture_s cs.value.items)) (nodes_in (meanings a) (all_need capture_s ds.value.items)) (capture_usages by_par e [] (captures_at (meanings a) cs.value.items)) (capture_usages by_par (env_left_by_all by_par e (captures_at (meanings a) cs.value.items)) [] (captures_at (meanings a) ds.value.items)) →
     AreWritten mid next (meaning_at (meanings a) v).nodes (usages_of (term_at (meanings a) v) e1) → AreWritten next new (meaning_at (meanings a) w).nodes (usages_of (term_at (meanings a) w) e2) → AreWritten old new (meaning_at (meanings a) at).nodes (usages_of (term_at (meanings a) at) e)
 par_used a at cs v ds w n e e1 e2 old mid next new h is ready lt first_new second_new both first second =
     let ms = meanings a in
-    let xs = nodes_in ms (all_need capture_s cs.items) in
-    let ys = nodes_in ms (all_need capture_s ds.items) in
+    let xs = nodes_in ms (all_need capture_s cs.value.items) in
+    let ys = nodes_in ms (all_need capture_s ds.value.items) in
     let ours = (meaning_at ms v).nodes in
     let theirs = (meaning_at ms w).nodes in
-    let left = env_left_by_all by_par e (captures_at ms cs.items) in
-    let cu = capture_usages by_par e [] (captures_at ms cs.items) in
-    let du = capture_usages by_par left [] (captures_at ms ds.items) in
-    let au = usages_of (term_at ms v) (env_of_all by_par e (captures_at ms cs.items)) in
-    let bu = usages_of (term_at ms w) (env_of_all by_par left (captures_at ms ds.items)) in
+    let left = env_left_by_all by_par e (captures_at ms cs.value.items) in
+    let cu = capture_usages by_par e [] (captures_at ms cs.value.items) in
+    let du = capture_usages by_par left [] (captures_at ms ds.value.items) in
+    let au = usages_of (term_at ms v) (env_of_all by_par e (captures_at ms cs.value.items)) in
+    let bu = usages_of (term_at ms w) (env_of_all by_par left (captures_at ms ds.value.items)) in
     let one : AreWritten mid next ours au = subst (λ f. AreWritten mid next ours (usages_of (term_at ms v) f)) first_new first in
     let two : AreWritten next new theirs bu = subst (λ f. AreWritten next new theirs (usages_of (term_at ms w) f)) second_new second in
     let turned : AreWritten both.between next (ours ++ ys) (au ++ du) = written_other both.between mid next ys ours du au both.second one (par_parts a at cs v ds w n h is ready).apart in

@@ -181,10 +181,10 @@ made_counted p cs at n f h c same made (Spawn names body) is =
     let e = ap lets_in (term_is p.arena at n (Spawn names body) (spawn_t n.place (captures_at (meanings p.arena) names.items) (term_at (meanings p.arena) body)) h is refl) in
     omega (arith, spawn_counted cs (captured_all p names.items) body (drops_of cs names.items body) f (made_is p cs at n (Spawn names body) f is made), e)
 made_counted p cs at n f h c same made (Par names body others other) is =
-    let e = ap lets_in (term_is p.arena at n (Par names body others other) (par_t n.place (captures_at (meanings p.arena) names.items) (term_at (meanings p.arena) body) (captures_at (meanings p.arena) others.items) (term_at (meanings p.arena) other)) h is refl) in
+    let e = ap lets_in (term_is p.arena at n (Par names body others other) (par_t n.place (captures_at (meanings p.arena) names.value.items) (term_at (meanings p.arena) body) (captures_at (meanings p.arena) others.value.items) (term_at (meanings p.arena) other)) h is refl) in
     omega (
       arith,
-      par_counted cs (captured_all p names.items) body (drops_of cs names.items body) (captured_all p others.items) other (drops_of cs others.items other) f (made_is p cs at n (Par names body others other) f is made),
+      par_counted cs (captured_all p names.value.items) body (drops_of cs names.value.items body) (captured_all p others.value.items) other (drops_of cs others.value.items other) f (made_is p cs at n (Par names body others other) f is made),
       e,
     )
 made_counted p cs at n f h c same made (Lock of name body) is =

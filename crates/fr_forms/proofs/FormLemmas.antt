@@ -1,6 +1,7 @@
 -- The term that a form stands for.
 use Rattle.std.proofs.Common.{◌≡◌, ◌≢◌, ℕ, zero, suc, ◌+◌, ◌<◌, ◌≤◌, Bool, true, false, List, [], ◌∷◌, length, get_or, drop, Option, Some, None, refl, sym, ap, ap₂, ◌∙◌, subst, arith, add-one, drop-cons, ⊎_elim}
-use Rattle.std.specs.Prelude.{◌==◌, if◌then◌else◌}
+use Rattle.std.specs.Prelude.{◌==◌, if◌then◌else◌, Box as Boxed}
+use Rattle.std.specs.declared.alloc.Global.{Global}
 use Rattle.std.proofs.lemmas.Bool.Decides.{eqb_tells}
 use Rattle.fr_base.specs.declared.place.Lval.{Lval}
 use Rattle.fr_plain.specs.Run.{Capture, Run, box_r, arith as arith_r, bind, print, assign, block, spawn, join_r, mutex_r, lock, par, last, more}
@@ -49,7 +50,7 @@ build_same n a b (form.Mutex t) s h = ap mutex_r (s t h)
 build_same n a b (form.Dup w) s h = refl
 build_same n a b (form.Lock w body drops) s h = ap (λ r. lock w (dropping drops r)) (s body h)
 build_same n a b (form.Par ours theirs) s h =
-    ap₂ (λ q r. par (captures_of ours.captures.items) (block ours.drops (last q)) (captures_of theirs.captures.items) (block theirs.drops (last r))) (s ours.term h.0) (s theirs.term h.1)
+    ap₂ (λ q r. par (captures_of ours.value.captures.items) (block ours.value.drops (last q)) (captures_of theirs.value.captures.items) (block theirs.value.drops (last r))) (s ours.value.term h.0) (s theirs.value.term h.1)
 build_same n a b form.Place s h = refl
 
 -- the form of that number
@@ -202,7 +203,7 @@ lock_form w (form.Dup x) h = absurd h
 lock_form w (form.Par ours theirs) h = absurd h
 lock_form w form.Place h = absurd h
 
-pub par_form : (m : Form) → IsPar m → (ours : Body) × (theirs : Body) × (m ≡ form.Par ours theirs)
+pub par_form : (m : Form) → IsPar m → (ours : Boxed Body Global) × (theirs : Boxed Body Global) × (m ≡ form.Par ours theirs)
 par_form (form.Par ours theirs) h = (ours, theirs, refl)
 par_form (form.Number x) h = absurd h
 par_form form.Unit h = absurd h
@@ -221,6 +222,14 @@ par_form (form.Dup x) h = absurd h
 par_form (form.Lock x body drops) h = absurd h
 par_form form.Place h = absurd h
 
+-- a new thread behind a pointer
+abbrev pub behind : Boxed Body Global → Body → Boxed Body Global
+behind b body = record b { value = body }
+
+-- a pair's form has the new threads that are seen behind its pointers
+pub pair_seen : (m : Form) (ours theirs : Boxed Body Global) (b d : Body) → m ≡ form.Par ours theirs → b ≡ ours.value → d ≡ theirs.value → m ≡ form.Par (behind ours b) (behind theirs d)
+pair_seen m ours theirs b d is e f = is ∙ ap₂ (λ (x : Body) (y : Body). form.Par (behind ours x) (behind theirs y)) (sym e) (sym f)
+
 -- its term is a lock's
 pub lock_run : (ns : List Form) (i : ℕ) (w : Lval) → AreInOrder ns → i < length ns → IsLock w (get_or ns i form.Unit) → (r : Run) × (term_of ns i ≡ lock w r)
 lock_run ns i w a lt s =
@@ -231,10 +240,10 @@ lock_run ns i w a lt s =
 pub par_run : (ns : List Form) (i : ℕ) → AreInOrder ns → i < length ns → IsPar (get_or ns i form.Unit) → (cs : List Capture) × (r : Run) × (ds : List Capture) × (q : Run) × (term_of ns i ≡ par cs r ds q)
 par_run ns i a lt s =
     let f = par_form (get_or ns i form.Unit) s in (
-      captures_of f.0.captures.items,
-      body_run (term_of ns) f.0,
-      captures_of f.1.captures.items,
-      body_run (term_of ns) f.1,
+      captures_of f.0.value.captures.items,
+      body_run (term_of ns) f.0.value,
+      captures_of f.1.value.captures.items,
+      body_run (term_of ns) f.1.value,
       form_term ns i (get_or ns i form.Unit) (form.Par f.0 f.1) a lt (get_or-any ns i form.Unit (get_or ns i form.Unit) lt) f.2,
     )
 

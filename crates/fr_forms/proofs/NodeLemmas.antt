@@ -1,6 +1,7 @@
 -- The nodes of places, and lists of numbers of nodes.
 use Rattle.std.proofs.Common.{◌≡◌, ℕ, zero, suc, ◌+◌, ◌<◌, ◌≤◌, List, [], ◌∷◌, ◌++◌, length, take, refl, sym, ap, ◌∙◌, subst, arith}
-use Rattle.std.specs.Prelude.{Some, slice_get}
+use Rattle.std.specs.Prelude.{Some, slice_get, Box as Boxed}
+use Rattle.std.specs.declared.alloc.Global.{Global}
 use Rattle.fr_syntax.specs.declared.tree.Term.{Term}
 use Rattle.fr_syntax.specs.declared.tree.Term.TheVariants.{Block, Let, Assign, Read, Dup, Borrow, BorrowMut, Number, Unit, Box, Print, Join, Mutex, Arith, Spawn, Par, Lock, Place, Capture}
 use Rattle.fr_syntax.specs.Arena.{Arena}
@@ -100,10 +101,10 @@ pub record Pair (ms : List Meaning) (at : ℕ) (names : List ℕ) (body : ℕ) (
   pub others_before : AreBelow ms at (all_need capture_s others)
   pub other_before : other < at
 
-pub pair_before : (ms : List Meaning) (at : ℕ) (m : Term) (names : WithRoom ℕ) (body : ℕ) (others : WithRoom ℕ) (other : ℕ) → AreBelow ms at (needs m) → m ≡ Par names body others other → Pair ms at names.items body others.items other
+pub pair_before : (ms : List Meaning) (at : ℕ) (m : Term) (names : Boxed (WithRoom ℕ) Global) (body : ℕ) (others : Boxed (WithRoom ℕ) Global) (other : ℕ) → AreBelow ms at (needs m) → m ≡ Par names body others other → Pair ms at names.value.items body others.value.items other
 pair_before ms at m names body others other h is =
-    let back = needs_append ms at (all_need capture_s names.items ++ (need term_s body ∷ all_need capture_s others.items)) (need term_s other ∷ []) (subst (AreBelow ms at) (ap needs is) h) in
-    let front = needs_append ms at (all_need capture_s names.items) (need term_s body ∷ all_need capture_s others.items) back.0 in
+    let back = needs_append ms at (all_need capture_s names.value.items ++ (need term_s body ∷ all_need capture_s others.value.items)) (need term_s other ∷ []) (subst (AreBelow ms at) (ap needs is) h) in
+    let front = needs_append ms at (all_need capture_s names.value.items) (need term_s body ∷ all_need capture_s others.value.items) back.0 in
     record { names_before = front.0; body_before = front.1.0; others_before = front.1.2; other_before = back.1.0 }
 
 -- LISTS

@@ -1,6 +1,7 @@
 -- The parts of a typed node are typed, with as many usages as nodes.
 use Rattle.std.proofs.Common.{◌≡◌, ℕ, ℤ, zero, suc, ◌<◌, Bool, true, false, List, [], ◌∷◌, ◌++◌, length, Option, Some, None, refl, sym, ap, ◌∙◌, subst, arith, append_assoc, length-append}
-use Rattle.std.specs.Prelude.{not, is_some, slice_get}
+use Rattle.std.specs.Prelude.{not, is_some, slice_get, Box as Boxed}
+use Rattle.std.specs.declared.alloc.Global.{Global}
 use Rattle.std.proofs.lemmas.List.{append-nil}
 use Rattle.fr_base.specs.declared.place.Op.{Op}
 use Rattle.fr_terms.specs.Terms.{Text, Spot, Captured, block_t, let_t, assign_t, read_t, borrow_t, borrow_mut_t, number_t, unit_t, box_t, print_t, arith_t, join_t, mutex_t, dup_t, lock_t, spawn_t, par_t, item, start_of}
@@ -58,7 +59,7 @@ pub data Row (n : Node) : Type 0 where
   a_mutex : (v : ℕ) → n.term ≡ Mutex v → Row n
   a_dup : (of : ℕ) → n.term ≡ Dup of → Row n
   a_lock : (of name v : ℕ) → n.term ≡ Lock of name v → Row n
-  a_par : (names : WithRoom ℕ) (v : ℕ) (others : WithRoom ℕ) (w : ℕ) → n.term ≡ Par names v others w → Row n
+  a_par : (names : Boxed (WithRoom ℕ) Global) (v : ℕ) (others : Boxed (WithRoom ℕ) Global) (w : ℕ) → n.term ≡ Par names v others w → Row n
 
 -- the term of a node
 pub term_is : (a : Arena) (at : ℕ) (n : Node) (m : Term) (t : terms.Term) → IsHere a at n → n.term ≡ m → stands_for a.names (meanings a) n.place m ≡ a_term t → term_at (meanings a) at ≡ t
@@ -148,19 +149,19 @@ names_used by a [] e n = refl
 names_used by a (i ∷ is) e n = let c = as_capture (meaning_at (meanings a) i).what in ap suc (names_used by a is (env_left by e n c) (env_new by e n c))
 
 -- the nodes of a pair's names and bodies, and its own
-par_nodes : (a : Arena) (at : ℕ) (cs : WithRoom ℕ) (v : ℕ) (ds : WithRoom ℕ) (w : ℕ) (n : Node) → IsHere a at n → n.term ≡ Par cs v ds w →
-    (meaning_at (meanings a) at).nodes ≡ (nodes_in (meanings a) (all_need capture_s cs.items) ++ ((meaning_at (meanings a) v).nodes ++ (nodes_in (meanings a) (all_need capture_s ds.items) ++ (meaning_at (meanings a) w).nodes))) ++ at ∷ []
+par_nodes : (a : Arena) (at : ℕ) (cs : Boxed (WithRoom ℕ) Global) (v : ℕ) (ds : Boxed (WithRoom ℕ) Global) (w : ℕ) (n : Node) → IsHere a at n → n.term ≡ Par cs v ds w →
+    (meaning_at (meanings a) at).nodes ≡ (nodes_in (meanings a) (all_need capture_s cs.value.items) ++ ((meaning_at (meanings a) v).nodes ++ (nodes_in (meanings a) (all_need capture_s ds.value.items) ++ (meaning_at (meanings a) w).nodes))) ++ at ∷ []
 par_nodes a at cs v ds w n h is =
     let ms = meanings a in
-    let first = nodes_in ms (all_need capture_s cs.items) in
-    let second = nodes_in ms (all_need capture_s ds.items) in
+    let first = nodes_in ms (all_need capture_s cs.value.items) in
+    let second = nodes_in ms (all_need capture_s ds.value.items) in
     let ours = (meaning_at ms v).nodes in
     let theirs = (meaning_at ms w).nodes in
-    let front = all_need capture_s cs.items ++ (need term_s v ∷ all_need capture_s ds.items) in
+    let front = all_need capture_s cs.value.items ++ (need term_s v ∷ all_need capture_s ds.value.items) in
     h.nodes ∙ ap (λ t. nodes_in ms (needs t) ++ at ∷ []) is
     ∙ ap (λ l. l ++ at ∷ []) (nodes_append ms front (need term_s w ∷ []))
     ∙ ap (λ l. (nodes_in ms front ++ l) ++ at ∷ []) (append-nil theirs)
-    ∙ ap (λ l. (l ++ theirs) ++ at ∷ []) (nodes_append ms (all_need capture_s cs.items) (need term_s v ∷ all_need capture_s ds.items))
+    ∙ ap (λ l. (l ++ theirs) ++ at ∷ []) (nodes_append ms (all_need capture_s cs.value.items) (need term_s v ∷ all_need capture_s ds.value.items))
     ∙ ap (λ l. l ++ at ∷ []) (append_assoc first (ours ++ second) theirs)
     ∙ ap (λ l. (first ++ l) ++ at ∷ []) (append_assoc ours second theirs)
 
@@ -258,12 +259,12 @@ long_row a at n e arena h r below (a_lock of name v is) =
     let uses = ap (λ t. length (usages_of t e)) (term_is a at n (Lock of name v) (lock_t n.place w x (term_at (meanings a) v)) h is refl) in
     omega (arith, nodes, uses, below v parts.before parts.ready f, length-append (ns ++ []) (at ∷ []), length-append ns [], length-append us (None ∷ []))
 long_row a at n e arena h r below (a_par names v others w is) =
-    let cs = captures_at (meanings a) names.items in
-    let ds = captures_at (meanings a) others.items in
+    let cs = captures_at (meanings a) names.value.items in
+    let ds = captures_at (meanings a) others.value.items in
     let left = env_left_by_all by_par e cs in
     let parts = par_parts a at names v others w n h is r in
-    let xs = nodes_in (meanings a) (all_need capture_s names.items) in
-    let ys = nodes_in (meanings a) (all_need capture_s others.items) in
+    let xs = nodes_in (meanings a) (all_need capture_s names.value.items) in
+    let ys = nodes_in (meanings a) (all_need capture_s others.value.items) in
     let ours = (meaning_at (meanings a) v).nodes in
     let theirs = (meaning_at (meanings a) w).nodes in
     let cu = capture_usages by_par e [] cs in
@@ -278,10 +279,10 @@ long_row a at n e arena h r below (a_par names v others w is) =
       uses,
       below v parts.ours_before parts.ours (env_of_all by_par e cs),
       below w parts.theirs_before parts.theirs (env_of_all by_par left ds),
-      names_long a names.items arena parts.first,
-      names_long a others.items arena parts.second,
-      names_used by_par a names.items e [],
-      names_used by_par a others.items left [],
+      names_long a names.value.items arena parts.first,
+      names_long a others.value.items arena parts.second,
+      names_used by_par a names.value.items e [],
+      names_used by_par a others.value.items left [],
       length-append (xs ++ (ours ++ (ys ++ theirs))) (at ∷ []),
       length-append xs (ours ++ (ys ++ theirs)),
       length-append ours (ys ++ theirs),
@@ -513,16 +514,16 @@ pub record Pair (p : Program) (ids : List ℕ) (v : ℕ) (others : List ℕ) (w 
   pub ours : Branch p ids v e
   pub theirs : Branch p others w (env_left_by_all by_par e (captures_at (meanings p.arena) ids))
 
-pub par_typed : (p : Program) (at : ℕ) (names : WithRoom ℕ) (v : ℕ) (others : WithRoom ℕ) (w : ℕ) (n : Node) (e : Env) → IsArena p.arena → IsHere p.arena at n → n.term ≡ Par names v others w → IsTypedIn p at e → Pair p names.items v others.items w e
+pub par_typed : (p : Program) (at : ℕ) (names : Boxed (WithRoom ℕ) Global) (v : ℕ) (others : Boxed (WithRoom ℕ) Global) (w : ℕ) (n : Node) (e : Env) → IsArena p.arena → IsHere p.arena at n → n.term ≡ Par names v others w → IsTypedIn p at e → Pair p names.value.items v others.value.items w e
 par_typed p at names v others w n e arena h is y =
     let a = p.arena in
     let t = term_at (meanings a) v in
     let u = term_at (meanings a) w in
-    let cs = captures_at (meanings a) names.items in
-    let ds = captures_at (meanings a) others.items in
+    let cs = captures_at (meanings a) names.value.items in
+    let ds = captures_at (meanings a) others.value.items in
     let left = env_left_by_all by_par e cs in
-    let xs = nodes_in (meanings a) (all_need capture_s names.items) in
-    let ys = nodes_in (meanings a) (all_need capture_s others.items) in
+    let xs = nodes_in (meanings a) (all_need capture_s names.value.items) in
+    let ys = nodes_in (meanings a) (all_need capture_s others.value.items) in
     let ours = (meaning_at (meanings a) v).nodes in
     let theirs = (meaning_at (meanings a) w).nodes in
     let cu = capture_usages by_par e [] cs in
@@ -533,15 +534,15 @@ par_typed p at names v others w n e arena h is y =
     let term = term_is a at n (Par names v others w) (par_t n.place cs t ds u) h is refl in
     let g = pair_types ((exactly_one_lem.types (par_t n.place cs t ds u) e y.kind y.after).1 (sym (ap (λ z. typing z e) term) ∙ y.typed)) in
     let all : AreUsed p.usages ((xs ++ (ours ++ (ys ++ theirs))) ++ at ∷ []) ((cu ++ (au ++ (du ++ bu))) ++ None ∷ []) = subst (λ l. AreUsed p.usages ((xs ++ (ours ++ (ys ++ theirs))) ++ at ∷ []) l) (ap (λ z. usages_of z e) term) (subst (λ l. AreUsed p.usages l (usages_of (term_at (meanings a) at) e)) (par_nodes a at names v others w n h is) y.used) in
-    let first_long = names_long a names.items arena parts.first ∙ sym (names_used by_par a names.items e []) in
-    let second_long = names_long a others.items arena parts.second ∙ sym (names_used by_par a others.items left []) in
+    let first_long = names_long a names.value.items arena parts.first ∙ sym (names_used by_par a names.value.items e []) in
+    let second_long = names_long a others.value.items arena parts.second ∙ sym (names_used by_par a others.value.items left []) in
     let ours_long = long_below a arena at v parts.ours_before parts.ours (env_of_all by_par e cs) in
     let theirs_long = long_below a arena at w parts.theirs_before parts.theirs (env_of_all by_par left ds) in
     let same : length (xs ++ (ours ++ (ys ++ theirs))) ≡ length (cu ++ (au ++ (du ++ bu))) =
     omega (arith, first_long, second_long, ours_long, theirs_long, length-append xs (ours ++ (ys ++ theirs)), length-append ours (ys ++ theirs), length-append ys theirs, length-append cu (au ++ (du ++ bu)), length-append au (du ++ bu), length-append du bu) in
     let front = (used_both p.usages (xs ++ (ours ++ (ys ++ theirs))) (at ∷ []) (cu ++ (au ++ (du ++ bu))) (None ∷ []) same all).0 in
-    let one = branch_typed p at names.items v e (ys ++ theirs) (du ++ bu) arena parts.first parts.ours_before parts.ours g.ours front in
-    let two = branch_typed p at others.items w left [] [] arena parts.second parts.theirs_before parts.theirs g.theirs
+    let one = branch_typed p at names.value.items v e (ys ++ theirs) (du ++ bu) arena parts.first parts.ours_before parts.ours g.ours front in
+    let two = branch_typed p at others.value.items w left [] [] arena parts.second parts.theirs_before parts.theirs g.theirs
     (subst (λ l. AreUsed p.usages (ys ++ l) (du ++ (bu ++ []))) (sym (append-nil theirs)) (subst (λ l. AreUsed p.usages (ys ++ theirs) (du ++ l)) (sym (append-nil bu)) one.1)) in
     record { ours = one.0; theirs = two.0 }
 

@@ -1,6 +1,7 @@
 -- The running term of a typed node is made of those of its parts.
 use Rattle.std.proofs.Common.{◌≡◌, ℕ, zero, suc, ◌+◌, ◌<◌, ◌≤◌, ◌^◌, Bool, true, false, List, [], ◌∷◌, ◌++◌, length, Option, Some, None, refl, sym, ap, ap₂, ◌∙◌, subst, arith, length-append}
-use Rattle.std.specs.Prelude.{not, slice_get, slice_index_or, unwrap_or, if◌then◌else◌}
+use Rattle.std.specs.Prelude.{not, slice_get, slice_index_or, unwrap_or, if◌then◌else◌, Box as Boxed}
+use Rattle.std.specs.declared.alloc.Global.{Global}
 use Rattle.fr_base.specs.declared.place.Lval.{Lval}
 use Rattle.fr_terms.specs.Terms.{Spot, Captured, block_t, let_t, assign_t, read_t, borrow_t, borrow_mut_t, number_t, unit_t, box_t, print_t, arith_t, join_t, mutex_t, dup_t, lock_t, spawn_t, par_t, Items, none, item}
 use Rattle.fr_terms.specs.Terms as terms
@@ -298,25 +299,25 @@ branch_run p at counts look ids v e b arena names before c same runs s few made 
     let body : look b.term ≡ resolve t (env_of_all by_par e cs) = ap look made.term_is ∙ runs v before (env_of_all by_par e cs) s.body in
     (ap captures_of made.captures_are ∙ captures_run by_par p ids e [] arena names s.names, ap₂ (λ x y. block x (last y)) total body)
 
-par_run : (p : Program) (at : ℕ) (counts : List ℕ) (look : ℕ → Run) (names : WithRoom ℕ) (v : ℕ) (others : WithRoom ℕ) (u : ℕ) (n : Node) (e : Env) (f : Form) → IsArena p.arena → IsHere p.arena at n → n.term ≡ Par names v others u → IsTypedIn p at e → AreCounts p counts → length counts ≡ at → AreRuns p at look →
-    IsParOf (captured_all p names.items) v (drops_of counts names.items v) (captured_all p others.items) u (drops_of counts others.items u) f →
-    build look f ≡ resolve (par_t n.place (captures_at (meanings p.arena) names.items) (term_at (meanings p.arena) v) (captures_at (meanings p.arena) others.items) (term_at (meanings p.arena) u)) e
+par_run : (p : Program) (at : ℕ) (counts : List ℕ) (look : ℕ → Run) (names : Boxed (WithRoom ℕ) Global) (v : ℕ) (others : Boxed (WithRoom ℕ) Global) (u : ℕ) (n : Node) (e : Env) (f : Form) → IsArena p.arena → IsHere p.arena at n → n.term ≡ Par names v others u → IsTypedIn p at e → AreCounts p counts → length counts ≡ at → AreRuns p at look →
+    IsParOf (captured_all p names.value.items) v (drops_of counts names.value.items v) (captured_all p others.value.items) u (drops_of counts others.value.items u) f →
+    build look f ≡ resolve (par_t n.place (captures_at (meanings p.arena) names.value.items) (term_at (meanings p.arena) v) (captures_at (meanings p.arena) others.value.items) (term_at (meanings p.arena) u)) e
 par_run p at counts look names v others u n e (form.Par ours theirs) arena h is w c same runs made =
     let a = p.arena in
-    let cs = captures_at (meanings a) names.items in
+    let cs = captures_at (meanings a) names.value.items in
     let left = env_left_by_all by_par e cs in
     let parts = par_parts a at names v others u n h is w.ready in
     let s = par_typed p at names v others u n e arena h is w in
     let few = nodes_few a at arena w.ready.here w.ready.own in
-    let first_long = names_long a names.items arena parts.first in
-    let second_long = names_long a others.items arena parts.second in
+    let first_long = names_long a names.value.items arena parts.first in
+    let second_long = names_long a others.value.items arena parts.second in
     let ours_long = long_below a arena at v parts.ours_before parts.ours e in
     let theirs_long = long_below a arena at u parts.theirs_before parts.theirs e in
-    let ours_few : length names.items + lets_in (term_at (meanings a) v) < 2 ^ 32 = omega (arith, few, first_long, ours_long, parts.count, lets_few (term_at (meanings a) v) e) in
-    let theirs_few : length others.items + lets_in (term_at (meanings a) u) < 2 ^ 32 = omega (arith, few, second_long, theirs_long, parts.count, lets_few (term_at (meanings a) u) e) in
-    let one = branch_run p at counts look names.items v e ours arena parts.first parts.ours_before c same runs s.ours ours_few made.0 in
-    let two = branch_run p at counts look others.items u left theirs arena parts.second parts.theirs_before c same runs s.theirs theirs_few made.1 in
-    ap₂ (λ xs r. par xs r (captures_of theirs.captures.items) (body_run look theirs)) one.0 one.1
+    let ours_few : length names.value.items + lets_in (term_at (meanings a) v) < 2 ^ 32 = omega (arith, few, first_long, ours_long, parts.count, lets_few (term_at (meanings a) v) e) in
+    let theirs_few : length others.value.items + lets_in (term_at (meanings a) u) < 2 ^ 32 = omega (arith, few, second_long, theirs_long, parts.count, lets_few (term_at (meanings a) u) e) in
+    let one = branch_run p at counts look names.value.items v e ours.value arena parts.first parts.ours_before c same runs s.ours ours_few made.0 in
+    let two = branch_run p at counts look others.value.items u left theirs.value arena parts.second parts.theirs_before c same runs s.theirs theirs_few made.1 in
+    ap₂ (λ xs r. par xs r (captures_of theirs.value.captures.items) (body_run look theirs.value)) one.0 one.1
     ∙ ap₂ (par (captures by_par e [] cs) (body_of cs (term_at (meanings a) v) (resolve (term_at (meanings a) v) (env_of_all by_par e cs)))) two.0 two.1
 par_run p at counts look names v others u n e (form.Number x) arena h is w c same runs made = absurd made
 par_run p at counts look names v others u n e form.Unit arena h is w c same runs made = absurd made
@@ -444,7 +445,7 @@ run_row p at counts look n e f arena h w c same runs made (a_lock of name v is) 
     resolved p at n (Lock of name v) (lock_t n.place spot x t) e (build look f) (lock (named e spot) (dropping (lets_in t) (resolve t (env_locked e spot x)))) h is refl
     (ap (build look) (made_is p counts at n (Lock of name v) f is made) ∙ ap₂ lock place (ap₂ dropping total body)) refl
 run_row p at counts look n e f arena h w c same runs made (a_par names v others u is) =
-    let t = par_t n.place (captures_at (meanings p.arena) names.items) (term_at (meanings p.arena) v) (captures_at (meanings p.arena) others.items) (term_at (meanings p.arena) u) in
+    let t = par_t n.place (captures_at (meanings p.arena) names.value.items) (term_at (meanings p.arena) v) (captures_at (meanings p.arena) others.value.items) (term_at (meanings p.arena) u) in
     resolved p at n (Par names v others u) t e (build look f) (resolve t e) h is refl
     (par_run p at counts look names v others u n e f arena h is w c same runs (made_is p counts at n (Par names v others u) f is made)) refl
 

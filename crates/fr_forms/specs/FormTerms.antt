@@ -46,7 +46,7 @@ build look (form.Block items lets) = block lets (parts_of look items.items)
 build look (form.Mutex value) = mutex_r (look value)
 build look (form.Dup w) = dup w
 build look (form.Lock w body drops) = lock w (dropping drops (look body))
-build look (form.Par ours theirs) = par (captures_of ours.captures.items) (body_run look ours) (captures_of theirs.captures.items) (body_run look theirs)
+build look (form.Par ours theirs) = par (captures_of ours.value.captures.items) (body_run look ours.value) (captures_of theirs.value.captures.items) (body_run look theirs.value)
 build look form.Place = unit_c
 
 -- the term of a form's number, where the last form comes first
@@ -73,7 +73,7 @@ NamesBelow n (form.Arith f left right) = (left < n) × (right < n)
 NamesBelow n (form.Block items lets) = AllBelow n items.items
 NamesBelow n (form.Mutex value) = value < n
 NamesBelow n (form.Lock w body drops) = body < n
-NamesBelow n (form.Par ours theirs) = (ours.term < n) × (theirs.term < n)
+NamesBelow n (form.Par ours theirs) = (ours.value.term < n) × (theirs.value.term < n)
 NamesBelow n _ = ⊤
 
 -- each form names only forms below it, where the last form comes first

@@ -74,7 +74,7 @@ pub record IsBodyOf (captures : List Captured) (term drops : ℕ) (b : Body) : T
 
 -- a pair of new threads
 abbrev pub IsParOf : List Captured → ℕ → ℕ → List Captured → ℕ → ℕ → Form → Type 0
-IsParOf cs v k ds w l (form.Par ours theirs) = IsBodyOf cs v k ours × IsBodyOf ds w l theirs
+IsParOf cs v k ds w l (form.Par ours theirs) = IsBodyOf cs v k ours.value × IsBodyOf ds w l theirs.value
 IsParOf cs v k ds w l _ = ⊥
 
 -- the form of a node, from how many variables the terms before it declare
@@ -96,5 +96,5 @@ IsMade p counts at (Arith op left right) f = f ≡ form.Arith op left right
 IsMade p counts at (Block items) f = IsBlockOf counts items.items f
 IsMade p counts at (Spawn names body) f = IsSpawnOf (captured_all p names.items) body (drops_of counts names.items body) f
 IsMade p counts at (Par names body others other) f =
-    IsParOf (captured_all p names.items) body (drops_of counts names.items body) (captured_all p others.items) other (drops_of counts others.items other) f
+    IsParOf (captured_all p names.value.items) body (drops_of counts names.value.items body) (captured_all p others.value.items) other (drops_of counts others.value.items other) f
 IsMade p counts at _ f = f ≡ form.Place

@@ -68,23 +68,24 @@ fn drops(names: u64, variables: u32) -> u32
     names.saturating_add(variables as u64).min(u32::MAX as u64) as u32
 }
 
-// A new thread of a pair. The nodes before declare so many variables.
+// A new thread of a pair, behind a pointer. The nodes before declare so many variables.
 fn body(
     alloc: Global,
     checked: &Checked,
     names: &Nodes,
     term: u32,
     counts: &[u32],
-) -> Result<Body, NoMemory>
+) -> Result<Box<Body>, NoMemory>
     requires names { AreBelow (meanings checked.now.arena) (length (meanings checked.now.arena)) (all_need capture_s names.now.items) }
     requires term { term < length counts.now }
-    ensures { IfOk result (IsBodyOf (captured_all checked.now names.now.items) term (drops_of counts.now names.now.items term)) }
+    ensures { IfOk result (λ b. IsBodyOf (captured_all checked.now names.now.items) term (drops_of counts.now names.now.items term) b.value) }
 {
-    Ok(Body {
+    let body = Body {
         captures: captured_slots(alloc, checked, names)?,
         term,
         drops: drops(names.len(), counts[term as usize]),
-    })
+    };
+    Ok(Box::new(alloc, body)?)
 }
 
 // The numbers of nodes, in a vector.

@@ -47,8 +47,9 @@ pub enum Form {
     /// The place of the mutex, the body, and how many variables the body declares outside of the blocks in it: so many slots
     /// are dropped before the mutex is unlocked.
     Lock(Lval, u32, u32),
-    /// Both new threads, the second one with captures from what the first one leaves.
-    Par(Body, Body),
+    /// Both new threads, the second one with captures from what the first one leaves. They stand behind a pointer each, so that
+    /// a form takes 40 bytes and not 72.
+    Par(Box<Body>, Box<Body>),
     /// The node of a place or of a captured name, which nobody enters.
     Place,
 }

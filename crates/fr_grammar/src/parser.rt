@@ -11,6 +11,7 @@ ghost use Rattle.fr_grammar.specs.Reading.{Gives, any_at, items_at, block_at, re
 use crate::fault::ParseError;
 use crate::leaves::{captures, leaf, spot, unit};
 use crate::marks::{Next, Terminal, bound_at, deep_at, expect, held_at, next_at, op_at, place_of};
+use fr_base::NoMemory;
 use fr_syntax::{Nodes, Term, Token, TokenKind, Tree};
 use std::alloc::Global;
 
@@ -357,6 +358,13 @@ fn spawn<'a>(
     Ok((tree.add(Term::Spawn(captures, body), place)?, rest))
 }
 
+// Nodes behind a pointer.
+fn boxed(alloc: Global, nodes: Nodes) -> Result<Box<Nodes>, NoMemory>
+    ensures { IfOk result (λ b. b.value ≡ nodes) }
+{
+    Ok(Box::new(alloc, nodes)?)
+}
+
 // Two new threads, behind `par`.
 #[cycle(parser)]
 #[tactic(auto, unfolding(crate::specs::Reading::par_at))]
@@ -377,7 +385,9 @@ fn par<'a>(
 {
     let (captures, body, rest) = branch(alloc, tree, depth, tokens)?;
     let (others, other, rest) = branch(alloc, tree, depth, rest)?;
-    let term = Term::Par(captures, body, others, other);
+    let ours = boxed(alloc, captures)?;
+    let theirs = boxed(alloc, others)?;
+    let term = Term::Par(ours, body, theirs, other);
     Ok((tree.add(term, place)?, rest))
 }
 

@@ -71,9 +71,9 @@ par_steps fs xs beside output t names i x node h =
     let term = form_term fs node (get_or fs node form.Unit) (form.Par f.0 f.1) h.order way.0 (get_or-any fs node form.Unit (get_or fs node form.Unit) way.0) f.2 in
     let cs = captures_of (ours_at fs node) in
     let ds = captures_of (theirs_at fs node) in
-    let r = body_run (term_of fs) f.0 in
-    let q = body_run (term_of fs) f.1 in
-    let named = term ∙ ap (λ us. par (captures_of us) r (captures_of f.1.captures.items) q) (sym (ap ours_in f.2)) ∙ ap (λ us. par cs r (captures_of us) q) (sym (ap theirs_in f.2)) in
+    let r = body_run (term_of fs) f.0.value in
+    let q = body_run (term_of fs) f.1.value in
+    let named = term ∙ ap (λ us. par (captures_of us) r (captures_of f.1.value.captures.items) q) (sym (ap ours_in f.2)) ∙ ap (λ us. par cs r (captures_of us) q) (sym (ap theirs_in f.2)) in
     let m : Move Run = record { act = do_par cs r ds q; plug = λ v. run.par_end } in
     let M : Move Life = record { act = do_par cs r ds q; plug = λ v. life_at x.stage (wrapped fs x.frames.items run.par_end) } in
     let run_is = ap (λ (g : Focus). wrapped fs x.frames.items (focus_run fs g)) h.comes ∙ ap (wrapped fs x.frames.items) named in

@@ -12,11 +12,11 @@ use Rattle.fr_meaning.specs.Threads.{IsGoingOn}
 
 -- the captured slots of the first one, and of the second one
 abbrev pub ours_in : Form → List Captured
-ours_in (form.Par ours theirs) = ours.captures.items
+ours_in (form.Par ours theirs) = ours.value.captures.items
 ours_in _ = []
 
 abbrev pub theirs_in : Form → List Captured
-theirs_in (form.Par ours theirs) = theirs.captures.items
+theirs_in (form.Par ours theirs) = theirs.value.captures.items
 theirs_in _ = []
 
 abbrev pub ours_at : List Form → ℕ → List Captured

@@ -19,7 +19,7 @@ use crate::thread::{Stage, pass_captures, resume};
 use crate::threads::{Made, Runner};
 use fr_acts::note;
 use fr_base::{Fresh, Label, Labels, NoMemory, ThreadNo};
-use fr_forms::Form;
+use fr_forms::{Body, Form};
 use fr_shared::Two;
 use std::alloc::Global;
 
@@ -102,9 +102,11 @@ fn start_pair(
     let mut our_slots = ours.slots;
     let mut their_slots = theirs.slots;
     let starting = &mut running.threads[turn.at];
-    let Form::Par(our_body, their_body) = &forms[node] else {
+    let Form::Par(our_box, their_box) = &forms[node] else {
         unreachable!()
     };
+    let our_body: &Body = our_box;
+    let their_body: &Body = their_box;
     pass_captures(&our_body.captures, &mut starting.slots, &mut our_slots);
     pass_captures(&their_body.captures, &mut starting.slots, &mut their_slots);
     starting.focus = Focus::ParEnd;

@@ -1,6 +1,7 @@
 -- Texts written one behind the other.
 use Rattle.std.proofs.Common.{◌≡◌, ℕ, zero, suc, ◌+◌, ◌<◌, ◌≤◌, nat_lt, true, cond, List, [], ◌∷◌, ◌++◌, length, take, replicate, refl, sym, ap, ◌∙◌, subst, codes, arith}
-use Rattle.std.specs.Prelude.{Some, slice_get, Result, Ok, Err, OnOk}
+use Rattle.std.specs.Prelude.{Some, slice_get, Result, Ok, Err, OnOk, Box as Boxed}
+use Rattle.std.specs.declared.alloc.Global.{Global}
 use Rattle.std.proofs.lemmas.Bool.Decides.{nat_tests}
 use Rattle.std.proofs.lemmas.List.{append_assoc, append-nil}
 use Rattle.fr_terms.specs.Terms.{Text}
@@ -138,10 +139,10 @@ below_join ms n [] ys h k = k
 below_join ms n (x ∷ xs) ys h k = (h.0, h.1, below_join ms n xs ys h.2 k)
 
 -- the parts of a node with two branches
-pub par_parts : (ms : List Meaning) (at : ℕ) (term : tree.Term) (nodes others : WithRoom ℕ) (body other : ℕ) → AreBelow ms at (needs term) → term ≡ Par nodes body others other → AreBelow ms at (branch_parts nodes.items body) × AreBelow ms at (branch_parts others.items other)
+pub par_parts : (ms : List Meaning) (at : ℕ) (term : tree.Term) (nodes others : Boxed (WithRoom ℕ) Global) (body other : ℕ) → AreBelow ms at (needs term) → term ≡ Par nodes body others other → AreBelow ms at (branch_parts nodes.value.items body) × AreBelow ms at (branch_parts others.value.items other)
 par_parts ms at term nodes others body other below is =
-    let front = all_need capture_s nodes.items in
-    let next = all_need capture_s others.items in
+    let front = all_need capture_s nodes.value.items in
+    let next = all_need capture_s others.value.items in
     let all = below_split ms at (front ++ need term_s body ∷ next) (need term_s other ∷ []) (subst (λ t. AreBelow ms at (needs t)) is below) in
     let first = below_split ms at front (need term_s body ∷ next) all.0 in
     (below_join ms at front (need term_s body ∷ []) first.0 (first.1.0, first.1.1, tt), below_join ms at next (need term_s other ∷ []) first.1.2 all.1)

@@ -74,14 +74,14 @@ stands_for-same names ms ns at (Spawn captures body) h =
     (captures_at-same ms ns captures.items (same-front ms ns (all_need capture_s captures.items) (need term_s body ∷ []) h))
     (same-back ms ns (all_need capture_s captures.items) (need term_s body ∷ []) h).0
 stands_for-same names ms ns at (Par captures body others other) h =
-    let first = all_need capture_s captures.items in
-    let second = all_need capture_s others.items in
+    let first = all_need capture_s captures.value.items in
+    let second = all_need capture_s others.value.items in
     let last = need term_s other ∷ [] in
     let front : MeanSame ms ns (first ++ need term_s body ∷ second) = same-front ms ns (first ++ need term_s body ∷ second) last h in
     let middle : MeanSame ms ns (need term_s body ∷ second) = same-back ms ns first (need term_s body ∷ second) front in
     let back : MeanSame ms ns last = same-back ms ns (first ++ need term_s body ∷ second) last h in
-    ap₂ (λ l (y : Meaning). a_term (par_t at l (as_term y.what) (captures_at ns others.items) (term_at ns other))) (captures_at-same ms ns captures.items (same-front ms ns first (need term_s body ∷ second) front)) middle.0
-    ∙ ap₂ (λ l (y : Meaning). a_term (par_t at (captures_at ms captures.items) (term_at ms body) l (as_term y.what))) (captures_at-same ms ns others.items middle.1) back.0
+    ap₂ (λ l (y : Meaning). a_term (par_t at l (as_term y.what) (captures_at ns others.value.items) (term_at ns other))) (captures_at-same ms ns captures.value.items (same-front ms ns first (need term_s body ∷ second) front)) middle.0
+    ∙ ap₂ (λ l (y : Meaning). a_term (par_t at (captures_at ms captures.value.items) (term_at ms body) l (as_term y.what))) (captures_at-same ms ns others.value.items middle.1) back.0
 stands_for-same names ms ns at (Lock of name body) h = ap₂ (λ (x : Meaning) (y : Meaning). a_term (lock_t at (as_place x.what) (text_of names name) (as_term y.what))) h.0 h.1.0
 stands_for-same names ms ns at (Place name stars) h = refl
 stands_for-same names ms ns at (Capture name) h = refl

@@ -79,7 +79,7 @@ stands_for names ms at (Join task) = a_term (join_t at (term_at ms task))
 stands_for names ms at (Mutex value) = a_term (mutex_t at (term_at ms value))
 stands_for names ms at (Arith op left right) = a_term (arith_t at op (term_at ms left) (term_at ms right))
 stands_for names ms at (Spawn captures body) = a_term (spawn_t at (captures_at ms captures.items) (term_at ms body))
-stands_for names ms at (Par captures body others other) = a_term (par_t at (captures_at ms captures.items) (term_at ms body) (captures_at ms others.items) (term_at ms other))
+stands_for names ms at (Par captures body others other) = a_term (par_t at (captures_at ms captures.value.items) (term_at ms body) (captures_at ms others.value.items) (term_at ms other))
 stands_for names ms at (Lock of name body) = a_term (lock_t at (place_at ms of) (text_of names name) (term_at ms body))
 stands_for names ms at (Place name stars) = a_place (record { at = at; name = text_of names name; stars = stars })
 stands_for names ms at (Capture name) = a_capture (record { at = at; name = text_of names name })
@@ -113,7 +113,7 @@ needs (Join task) = need term_s task ∷ []
 needs (Mutex value) = need term_s value ∷ []
 needs (Arith op left right) = need term_s left ∷ need term_s right ∷ []
 needs (Spawn captures body) = all_need capture_s captures.items ++ need term_s body ∷ []
-needs (Par captures body others other) = all_need capture_s captures.items ++ need term_s body ∷ all_need capture_s others.items ++ need term_s other ∷ []
+needs (Par captures body others other) = all_need capture_s captures.value.items ++ need term_s body ∷ all_need capture_s others.value.items ++ need term_s other ∷ []
 needs (Lock of name body) = need place_s of ∷ need term_s body ∷ []
 needs (Place name stars) = []
 needs (Capture name) = []

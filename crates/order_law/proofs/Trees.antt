@@ -89,17 +89,17 @@ module _ (ms : List Meaning) where
       let rest : List Need = record { node = body; sort = term_s } ∷ [] in
       omega (arith, captures_weigh n captures.items (below_left n cs rest b), one_term n body [] (below_right n cs rest b), parts_more cs rest)
   stands_weigh names at n (Par captures body others other) b =
-      let cs = all_need capture_s captures.items in
-      let ds = all_need capture_s others.items in
+      let cs = all_need capture_s captures.value.items in
+      let ds = all_need capture_s others.value.items in
       let last : List Need = record { node = other; sort = term_s } ∷ [] in
       let rest : List Need = record { node = body; sort = term_s } ∷ ds in
       let before = below_left n (cs ++ rest) last b in
       let later = below_right n cs rest before in
       omega (
         arith,
-        captures_weigh n captures.items (below_left n cs rest before),
+        captures_weigh n captures.value.items (below_left n cs rest before),
         one_term n body ds later,
-        captures_weigh n others.items later.2,
+        captures_weigh n others.value.items later.2,
         one_term n other [] (below_right n (cs ++ rest) last b),
         parts_more (cs ++ rest) last,
         parts_more cs rest,

@@ -15,7 +15,7 @@ use Rattle.borrow_check.proofs.RuleLemmas.{on_ok_map}
 use Rattle.borrow_check.proofs.TermLemmas.{IsAlong, along_few, along_step, along_written, along_fails, first_ready, next_first, follows_gives}
 use Rattle.borrow_check.proofs.CheckLemmas.{on_ok, on_ok_both, here_by, at_inside, box_part, print_part, join_part, mutex_part, let_part, assign_part, spawn_parts, spawn_gives, thread_used, spawn_used, join_used, mutex_used, block_parts, block_count, arith_parts, arith_gives, operands_used, arith_used, box_used, print_used, let_used, block_used, assign_used_at}
 use Rattle.borrow_check.proofs.LockLemmas.{lock_parts, lock_here, lock_fails, lock_body_fails, lock_gives, lock_used}
-use Rattle.borrow_check.proofs.ParLemmas.{par_here, par_parts, both_long, par_gives, par_used}
+use Rattle.borrow_check.proofs.ParLemmas.{behind, par_seen, par_here, par_parts, both_long, par_gives, par_used}
 use Rattle.borrow_check.proofs.checker.+check.Goals as goal
 
 pub check_term-check_term-requires : goal.check_term-check_term-requires
@@ -305,92 +305,119 @@ check_term-returns-in_ok-t-in-Lock-clause-usages t c =
 pub check_term-capture_both-requires-clause-first : goal.check_term-capture_both-requires-clause-first
 check_term-capture_both-requires-clause-first t c =
     let h = here_by c.args.tree.now c.args.at c.in-Some.node.now c.in-Some.ensures.what c.in-Some.ensures.nodes c.in-Some.ensures.parts in
-    let parts = par_parts c.args.tree.now c.args.at c.in-Par.captures c.in-Par.body c.in-Par.others c.in-Par.other c.in-Some.node.now h c.in-Par.is c.requires.ready in
+    let bs = behind c.in-Par.captures c.deref.result.now in
+    let es = behind c.in-Par.others c.deref-in-Par.result.now in
+    let is = par_seen c.in-Some.node.now.term c.in-Par.captures c.in-Par.others c.in-Par.body c.in-Par.other c.deref.result.now c.deref-in-Par.result.now c.in-Par.is c.deref.ensures c.deref-in-Par.ensures in
+    let parts = par_parts c.args.tree.now c.args.at bs c.in-Par.body es c.in-Par.other c.in-Some.node.now h is c.requires.ready in
     parts.first
 
 pub check_term-capture_both-requires-clause-second : goal.check_term-capture_both-requires-clause-second
 check_term-capture_both-requires-clause-second t c =
     let h = here_by c.args.tree.now c.args.at c.in-Some.node.now c.in-Some.ensures.what c.in-Some.ensures.nodes c.in-Some.ensures.parts in
-    let parts = par_parts c.args.tree.now c.args.at c.in-Par.captures c.in-Par.body c.in-Par.others c.in-Par.other c.in-Some.node.now h c.in-Par.is c.requires.ready in
+    let bs = behind c.in-Par.captures c.deref.result.now in
+    let es = behind c.in-Par.others c.deref-in-Par.result.now in
+    let is = par_seen c.in-Some.node.now.term c.in-Par.captures c.in-Par.others c.in-Par.body c.in-Par.other c.deref.result.now c.deref-in-Par.result.now c.in-Par.is c.deref.ensures c.deref-in-Par.ensures in
+    let parts = par_parts c.args.tree.now c.args.at bs c.in-Par.body es c.in-Par.other c.in-Some.node.now h is c.requires.ready in
     parts.second
 
 pub check_term-capture_both-requires-clause-few : goal.check_term-capture_both-requires-clause-few
 check_term-capture_both-requires-clause-few t c =
     let h = here_by c.args.tree.now c.args.at c.in-Some.node.now c.in-Some.ensures.what c.in-Some.ensures.nodes c.in-Some.ensures.parts in
-    let parts = par_parts c.args.tree.now c.args.at c.in-Par.captures c.in-Par.body c.in-Par.others c.in-Par.other c.in-Some.node.now h c.in-Par.is c.requires.ready in
+    let bs = behind c.in-Par.captures c.deref.result.now in
+    let es = behind c.in-Par.others c.deref-in-Par.result.now in
+    let is = par_seen c.in-Some.node.now.term c.in-Par.captures c.in-Par.others c.in-Par.body c.in-Par.other c.deref.result.now c.deref-in-Par.result.now c.in-Par.is c.deref.ensures c.deref-in-Par.ensures in
+    let parts = par_parts c.args.tree.now c.args.at bs c.in-Par.body es c.in-Par.other c.in-Some.node.now h is c.requires.ready in
     omega (arith, c.requires.few, parts.count)
 
 pub check_term-check_branch-requires : goal.check_term-check_branch-requires
 check_term-check_branch-requires t c =
     let h = here_by c.args.tree.now c.args.at c.in-Some.node.now c.in-Some.ensures.what c.in-Some.ensures.nodes c.in-Some.ensures.parts in
-    let parts = par_parts c.args.tree.now c.args.at c.in-Par.captures c.in-Par.body c.in-Par.others c.in-Par.other c.in-Some.node.now h c.in-Par.is c.requires.ready in
+    let bs = behind c.in-Par.captures c.deref.result.now in
+    let es = behind c.in-Par.others c.deref-in-Par.result.now in
+    let is = par_seen c.in-Some.node.now.term c.in-Par.captures c.in-Par.others c.in-Par.body c.in-Par.other c.deref.result.now c.deref-in-Par.result.now c.in-Par.is c.deref.ensures c.deref-in-Par.ensures in
+    let parts = par_parts c.args.tree.now c.args.at bs c.in-Par.body es c.in-Par.other c.in-Some.node.now h is c.requires.ready in
     let a = c.args.tree.now in
     let ms = meanings a in
-    let cs = captures_at ms c.in-Par.captures.items in
-    let ds = captures_at ms c.in-Par.others.items in
+    let cs = captures_at ms c.deref.result.now.items in
+    let ds = captures_at ms c.deref-in-Par.result.now.items in
     let e = env_of a.names c.args.env.now in
     let ours = env_of a.names c.in_ok-ours-in-Par.ours in
     let theirs = env_of a.names c.in_ok-ours-in-Par.theirs in
     let after = env_of a.names c.capture_both.new.env in
     let left = env_left_by_all by_par e cs in
-    let long = both_long c.args.checker.now.usages.items c.capture_both.new.checker.usages.items (nodes_in ms (all_need capture_s c.in-Par.captures.items)) (nodes_in ms (all_need capture_s c.in-Par.others.items)) (capture_usages by_par e [] cs) (capture_usages by_par left [] ds) c.in_ok-ours-in-Par.ensures.usages in
+    let long = both_long c.args.checker.now.usages.items c.capture_both.new.checker.usages.items (nodes_in ms (all_need capture_s c.deref.result.now.items)) (nodes_in ms (all_need capture_s c.deref-in-Par.result.now.items)) (capture_usages by_par e [] cs) (capture_usages by_par left [] ds) c.in_ok-ours-in-Par.ensures.usages in
     (omega (arith, c.decreases, parts.ours_before), (parts.ours, (c.in_ok-ours-in-Par.ensures.first_scope, (long ∙ c.requires.usages, omega (arith, c.requires.few, parts.count, c.in_ok-ours-in-Par.ensures.first_few)))))
 
 pub check_term-check_branch-requires-in-Par : goal.check_term-check_branch-requires-in-Par
 check_term-check_branch-requires-in-Par t c =
     let h = here_by c.args.tree.now c.args.at c.in-Some.node.now c.in-Some.ensures.what c.in-Some.ensures.nodes c.in-Some.ensures.parts in
-    let parts = par_parts c.args.tree.now c.args.at c.in-Par.captures c.in-Par.body c.in-Par.others c.in-Par.other c.in-Some.node.now h c.in-Par.is c.requires.ready in
+    let bs = behind c.in-Par.captures c.deref.result.now in
+    let es = behind c.in-Par.others c.deref-in-Par.result.now in
+    let is = par_seen c.in-Some.node.now.term c.in-Par.captures c.in-Par.others c.in-Par.body c.in-Par.other c.deref.result.now c.deref-in-Par.result.now c.in-Par.is c.deref.ensures c.deref-in-Par.ensures in
+    let parts = par_parts c.args.tree.now c.args.at bs c.in-Par.body es c.in-Par.other c.in-Some.node.now h is c.requires.ready in
     let a = c.args.tree.now in
     let ms = meanings a in
-    let cs = captures_at ms c.in-Par.captures.items in
-    let ds = captures_at ms c.in-Par.others.items in
+    let cs = captures_at ms c.deref.result.now.items in
+    let ds = captures_at ms c.deref-in-Par.result.now.items in
     let e = env_of a.names c.args.env.now in
     let ours = env_of a.names c.in_ok-ours-in-Par.ours in
     let theirs = env_of a.names c.in_ok-ours-in-Par.theirs in
     let after = env_of a.names c.capture_both.new.env in
     let left = env_left_by_all by_par e cs in
-    let long = both_long c.args.checker.now.usages.items c.capture_both.new.checker.usages.items (nodes_in ms (all_need capture_s c.in-Par.captures.items)) (nodes_in ms (all_need capture_s c.in-Par.others.items)) (capture_usages by_par e [] cs) (capture_usages by_par left [] ds) c.in_ok-ours-in-Par.ensures.usages in
+    let long = both_long c.args.checker.now.usages.items c.capture_both.new.checker.usages.items (nodes_in ms (all_need capture_s c.deref.result.now.items)) (nodes_in ms (all_need capture_s c.deref-in-Par.result.now.items)) (capture_usages by_par e [] cs) (capture_usages by_par left [] ds) c.in_ok-ours-in-Par.ensures.usages in
     let longer = written_long c.capture_both.new.checker.usages.items c.check_branch.new.checker.usages.items (meaning_at ms c.in-Par.body).nodes (usages_of (term_at ms c.in-Par.body) ours) c.in_ok-first-in-Par.ensures.usages in
     (omega (arith, c.decreases, parts.theirs_before), (parts.theirs, (c.in_ok-ours-in-Par.ensures.second_scope, (longer ∙ long ∙ c.requires.usages, omega (arith, c.requires.few, parts.count, c.in_ok-ours-in-Par.ensures.second_few)))))
 
 pub check_term-start-requires-in-Par-clause-sort : goal.check_term-start-requires-in-Par-clause-sort
 check_term-start-requires-in-Par-clause-sort t c =
     let h = here_by c.args.tree.now c.args.at c.in-Some.node.now c.in-Some.ensures.what c.in-Some.ensures.nodes c.in-Some.ensures.parts in
-    let parts = par_parts c.args.tree.now c.args.at c.in-Par.captures c.in-Par.body c.in-Par.others c.in-Par.other c.in-Some.node.now h c.in-Par.is c.requires.ready in
+    let bs = behind c.in-Par.captures c.deref.result.now in
+    let es = behind c.in-Par.others c.deref-in-Par.result.now in
+    let is = par_seen c.in-Some.node.now.term c.in-Par.captures c.in-Par.others c.in-Par.body c.in-Par.other c.deref.result.now c.deref-in-Par.result.now c.in-Par.is c.deref.ensures c.deref-in-Par.ensures in
+    let parts = par_parts c.args.tree.now c.args.at bs c.in-Par.body es c.in-Par.other c.in-Some.node.now h is c.requires.ready in
     parts.ours.sort
 
 pub check_term-start-requires-in-Par-2-clause-sort : goal.check_term-start-requires-in-Par-2-clause-sort
 check_term-start-requires-in-Par-2-clause-sort t c =
     let h = here_by c.args.tree.now c.args.at c.in-Some.node.now c.in-Some.ensures.what c.in-Some.ensures.nodes c.in-Some.ensures.parts in
-    let parts = par_parts c.args.tree.now c.args.at c.in-Par.captures c.in-Par.body c.in-Par.others c.in-Par.other c.in-Some.node.now h c.in-Par.is c.requires.ready in
+    let bs = behind c.in-Par.captures c.deref.result.now in
+    let es = behind c.in-Par.others c.deref-in-Par.result.now in
+    let is = par_seen c.in-Some.node.now.term c.in-Par.captures c.in-Par.others c.in-Par.body c.in-Par.other c.deref.result.now c.deref-in-Par.result.now c.in-Par.is c.deref.ensures c.deref-in-Par.ensures in
+    let parts = par_parts c.args.tree.now c.args.at bs c.in-Par.body es c.in-Par.other c.in-Some.node.now h is c.requires.ready in
     parts.theirs.sort
 
 pub check_term-returns-in_ok-second-in-Par-clause-gives : goal.check_term-returns-in_ok-second-in-Par-clause-gives
 check_term-returns-in_ok-second-in-Par-clause-gives t c =
     let h = here_by c.args.tree.now c.args.at c.in-Some.node.now c.in-Some.ensures.what c.in-Some.ensures.nodes c.in-Some.ensures.parts in
+    let bs = behind c.in-Par.captures c.deref.result.now in
+    let es = behind c.in-Par.others c.deref-in-Par.result.now in
+    let is = par_seen c.in-Some.node.now.term c.in-Par.captures c.in-Par.others c.in-Par.body c.in-Par.other c.deref.result.now c.deref-in-Par.result.now c.in-Par.is c.deref.ensures c.deref-in-Par.ensures in
     let a = c.args.tree.now in
     let ms = meanings a in
-    let cs = captures_at ms c.in-Par.captures.items in
-    let ds = captures_at ms c.in-Par.others.items in
+    let cs = captures_at ms c.deref.result.now.items in
+    let ds = captures_at ms c.deref-in-Par.result.now.items in
     let e = env_of a.names c.args.env.now in
     let ours = env_of a.names c.in_ok-ours-in-Par.ours in
     let theirs = env_of a.names c.in_ok-ours-in-Par.theirs in
     let after = env_of a.names c.capture_both.new.env in
     par_gives (term_at ms c.args.at) (term_at ms c.in-Par.body) (term_at ms c.in-Par.other) c.in-Some.node.now.place c.start-in-Par.result c.start-in-Par-2.result cs ds c.in_ok-first-in-Par.first c.in_ok-second-in-Par.second c.paired.result e ours theirs after
-    (par_here a c.args.at c.in-Par.captures c.in-Par.body c.in-Par.others c.in-Par.other c.in-Some.node.now h c.in-Par.is) c.in_ok-ours-in-Par.ensures.goes_on c.in_ok-first-in-Par.ensures.gives c.in_ok-second-in-Par.ensures.gives c.start-in-Par.ensures c.start-in-Par-2.ensures
+    (par_here a c.args.at bs c.in-Par.body es c.in-Par.other c.in-Some.node.now h is) c.in_ok-ours-in-Par.ensures.goes_on c.in_ok-first-in-Par.ensures.gives c.in_ok-second-in-Par.ensures.gives c.start-in-Par.ensures c.start-in-Par-2.ensures
     (follows_gives c.paired.result (par_rule c.start-in-Par.result c.start-in-Par-2.result (kind_of c.in_ok-first-in-Par.first) (kind_of c.in_ok-second-in-Par.second)) after c.paired.ensures.follows)
 
 pub check_term-returns-in_ok-second-in-Par-clause-usages : goal.check_term-returns-in_ok-second-in-Par-clause-usages
 check_term-returns-in_ok-second-in-Par-clause-usages t c =
     let h = here_by c.args.tree.now c.args.at c.in-Some.node.now c.in-Some.ensures.what c.in-Some.ensures.nodes c.in-Some.ensures.parts in
+    let bs = behind c.in-Par.captures c.deref.result.now in
+    let es = behind c.in-Par.others c.deref-in-Par.result.now in
+    let is = par_seen c.in-Some.node.now.term c.in-Par.captures c.in-Par.others c.in-Par.body c.in-Par.other c.deref.result.now c.deref-in-Par.result.now c.in-Par.is c.deref.ensures c.deref-in-Par.ensures in
     let a = c.args.tree.now in
     let ms = meanings a in
-    let cs = captures_at ms c.in-Par.captures.items in
-    let ds = captures_at ms c.in-Par.others.items in
+    let cs = captures_at ms c.deref.result.now.items in
+    let ds = captures_at ms c.deref-in-Par.result.now.items in
     let e = env_of a.names c.args.env.now in
     let ours = env_of a.names c.in_ok-ours-in-Par.ours in
     let theirs = env_of a.names c.in_ok-ours-in-Par.theirs in
     let after = env_of a.names c.capture_both.new.env in
     on_ok _ c.paired.result
-    (par_used a c.args.at c.in-Par.captures c.in-Par.body c.in-Par.others c.in-Par.other c.in-Some.node.now e ours theirs c.args.checker.now.usages.items c.capture_both.new.checker.usages.items c.check_branch.new.checker.usages.items c.check_branch-in-Par.new.checker.usages.items h c.in-Par.is c.requires.ready
+    (par_used a c.args.at bs c.in-Par.body es c.in-Par.other c.in-Some.node.now e ours theirs c.args.checker.now.usages.items c.capture_both.new.checker.usages.items c.check_branch.new.checker.usages.items c.check_branch-in-Par.new.checker.usages.items h is c.requires.ready
     (at_inside a c.args.at c.args.checker.now.usages.items c.requires.ready c.requires.usages) c.in_ok-ours-in-Par.ensures.first_new c.in_ok-ours-in-Par.ensures.second_new c.in_ok-ours-in-Par.ensures.usages c.in_ok-first-in-Par.ensures.usages c.in_ok-second-in-Par.ensures.usages)

@@ -6,7 +6,7 @@ use Rattle.fr_plain.specs.Run.{Run}
 use Rattle.fr_forms.specs.declared.forms.Captured.{Captured}
 use Rattle.fr_forms.specs.FormTerms.{term_of, parts_of, captures_of}
 use Rattle.fr_syntax.specs.Meanings.{AllBelow}
-use Rattle.fr_forms.proofs.FormLemmas.{form_term, form_below, all_dropped}
+use Rattle.fr_forms.proofs.FormLemmas.{form_term, form_below, pair_seen, all_dropped}
 use Rattle.table_law.specs.Bare.{bare}
 use Rattle.table_law.specs.CodeOf.{slots}
 use Rattle.fr_compile.specs.Emitting.{IsEmitted, ArePartsEmitted}
@@ -277,12 +277,15 @@ emit-returns-in-Spawn t c =
 pub emit-returns-in-Par : goal.emit-returns-in-Par
 emit-returns-in-Par t c =
     let fs = c.args.forms.now in
+    let ours = c.deref-in-Par.result.now in
+    let theirs = c.deref-in-Par-2.result.now in
     let a = c.args.code.now.items in
     let bs = c.args.queue.now.items in
-    let is = form_term fs c.args.node c.index-forms-node.result _ c.requires.order c.requires.here c.index-forms-node.is c.in-Par.is in
-    let parts = form_below fs c.args.node c.index-forms-node.result _ c.requires.order c.requires.here c.index-forms-node.is c.in-Par.is in
+    let seen = pair_seen c.index-forms-node.result c.in-Par.ours c.in-Par.theirs ours theirs c.in-Par.is c.deref-in-Par.ensures c.deref-in-Par-2.ensures in
+    let is = form_term fs c.args.node c.index-forms-node.result _ c.requires.order c.requires.here c.index-forms-node.is seen in
+    let parts = form_below fs c.args.node c.index-forms-node.result _ c.requires.order c.requires.here c.index-forms-node.is seen in
     let f = c.par.new.code.items in
     let cs = c.par.new.queue.items in
     on_added c.par.result operand.Unit _ (λ (o : Operand). IsEmitted fs a f bs cs o (term_of fs c.args.node)) (on_both c.par.result _ _ c.par.ensures.code c.par.ensures.queue) c.par.ensures.value
     (λ e. subst (λ (r : Run). IsEmitted fs a f bs cs operand.Unit r) (sym is)
-    (refl, par_added fs a f bs cs (captures_of c.in-Par.ours.captures.items) (captures_of c.in-Par.theirs.captures.items) c.in-Par.ours.term c.in-Par.theirs.term c.in-Par.ours.drops c.in-Par.theirs.drops e.0 e.1 (omega (arith, parts.0, c.requires.here)) (omega (arith, parts.1, c.requires.here))))
+    (refl, par_added fs a f bs cs (captures_of ours.captures.items) (captures_of theirs.captures.items) ours.term theirs.term ours.drops theirs.drops e.0 e.1 (omega (arith, parts.0, c.requires.here)) (omega (arith, parts.1, c.requires.here))))

@@ -1,6 +1,7 @@
 use Rattle.std.proofs.Common.{length, refl, arith}
 use Rattle.fr_syntax.specs.Meanings.{meanings}
 use Rattle.fr_syntax.proofs.TreeLemmas.{length_meanings}
+use Rattle.borrow_check.proofs.ParLemmas.{behind, par_seen}
 use Rattle.fr_forms.proofs.NodeLemmas.{names_weaker, names_before, body_before, locked_before, pair_before}
 use Rattle.fr_forms.proofs.ResolveLemmas.{items_before}
 use Rattle.fr_forms.proofs.forming.form_of.Goals as goal
@@ -34,8 +35,10 @@ returns-in_ok-captured_slots-in-Spawn-clause-below c =
 
 pub body-requires-clause-names : goal.body-requires-clause-names
 body-requires-clause-names c =
-    let b = pair_before (meanings c.args.checked.now.arena) c.args.at c.args.term.now c.in-Par.names c.in-Par.first c.in-Par.others c.in-Par.second c.requires.parts c.in-Par.is in
-    names_weaker (meanings c.args.checked.now.arena) c.args.at (length (meanings c.args.checked.now.arena)) c.in-Par.names.items (omega (arith, c.requires.here)) b.names_before
+    let ms = meanings c.args.checked.now.arena in
+    let is = par_seen c.args.term.now c.in-Par.names c.in-Par.others c.in-Par.first c.in-Par.second c.deref.result.now c.in-Par.others.value c.in-Par.is c.deref.ensures refl in
+    let b = pair_before ms c.args.at c.args.term.now (behind c.in-Par.names c.deref.result.now) c.in-Par.first c.in-Par.others c.in-Par.second c.requires.parts is in
+    names_weaker ms c.args.at (length ms) c.deref.result.now.items (omega (arith, c.requires.here)) b.names_before
 
 pub body-requires-clause-term : goal.body-requires-clause-term
 body-requires-clause-term c =
@@ -44,8 +47,10 @@ body-requires-clause-term c =
 
 pub body-requires-in-Par-clause-names : goal.body-requires-in-Par-clause-names
 body-requires-in-Par-clause-names c =
-    let b = pair_before (meanings c.args.checked.now.arena) c.args.at c.args.term.now c.in-Par.names c.in-Par.first c.in-Par.others c.in-Par.second c.requires.parts c.in-Par.is in
-    names_weaker (meanings c.args.checked.now.arena) c.args.at (length (meanings c.args.checked.now.arena)) c.in-Par.others.items (omega (arith, c.requires.here)) b.others_before
+    let ms = meanings c.args.checked.now.arena in
+    let is = par_seen c.args.term.now c.in-Par.names c.in-Par.others c.in-Par.first c.in-Par.second c.in-Par.names.value c.deref-in-Par.result.now c.in-Par.is refl c.deref-in-Par.ensures in
+    let b = pair_before ms c.args.at c.args.term.now c.in-Par.names c.in-Par.first (behind c.in-Par.others c.deref-in-Par.result.now) c.in-Par.second c.requires.parts is in
+    names_weaker ms c.args.at (length ms) c.deref-in-Par.result.now.items (omega (arith, c.requires.here)) b.others_before
 
 pub body-requires-in-Par-clause-term : goal.body-requires-in-Par-clause-term
 body-requires-in-Par-clause-term c =

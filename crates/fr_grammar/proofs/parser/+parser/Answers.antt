@@ -1,4 +1,4 @@
-use Rattle.std.proofs.Common.{◌≡◌, suc, ◌+◌, ◌-◌, length, arith, [], ◌∷◌, refl, ap, length-append}
+use Rattle.std.proofs.Common.{◌≡◌, suc, ◌+◌, ◌-◌, length, arith, [], ◌∷◌, refl, sym, ap, length-append}
 use Rattle.std.proofs.lemmas.Result.{err_from_is_err_and}
 use Rattle.fr_syntax.specs.declared.tree.Term.TheVariants.{Block, Let, Assign, Read, Box, Print, Join, Mutex, Arith, Spawn, Par, Lock}
 use Rattle.fr_syntax.specs.Meanings.{Meaning, as_term, term_s}
@@ -139,16 +139,20 @@ lock-returns-clause-node t c =
     grown_node _ _ _ _ _ (Lock c.in_ok-of.of c.in_ok-name.name c.in_ok-body.body) term_s (grown_pair _ _ _ _ _ _ _ c.in_ok-of.ensures.node c.in_ok-body.ensures.node) a.number a.len a.names_kept a.meaning a.keeps refl
 
 pub par-add-requires-clause-parts : goal.par-add-requires-clause-parts
-par-add-requires-clause-parts t c = (grown_branches _ _ _ _ _ _ _ c.in_ok-captures.ensures.nodes c.in_ok-others.ensures.nodes).below
+par-add-requires-clause-parts t c =
+    let grown = grown_branches _ _ _ _ _ _ _ c.in_ok-captures.ensures.nodes c.in_ok-others.ensures.nodes in
+    rw (c.in_ok-ours.ensures, c.in_ok-theirs.ensures) grown.below
 
 pub par-returns-clause-value : goal.par-returns-clause-value
 par-returns-clause-value t c =
-    par_value _ _ _ _ _ _ _ _ _ _ _ _ _ c.in_ok-captures.ensures.value c.in_ok-others.ensures.value c.in_ok-captures.ensures.nodes c.in_ok-others.ensures.nodes (ap (λ (m : Meaning). as_term m.what) c.in_ok-add.ensures.meaning)
+    let meaning = ap (λ (m : Meaning). as_term m.what) c.in_ok-add.ensures.meaning in
+    par_value _ _ _ _ _ _ _ _ _ _ _ _ _ c.in_ok-captures.ensures.value c.in_ok-others.ensures.value c.in_ok-captures.ensures.nodes c.in_ok-others.ensures.nodes (rw (sym c.in_ok-ours.ensures, sym c.in_ok-theirs.ensures) meaning)
 
 pub par-returns-clause-node : goal.par-returns-clause-node
 par-returns-clause-node t c =
     let a = c.in_ok-add.ensures in
-    grown_node _ _ _ _ _ (Par c.in_ok-captures.captures c.in_ok-captures.body c.in_ok-others.others c.in_ok-others.other) term_s (grown_branches _ _ _ _ _ _ _ c.in_ok-captures.ensures.nodes c.in_ok-others.ensures.nodes) a.number a.len a.names_kept a.meaning a.keeps refl
+    let grown = grown_branches _ _ _ _ _ _ _ c.in_ok-captures.ensures.nodes c.in_ok-others.ensures.nodes in
+    grown_node _ _ _ _ _ (Par c.in_ok-ours.ours c.in_ok-captures.body c.in_ok-theirs.theirs c.in_ok-others.other) term_s (rw (sym c.in_ok-ours.ensures, sym c.in_ok-theirs.ensures) at grown) a.number a.len a.names_kept a.meaning a.keeps refl
 
 pub spawn-returns-clause-node : goal.spawn-returns-clause-node
 spawn-returns-clause-node t c =

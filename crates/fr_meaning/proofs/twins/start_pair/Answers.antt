@@ -7,7 +7,7 @@ use Rattle.fr_plain.specs.Threads.{Passed}
 use Rattle.fr_forms.specs.Depths.{depth}
 use Rattle.fr_forms.specs.FormTerms.{captures_of, term_of, body_run}
 use Rattle.fr_forms.specs.declared.forms.Form.TheVariants as form
-use Rattle.fr_forms.proofs.FormLemmas.{form_term, form_below}
+use Rattle.fr_forms.proofs.FormLemmas.{behind, pair_seen, form_term, form_below}
 use Rattle.fr_acts.specs.SlotOrder.{newest_first}
 use Rattle.fr_meaning.specs.declared.thread.Thread.{Thread}
 use Rattle.fr_meaning.specs.Beside.{beside_of}
@@ -27,48 +27,54 @@ use Rattle.fr_meaning.proofs.twins.start_pair.Goals as goal
 
 pub pass_captures-requires-clause-goes : goal.pass_captures-requires-clause-goes
 pass_captures-requires-clause-goes c =
+    let seen = pair_seen c.index-forms-node.result c.in-Par.our_box c.in-Par.their_box c.deref-our_body.result.now c.deref-their_body.result.now c.in-Par.is c.deref-our_body.ensures c.deref-their_body.ensures in
     let fs = c.args.forms.now in
     let x = c.index_mut-starting.result.now in
     let s = c.requires.starts x c.index_mut-starting.ensures.value in
-    let m = form.Par c.in-Par.our_body c.in-Par.their_body in
-    let ours = ours_here fs c.args.node c.index-forms-node.result m c.requires.node c.index-forms-node.is c.in-Par.is in
+    let m = form.Par (behind c.in-Par.our_box c.deref-our_body.result.now) (behind c.in-Par.their_box c.deref-their_body.result.now) in
+    let ours = ours_here fs c.args.node c.index-forms-node.result m c.requires.node c.index-forms-node.is seen in
     same_passes (ours_at fs c.args.node) c.deref.result.now x.slots.items c.args.twins.ours.slots.items [] (ours ∙ sym c.deref.ensures.value) c.requires.our_slots (subst (λ (o : Option Passed). IsSome o) (sym s.passes) refl)
 
 pub pass_captures-requires-clause-room : goal.pass_captures-requires-clause-room
 pass_captures-requires-clause-room c =
+    let seen = pair_seen c.index-forms-node.result c.in-Par.our_box c.in-Par.their_box c.deref-our_body.result.now c.deref-their_body.result.now c.in-Par.is c.deref-our_body.ensures c.deref-their_body.ensures in
     let fs = c.args.forms.now in
-    let m = form.Par c.in-Par.our_body c.in-Par.their_body in
-    let ours = ours_here fs c.args.node c.index-forms-node.result m c.requires.node c.index-forms-node.is c.in-Par.is in
+    let m = form.Par (behind c.in-Par.our_box c.deref-our_body.result.now) (behind c.in-Par.their_box c.deref-their_body.result.now) in
+    let ours = ours_here fs c.args.node c.index-forms-node.result m c.requires.node c.index-forms-node.is seen in
     omega (arith, ap length (ours ∙ sym c.deref.ensures.value), ap length c.requires.our_slots, c.requires.our_slot_room, c.args.twins.ours.slots.ok)
 
 pub start_body-one-requires-clause-part : goal.start_body-one-requires-clause-part
 start_body-one-requires-clause-part c =
-    let below : (c.in-Par.our_body.term < c.args.node) × (c.in-Par.their_body.term < c.args.node) = form_below c.args.forms.now c.args.node c.index-forms-node.result (form.Par c.in-Par.our_body c.in-Par.their_body) c.requires.order c.requires.node c.index-forms-node.is c.in-Par.is in
+    let seen = pair_seen c.index-forms-node.result c.in-Par.our_box c.in-Par.their_box c.deref-our_body.result.now c.deref-their_body.result.now c.in-Par.is c.deref-our_body.ensures c.deref-their_body.ensures in
+    let below : (c.deref-our_body.result.now.term < c.args.node) × (c.deref-their_body.result.now.term < c.args.node) = form_below c.args.forms.now c.args.node c.index-forms-node.result (form.Par (behind c.in-Par.our_box c.deref-our_body.result.now) (behind c.in-Par.their_box c.deref-their_body.result.now)) c.requires.order c.requires.node c.index-forms-node.is seen in
     omega (arith, below.0, c.requires.node)
 
 pub start_body-other-requires-clause-part : goal.start_body-other-requires-clause-part
 start_body-other-requires-clause-part c =
-    let below : (c.in-Par.our_body.term < c.args.node) × (c.in-Par.their_body.term < c.args.node) = form_below c.args.forms.now c.args.node c.index-forms-node.result (form.Par c.in-Par.our_body c.in-Par.their_body) c.requires.order c.requires.node c.index-forms-node.is c.in-Par.is in
+    let seen = pair_seen c.index-forms-node.result c.in-Par.our_box c.in-Par.their_box c.deref-our_body.result.now c.deref-their_body.result.now c.in-Par.is c.deref-our_body.ensures c.deref-their_body.ensures in
+    let below : (c.deref-our_body.result.now.term < c.args.node) × (c.deref-their_body.result.now.term < c.args.node) = form_below c.args.forms.now c.args.node c.index-forms-node.result (form.Par (behind c.in-Par.our_box c.deref-our_body.result.now) (behind c.in-Par.their_box c.deref-their_body.result.now)) c.requires.order c.requires.node c.index-forms-node.is seen in
     omega (arith, below.1, c.requires.node)
 
 pub start_body-one-requires-clause-depth : goal.start_body-one-requires-clause-depth
 start_body-one-requires-clause-depth c =
+    let seen = pair_seen c.index-forms-node.result c.in-Par.our_box c.in-Par.their_box c.deref-our_body.result.now c.deref-their_body.result.now c.in-Par.is c.deref-our_body.ensures c.deref-their_body.ensures in
     let fs = c.args.forms.now in
     let xs = c.args.running.now.threads.items in
     let x = c.index_mut-starting.result.now in
     let is = c.index_mut-starting.ensures.value in
     let k = pair_facts fs xs c.args.turn.now.at x c.args.node c.requires.inside is c.requires.stands.well (c.requires.starts x is).at_start in
-    let term = form_term fs c.args.node c.index-forms-node.result (form.Par c.in-Par.our_body c.in-Par.their_body) c.requires.order c.requires.node c.index-forms-node.is c.in-Par.is in
+    let term = form_term fs c.args.node c.index-forms-node.result (form.Par (behind c.in-Par.our_box c.deref-our_body.result.now) (behind c.in-Par.their_box c.deref-their_body.result.now)) c.requires.order c.requires.node c.index-forms-node.is seen in
     omega (arith, ap depth term, k.depth)
 
 pub start_body-other-requires-clause-depth : goal.start_body-other-requires-clause-depth
 start_body-other-requires-clause-depth c =
+    let seen = pair_seen c.index-forms-node.result c.in-Par.our_box c.in-Par.their_box c.deref-our_body.result.now c.deref-their_body.result.now c.in-Par.is c.deref-our_body.ensures c.deref-their_body.ensures in
     let fs = c.args.forms.now in
     let xs = c.args.running.now.threads.items in
     let x = c.index_mut-starting.result.now in
     let is = c.index_mut-starting.ensures.value in
     let k = pair_facts fs xs c.args.turn.now.at x c.args.node c.requires.inside is c.requires.stands.well (c.requires.starts x is).at_start in
-    let term = form_term fs c.args.node c.index-forms-node.result (form.Par c.in-Par.our_body c.in-Par.their_body) c.requires.order c.requires.node c.index-forms-node.is c.in-Par.is in
+    let term = form_term fs c.args.node c.index-forms-node.result (form.Par (behind c.in-Par.our_box c.deref-our_body.result.now) (behind c.in-Par.their_box c.deref-their_body.result.now)) c.requires.order c.requires.node c.index-forms-node.is seen in
     omega (arith, ap depth term, k.depth)
 
 pub add-requires-2-clause-new : goal.add-requires-2-clause-new
@@ -85,6 +91,7 @@ add-requires-3-clause-new c =
 
 pub returns-clause-step : goal.returns-clause-step
 returns-clause-step c =
+    let seen = pair_seen c.index-forms-node.result c.in-Par.our_box c.in-Par.their_box c.deref-our_body.result.now c.deref-their_body.result.now c.in-Par.is c.deref-our_body.ensures c.deref-their_body.ensures in
     let fs = c.args.forms.now in
     let r = c.args.running.now in
     let xs = r.threads.items in
@@ -103,9 +110,9 @@ returns-clause-step c =
     let waits = waits_well fs x y c.args.node k refl refl refl in
     let items = c.push_reserved-2.ensures.items ∙ ap (λ (ts : List Thread). ts ++ o.result ∷ []) c.push_reserved.ensures.items in
     let place = ap (λ ns. place_of ns t) (sym c.requires.stands.numbers) ∙ c.requires.place in
-    let our = c.in-Par.our_body in
-    let their = c.in-Par.their_body in
-    let term = form_term fs c.args.node c.index-forms-node.result (form.Par our their) c.requires.order c.requires.node c.index-forms-node.is c.in-Par.is in
+    let our = c.deref-our_body.result.now in
+    let their = c.deref-their_body.result.now in
+    let term = form_term fs c.args.node c.index-forms-node.result (form.Par (behind c.in-Par.our_box our) (behind c.in-Par.their_box their)) c.requires.order c.requires.node c.index-forms-node.is seen in
     let one : Passed = record { left = newest_first c.pass_captures.new.slots.items; new = newest_first c.pass_captures.new.new.items } in
     let two : Passed = record { left = newest_first c.pass_captures-2.new.slots.items; new = newest_first c.pass_captures-2.new.new.items } in
     let passes = same_passed c.deref.result.now our.captures.items x.slots.items c.args.twins.ours.slots.items one c.deref.ensures.value c.requires.our_slots c.pass_captures.ensures in

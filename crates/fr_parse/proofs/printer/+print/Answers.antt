@@ -1,7 +1,9 @@
-use Rattle.std.proofs.Common.{◌∷◌, [], length, string_bytes, codes, subst, arith}
+use Rattle.std.proofs.Common.{ℕ, ◌∷◌, ◌++◌, [], length, string_bytes, codes, sym, ap₂, ◌∙◌, subst, arith}
+use Rattle.fr_base.specs.Rooms.{WithRoom}
 use Rattle.fr_syntax.specs.declared.tree.Term.TheVariants.{Par}
 use Rattle.fr_syntax.specs.Arena.{text_of}
-use Rattle.fr_syntax.specs.Meanings.{meanings, term_at, place_at, items_at, captures_at, term_s, capture_s, need, all_need}
+use Rattle.fr_syntax.specs.Meanings.{meanings, term_at, place_at, items_at, captures_at, term_s, capture_s, need, all_need, AreBelow}
+use Rattle.fr_grammar.specs.Growth.{branch_parts}
 use Rattle.fr_parse.specs.Canonical.{op_word, place_words, capture_words, item_words, words}
 use Rattle.fr_parse.specs.Written.{IsWritten}
 use Rattle.fr_parse.proofs.PrintLemmas.{on_ok, need_at, item_written, below_later, below_split, par_parts, words_here, written_then, enclosed, arith_written, par_written, lock_written}
@@ -9,17 +11,25 @@ use Rattle.fr_parse.proofs.printer.+print.Goals as goal
 
 pub term-branch-tree-requires-in-Par : goal.term-branch-tree-requires-in-Par
 term-branch-tree-requires-in-Par t c =
-    (omega (arith, c.decreases), (omega (arith, c.requires.here), (par_parts (meanings c.args.tree.now) c.args.at c.in-Some.node.now.term c.in-Par.nodes c.in-Par.others c.in-Par.body c.in-Par.other c.in-Some.ensures.parts c.in-Par.is).0))
+    let ms = meanings c.args.tree.now in
+    let parts = par_parts ms c.args.at c.in-Some.node.now.term c.in-Par.nodes c.in-Par.others c.in-Par.body c.in-Par.other c.in-Some.ensures.parts c.in-Par.is in
+    (omega (arith, c.decreases), (omega (arith, c.requires.here), subst (λ (l : WithRoom ℕ). AreBelow ms c.args.at (branch_parts l.items c.in-Par.body)) (sym c.deref.ensures) parts.0))
 
 pub term-branch-tree-requires-in-Par-2 : goal.term-branch-tree-requires-in-Par-2
 term-branch-tree-requires-in-Par-2 t c =
-    (omega (arith, c.decreases), (omega (arith, c.requires.here), (par_parts (meanings c.args.tree.now) c.args.at c.in-Some.node.now.term c.in-Par.nodes c.in-Par.others c.in-Par.body c.in-Par.other c.in-Some.ensures.parts c.in-Par.is).1))
+    let ms = meanings c.args.tree.now in
+    let parts = par_parts ms c.args.at c.in-Some.node.now.term c.in-Par.nodes c.in-Par.others c.in-Par.body c.in-Par.other c.in-Some.ensures.parts c.in-Par.is in
+    (omega (arith, c.decreases), (omega (arith, c.requires.here), subst (λ (l : WithRoom ℕ). AreBelow ms c.args.at (branch_parts l.items c.in-Par.other)) (sym c.deref-in-Par.ensures) parts.1))
 
 pub term-returns-in_ok-branch-in-Par : goal.term-returns-in_ok-branch-in-Par
 term-returns-in_ok-branch-in-Par t c =
-    let here = words_here c.args.tree.now.names (meanings c.args.tree.now) c.args.at c.in-Some.node.now.place c.in-Some.node.now.term (Par c.in-Par.nodes c.in-Par.body c.in-Par.others c.in-Par.other) c.in-Some.ensures.what c.in-Par.is in
+    let ms = meanings c.args.tree.now in
+    let first = words (term_at ms c.in-Par.body) in
+    let second = words (term_at ms c.in-Par.other) in
+    let here = words_here c.args.tree.now.names ms c.args.at c.in-Some.node.now.place c.in-Some.node.now.term (Par c.in-Par.nodes c.in-Par.body c.in-Par.others c.in-Par.other) c.in-Some.ensures.what c.in-Par.is in
+    let seen = here ∙ ap₂ (λ (l : WithRoom ℕ) (m : WithRoom ℕ). codes "par" ∷ capture_words (captures_at ms l.items) ++ first ++ capture_words (captures_at ms m.items) ++ second) (sym c.deref.ensures) (sym c.deref-in-Par.ensures) in
     on_ok _ _ c.branch-tree-in-Par-2.result
-    (par_written (capture_words (captures_at (meanings c.args.tree.now) c.in-Par.nodes.items)) (words (term_at (meanings c.args.tree.now) c.in-Par.body)) (capture_words (captures_at (meanings c.args.tree.now) c.in-Par.others.items)) (words (term_at (meanings c.args.tree.now) c.in-Par.other)) (words (term_at (meanings c.args.tree.now) c.args.at)) (string_bytes c.args.text.now) (string_bytes c.word-in-Par.new.text) (string_bytes c.branch-tree-in-Par.new.text) (string_bytes c.branch-tree-in-Par-2.new.text) here c.in_ok-word-in-Par.ensures c.in_ok-branch-in-Par.ensures) c.branch-tree-in-Par-2.ensures
+    (par_written (capture_words (captures_at ms c.deref.result.now.items)) first (capture_words (captures_at ms c.deref-in-Par.result.now.items)) second (words (term_at ms c.args.at)) (string_bytes c.args.text.now) (string_bytes c.word-in-Par.new.text) (string_bytes c.branch-tree-in-Par.new.text) (string_bytes c.branch-tree-in-Par-2.new.text) seen c.in_ok-word-in-Par.ensures c.in_ok-branch-in-Par.ensures) c.branch-tree-in-Par-2.ensures
 
 pub block-returns : goal.block-returns
 block-returns t c =
