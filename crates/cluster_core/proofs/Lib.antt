@@ -1,4 +1,4 @@
-mod RowLemmas
+pub mod RowLemmas
 mod RoomLemmas
 mod RunLemmas
 mod StartLemmas
@@ -9,5 +9,5 @@ mod ReadyLemmas
 mod OutboxLemmas
 mod ActingLemmas
 mod AppliedLemmas
-mod DefinedLemmas
+pub mod DefinedLemmas
 mod MergeLemmas
