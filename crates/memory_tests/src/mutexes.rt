@@ -1,6 +1,9 @@
 //! Mutexes made, asked for, given back and counted.
 
-use fr_base::{MutexNo, ThreadNo};
+ghost use Rattle.std.specs.Prelude.{◌≡◌, true, OnOk, OnSome, IsTrue};
+ghost use Rattle.memory_tests.specs.Mutexes.{is_out};
+
+use fr_base::{MutexNo, NoMemory, ThreadNo};
 use heap_partition::Owned;
 use mutex_home::{Asked, Back, Mutexes};
 use std::test::Fail;
@@ -31,5 +34,87 @@ fn grants_in_the_order_of_asking(rt: HostRuntime) -> Result<(), Fail> {
         mutexes.give_back(first, Owned::Int(7)),
         Back::Ended(Owned::Int(7))
     );
+    Ok(())
+}
+
+// How many threads wait for each of two mutexes.
+const WAITING: u32 = 300;
+
+// A thread waits for a mutex whose content is out, as that of another one is.
+fn wait(
+    mutexes: &mut Mutexes,
+    asked: MutexNo,
+    other: MutexNo,
+    thread: ThreadNo,
+) -> Result<(), NoMemory>
+    requires asked { is_out mutexes.old.state asked ≡ true }
+    requires other { is_out mutexes.old.state other ≡ true }
+    ensures asked { OnOk result (is_out mutexes.new.state asked ≡ true) }
+    ensures other { OnOk result (is_out mutexes.new.state other ≡ true) }
+{
+    mutexes.reserve(1)?;
+    mutexes.ask(asked, 1, thread);
+    Ok(())
+}
+
+// The thread that the content goes on to, where one waits.
+fn granted(mutexes: &mut Mutexes, back: MutexNo, other: MutexNo) -> Option<ThreadNo>
+    requires back { is_out mutexes.old.state back ≡ true }
+    requires other { is_out mutexes.old.state other ≡ true }
+    ensures back { OnSome result (is_out mutexes.new.state back ≡ true) }
+    ensures other { OnSome result (is_out mutexes.new.state other ≡ true) }
+{
+    match mutexes.give_back(back, Owned::Unit) {
+        Back::Next(_, thread, _) => Some(thread),
+        Back::Ended(_) | Back::Kept => None,
+    }
+}
+
+fn wait_in_turn(mutexes: &mut Mutexes, first: MutexNo, second: MutexNo) -> Result<(), NoMemory>
+    requires first { is_out mutexes.old.state first ≡ true }
+    requires second { is_out mutexes.old.state second ≡ true }
+    ensures first { OnOk result (is_out mutexes.new.state first ≡ true) }
+    ensures second { OnOk result (is_out mutexes.new.state second ≡ true) }
+{
+    'threads: for count in 0..WAITING {
+        wait(mutexes, first, second, ThreadNo::new(1, count))?;
+        wait(mutexes, second, first, ThreadNo::new(2, count))?;
+    }
+    Ok(())
+}
+
+// Whether the contents go on to the threads that wait in the order in which these came.
+fn granted_in_turn(mutexes: &mut Mutexes, first: MutexNo, second: MutexNo) -> bool
+    requires first { is_out mutexes.old.state first ≡ true }
+    requires second { is_out mutexes.old.state second ≡ true }
+    ensures first { IsTrue result → is_out mutexes.new.state first ≡ true }
+    ensures second { IsTrue result → is_out mutexes.new.state second ≡ true }
+{
+    'threads: for count in 0..WAITING {
+        match granted(mutexes, first, second) {
+            Some(thread) if thread == ThreadNo::new(1, count) => {}
+            _ => return false,
+        }
+        match granted(mutexes, second, first) {
+            Some(thread) if thread == ThreadNo::new(2, count) => {}
+            _ => return false,
+        }
+    }
+    true
+}
+
+#[test]
+fn grants_each_mutex_in_its_order(rt: HostRuntime) -> Result<(), Fail> {
+    let by = ThreadNo::new(0, 0);
+    let mut mutexes = Mutexes::new(rt.alloc(), 0);
+    mutexes.reserve(2)?;
+    let first = mutexes.make(Owned::Int(3));
+    let second = mutexes.make(Owned::Int(9));
+    assert_eq!(rt; mutexes.ask(first, 0, by), Asked::Granted(Owned::Int(3)));
+    assert_eq!(rt; mutexes.ask(second, 0, by), Asked::Granted(Owned::Int(9)));
+    wait_in_turn(&mut mutexes, first, second)?;
+    let in_turn = granted_in_turn(&mut mutexes, first, second);
+    assert!(rt; in_turn);
+    assert_eq!(rt; mutexes.give_back(second, Owned::Unit), Back::Kept);
     Ok(())
 }

@@ -1,2 +1,3 @@
 mod MutexLemmas
 mod StoreLemmas
+mod QueueLemmas

@@ -1,24 +1,24 @@
 -- What the parts of a home's store stand for.
-use Rattle.std.specs.Prelude.{ℕ, ◌+◌, Bool, true, ◌==◌, ◌&&◌, nat_lt, if◌then◌else◌, List, [], ◌∷◌, ◌++◌, Option, None, Some}
+use Rattle.std.specs.Prelude.{ℕ, zero, suc, ◌+◌, ◌==◌, if◌then◌else◌, List, [], ◌∷◌, ◌++◌, Option, None, Some}
 use Rattle.fr_base.specs.declared.name.MutexNo.{MutexNo}
 use Rattle.slab.specs.Slab.{get}
 use Rattle.mutex_home.specs.Mutexes.{Mutex, mutex_in, with_mutex}
+use Rattle.mutex_home.specs.Queues.{queue_at}
 use Rattle.mutex_home.specs.declared.parts.Entry.{Entry}
-use Rattle.mutex_home.specs.declared.parts.Waiting.{Waiting}
 use Rattle.mutex_home.specs.declared.parts.Store.{Store}
 
 -- who waits for the content of the mutex with that count, the first that asked first
-abbrev pub queue_of : List Waiting → ℕ → List (ℕ × ℕ)
-queue_of [] count = []
-queue_of (w ∷ ws) count = if w.count == count then (w.server, w.thread) ∷ queue_of ws count else queue_of ws count
+abbrev pub queue_of : List (List (ℕ × ℕ)) → ℕ → List (ℕ × ℕ)
+queue_of lists zero = []
+queue_of lists (suc i) = queue_at lists i
 
-abbrev pub mutex_of : MutexNo → List Waiting → Entry → Mutex
-mutex_of m ws e = record { number = m; content = e.content; shares = e.shares; queue = queue_of ws m.count }
+abbrev pub mutex_of : MutexNo → List (List (ℕ × ℕ)) → Entry → Mutex
+mutex_of m lists e = record { number = m; content = e.content; shares = e.shares; queue = queue_of lists m.count }
 
 -- the mutex with that count, where its key leads to this: keys are used again, and counts aren't
-abbrev pub mutex_at : ℕ → List Waiting → ℕ → Option Entry → Option Mutex
-mutex_at home ws count None = None
-mutex_at home ws count (Some e) = if e.count == count then Some (mutex_of (record { home = home; count = count }) ws e) else None
+abbrev pub mutex_at : ℕ → List (List (ℕ × ℕ)) → ℕ → Option Entry → Option Mutex
+mutex_at home lists count None = None
+mutex_at home lists count (Some e) = if e.count == count then Some (mutex_of (record { home = home; count = count }) lists e) else None
 
 abbrev pub listed : Option Mutex → List Mutex → List Mutex
 listed None xs = xs
@@ -30,12 +30,7 @@ mutexes_by at count [] = []
 mutexes_by at count (key ∷ keys) = listed (at count key) (mutexes_by at (count + 1) keys)
 
 abbrev pub mutexes_in : Store → List Mutex
-mutexes_in s = mutexes_by (λ count key. mutex_at s.home s.waits.items count (get s.entries key)) 1 s.keys.items
-
--- who waits, waits for a mutex that was made
-abbrev pub all_made : ℕ → List Waiting → Bool
-all_made made [] = true
-all_made made (w ∷ ws) = nat_lt w.count (made + 1) && all_made made ws
+mutexes_in s = mutexes_by (λ count key. mutex_at s.home s.waits.lists count (get s.entries key)) 1 s.keys.items
 
 -- one more waits for a mutex
 abbrev pub queued_at : List Mutex → ℕ × ℕ → Option Mutex → List Mutex

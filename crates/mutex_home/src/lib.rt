@@ -5,6 +5,7 @@ mod answers;
 mod laws;
 mod mutexes;
 mod parts;
+mod queues;
 mod store;
 
 pub use answers::{Asked, Back};

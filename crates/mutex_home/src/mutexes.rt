@@ -5,6 +5,7 @@ ghost use Rattle.mutex_home.specs.Mutexes.{mutex_in, next_mutex, can_make, make,
 
 use crate::answers::{Asked, Back};
 use crate::parts::Store;
+use crate::queues::Queues;
 use crate::store::{add_entry, entry_of, first_waiting, queue_up, remove_entry, set_entry};
 use fr_base::{MutexNo, NoMemory, ThreadNo};
 use heap_partition::Owned;
@@ -16,8 +17,8 @@ use std::marker::Model;
 /// rising number, each with its content, its shares and who waits for it, and beside it as `room` how many more mutexes and
 /// how many more threads that ask fit without memory.
 ///
-/// A mutex is found in constant time; who waits first for one is looked for among all that wait at this home. Only `reserve`
-/// takes memory.
+/// A mutex, and who waits first for one, are found in constant time, and nothing is moved where a thread asks or is granted the content.
+/// Only `reserve` takes memory.
 #[derive(Drop)]
 pub struct Mutexes {
     store: Store,
@@ -28,17 +29,17 @@ pub struct Mutexes {
 }
 
 impl Model for Mutexes {
-    ghost use Rattle.std.specs.Prelude.{◌≡◌, ◌≤◌, ◌+◌, true, vec_len};
+    ghost use Rattle.std.specs.Prelude.{◌≡◌, ◌≤◌, ◌+◌, length, vec_len};
     ghost use Rattle.std.specs.Vec.{vec_capacity};
     ghost use Rattle.slab.specs.Slab.{HasRoomFor};
-    ghost use Rattle.mutex_home.specs.Stores.{mutexes_in, all_made};
+    ghost use Rattle.mutex_home.specs.Stores.{mutexes_in};
     ghost use Rattle.mutex_home.specs.View.{MutexesView};
 
     ghost Value = { MutexesView };
 
     ghost view = { λ m. record { state = record { home = m.store.home; made = m.made; there = mutexes_in m.store }; room = record { mutexes = m.for_mutexes; threads = m.for_threads } } };
 
-    ghost invariant = { λ m. (vec_len m.store.keys ≡ m.made) × (all_made m.made m.store.waits.items ≡ true) × (vec_len m.store.keys + m.for_mutexes ≤ vec_capacity m.store.keys) × HasRoomFor m.store.entries m.for_mutexes × (vec_len m.store.waits + m.for_threads ≤ vec_capacity m.store.waits) };
+    ghost invariant = { λ m. (vec_len m.store.keys ≡ m.made) × (length m.store.waits.lists ≡ m.made) × (vec_len m.store.keys + m.for_mutexes ≤ vec_capacity m.store.keys) × HasRoomFor m.store.entries m.for_mutexes × (length m.store.waits.lists + m.for_mutexes ≤ m.store.waits.mutexes) × (m.store.waits.waiting + m.for_threads ≤ m.store.waits.threads) };
 }
 
 impl Mutexes {
@@ -52,7 +53,7 @@ impl Mutexes {
                 home,
                 keys: Vec::new(alloc),
                 entries: Slab::new(alloc),
-                waits: Vec::new(alloc),
+                waits: Queues::new(alloc),
             },
             made: 0,
             for_mutexes: 0,
@@ -132,7 +133,7 @@ impl Mutexes {
     }
 
     /// The content comes back: it goes on to the first that waits; where none waits it is in again, and where no share is left
-    /// either, the mutex is gone. The mutex is there, and its content is out. It looks for who waits in the order in which all came.
+    /// either, the mutex is gone. The mutex is there, and its content is out.
     pub fn give_back(&mut self, number: MutexNo, content: Owned) -> Back
         requires there { IsSome (give_back self.old.state number content) }
         ensures state { give_back self.old.state number content ≡ Some (self.new.state, result) }

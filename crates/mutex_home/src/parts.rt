@@ -1,6 +1,6 @@
 //! What a home keeps of its mutexes.
 
-use fr_base::ThreadNo;
+use crate::queues::Queues;
 use heap_partition::Owned;
 use slab::Slab;
 
@@ -12,20 +12,12 @@ pub struct Entry {
     pub shares: u64,
 }
 
-/// A thread at that server that waits for the content of the mutex with this count.
-#[derive(Clone, Copy, Debug, PartialEq, Eq)]
-pub struct Waiting {
-    pub count: u32,
-    pub server: u8,
-    pub thread: ThreadNo,
-}
-
 /// The mutexes of one home. The key of the mutex with count `c` lies at place `c - 1`; where the mutex is gone, another one may have
-/// its key, which the entry's count tells. Who waits stands in one list for all mutexes, in the order of arrival.
+/// its key, which the entry's count tells. Who waits for that mutex stands at place `c - 1` of `waits`.
 #[derive(Drop)]
 pub struct Store {
     pub home: u8,
     pub keys: Vec<usize>,
     pub entries: Slab<Entry>,
-    pub waits: Vec<Waiting>,
+    pub waits: Queues,
 }

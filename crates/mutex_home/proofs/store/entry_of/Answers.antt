@@ -14,4 +14,4 @@ unreachable-requires c =
 pub returns : goal.returns
 returns c =
     let p = placed_at c.args.store.now c.args.number c.requires.there c.key_of.result c.key_of.ensures in
-    p.mutex_is ∙ ap (λ e. Some (mutex_of c.args.number c.args.store.now.waits.items e)) (sym (same_entry c.in-Some.ensures p.entry_is))
+    p.mutex_is ∙ ap (λ e. Some (mutex_of c.args.number c.args.store.now.waits.lists e)) (sym (same_entry c.in-Some.ensures p.entry_is))

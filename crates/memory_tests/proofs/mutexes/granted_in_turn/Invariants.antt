@@ -1,0 +1,7 @@
+use Rattle.std.proofs.Common.{◌≡◌, true}
+use Rattle.memory_tests.specs.Mutexes.{is_out}
+use Rattle.memory_tests.proofs.mutexes.granted_in_turn.Given as goal
+
+-- the contents of both are out
+abbrev pub invariant-threads : goal.invariant-threads
+invariant-threads l = (is_out l.mutexes.state l.first ≡ true) × (is_out l.mutexes.state l.second ≡ true)
