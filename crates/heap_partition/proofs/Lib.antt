@@ -1,1 +1,3 @@
+mod BitLemmas
 mod ChunkLemmas
+mod SlotLemmas

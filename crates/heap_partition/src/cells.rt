@@ -1,8 +1,8 @@
 //! Cells by address.
 
-ghost use Rattle.std.specs.Prelude.{◌≡◌, ℕ, ◌+◌, ◌<◌, ◌≤◌, ◌++◌, [], ◌∷◌, None, Some, IsOk, OnOk, OnErr, length, take, slice_index_or, slice_set};
+ghost use Rattle.std.specs.Prelude.{◌≡◌, ◌+◌, ◌*◌, ◌<◌, ◌≤◌, ◌++◌, [], ◌∷◌, None, Some, IsOk, OnOk, OnErr, length, slice_index_or, slice_set};
 ghost use Rattle.heap_partition.specs.Cells.{next_of, cell_at, IsLive, IsVacant};
-ghost use Rattle.heap_partition.specs.Chunks.{slots_of, AreWhole};
+ghost use Rattle.heap_partition.specs.Chunks.{slots_of, ArePacked};
 
 use crate::chunk::{Chunk, SLOTS};
 use crate::value::{Cell, Owned};
@@ -23,21 +23,21 @@ pub struct Cells {
 }
 
 impl Model for Cells {
-    ghost use Rattle.std.specs.Prelude.{◌+◌, ◌≤◌, ◌<◌, ◌^◌, length, take};
-    ghost use Rattle.heap_partition.specs.Chunks.{slots_of, AreWhole};
+    ghost use Rattle.std.specs.Prelude.{◌≡◌, ◌+◌, ◌*◌, ◌≤◌, ◌<◌, ◌^◌, length};
+    ghost use Rattle.heap_partition.specs.Chunks.{slots_of, ArePacked};
     ghost use Rattle.heap_partition.specs.View.{CellsView};
 
     ghost Value = { CellsView };
 
-    ghost view = { λ c. record { state = take c.next (slots_of c.chunks.items); room = c.room } };
+    ghost view = { λ c. record { state = slots_of c.chunks.items; room = c.room } };
 
-    ghost invariant = { λ c. AreWhole c.chunks.items × (c.next + c.room ≤ length (slots_of c.chunks.items)) × (c.next + c.room < 2 ^ 64) };
+    ghost invariant = { λ c. ArePacked c.chunks.items × (c.next ≡ length (slots_of c.chunks.items)) × (c.next + c.room ≤ 1024 * length c.chunks.items) × (c.next + c.room < 2 ^ 64) };
 }
 
-// What stands at a place of the chunks.
+// What stands in a slot that was used.
 fn slot_at(chunks: &Vec<Chunk>, at: usize) -> Option<Cell>
-    requires whole { AreWhole chunks.now.items }
-    requires within { at < length (slots_of chunks.now.items) }
+    requires packed { ArePacked chunks.now.items }
+    requires used { at < length (slots_of chunks.now.items) }
     ensures { result ≡ slice_index_or (slots_of chunks.now.items) at None }
 {
     // The check asks that each type inside a cell is named where a cell is moved.
@@ -45,24 +45,51 @@ fn slot_at(chunks: &Vec<Chunk>, at: usize) -> Option<Cell>
     chunks[at / SLOTS].get(at % SLOTS)
 }
 
-// Puts a cell or nothing at a place of the chunks.
-fn set_slot(chunks: &mut Vec<Chunk>, at: usize, slot: Option<Cell>)
-    requires whole { AreWhole chunks.old.items }
-    requires within { at < length (slots_of chunks.old.items) }
-    ensures slots { slots_of chunks.new.items ≡ slice_set (slots_of chunks.old.items) at slot }
-    ensures whole { AreWhole chunks.new.items }
+// Puts a cell into the slot after those that were used.
+fn push_slot(chunks: &mut Vec<Chunk>, at: usize, cell: Cell)
+    requires packed { ArePacked chunks.old.items }
+    requires next { at ≡ length (slots_of chunks.old.items) }
+    requires room { at < 1024 * length chunks.old.items }
+    ensures packed { ArePacked chunks.new.items }
+    ensures slots { slots_of chunks.new.items ≡ slots_of chunks.old.items ++ Some cell ∷ [] }
+    ensures chunks { length chunks.new.items ≡ length chunks.old.items }
 {
     let _inside: Option<Owned> = None;
-    chunks[at / SLOTS].set(at % SLOTS, slot);
+    chunks[at / SLOTS].push(cell);
+}
+
+// Puts a cell into a slot that was used.
+fn set_slot(chunks: &mut Vec<Chunk>, at: usize, cell: Cell)
+    requires packed { ArePacked chunks.old.items }
+    requires used { at < length (slots_of chunks.old.items) }
+    ensures packed { ArePacked chunks.new.items }
+    ensures slots { slots_of chunks.new.items ≡ slice_set (slots_of chunks.old.items) at (Some cell) }
+    ensures chunks { length chunks.new.items ≡ length chunks.old.items }
+{
+    let _inside: Option<Owned> = None;
+    chunks[at / SLOTS].set(at % SLOTS, cell);
+}
+
+// Takes out of a slot what stands there.
+fn take_slot(chunks: &mut Vec<Chunk>, at: usize) -> Option<Cell>
+    requires packed { ArePacked chunks.old.items }
+    requires used { at < length (slots_of chunks.old.items) }
+    ensures packed { ArePacked chunks.new.items }
+    ensures taken { result ≡ slice_index_or (slots_of chunks.old.items) at None }
+    ensures slots { slots_of chunks.new.items ≡ slice_set (slots_of chunks.old.items) at None }
+    ensures chunks { length chunks.new.items ≡ length chunks.old.items }
+{
+    let _inside: Option<Owned> = None;
+    chunks[at / SLOTS].take(at % SLOTS)
 }
 
 // Adds chunks until there are so many places.
 fn grow(chunks: &mut Vec<Chunk>, places: usize) -> Result<(), NoMemory>
-    requires whole { AreWhole chunks.old.items }
-    ensures whole { AreWhole chunks.new.items }
-    ensures slots { (n : ℕ) → n ≤ length (slots_of chunks.old.items) → take n (slots_of chunks.new.items) ≡ take n (slots_of chunks.old.items) }
-    ensures more { length (slots_of chunks.old.items) ≤ length (slots_of chunks.new.items) }
-    ensures enough { OnOk result (places ≤ length (slots_of chunks.new.items)) }
+    requires packed { ArePacked chunks.old.items }
+    ensures packed { ArePacked chunks.new.items }
+    ensures slots { slots_of chunks.new.items ≡ slots_of chunks.old.items }
+    ensures more { length chunks.old.items ≤ length chunks.new.items }
+    ensures enough { OnOk result (places ≤ 1024 * length chunks.new.items) }
 {
     let _inside: Option<(Cell, Owned)> = None;
     while chunks.len() <= places / SLOTS {
@@ -119,7 +146,7 @@ impl Cells {
         ensures spare { self.new.room + 1 ≡ self.old.room }
     {
         let address = self.next;
-        set_slot(&mut self.chunks, address, Some(cell));
+        push_slot(&mut self.chunks, address, cell);
         self.next += 1;
         self.room -= 1;
         address as u64
@@ -132,7 +159,7 @@ impl Cells {
         ensures put { self.new.state ≡ slice_set self.old.state address (Some cell) }
         ensures spare { self.new.room ≡ self.old.room }
     {
-        set_slot(&mut self.chunks, address as usize, Some(cell));
+        set_slot(&mut self.chunks, address as usize, cell);
     }
 
     /// The cell at the address; `None` exactly where it is vacant or was never used.
@@ -152,7 +179,7 @@ impl Cells {
         ensures set { self.new.state ≡ slice_set self.old.state address (Some cell) }
         ensures spare { self.new.room ≡ self.old.room }
     {
-        set_slot(&mut self.chunks, address as usize, Some(cell));
+        set_slot(&mut self.chunks, address as usize, cell);
     }
 
     /// Takes the cell out of a live address, which is vacant afterwards.
@@ -163,8 +190,6 @@ impl Cells {
         ensures spare { self.new.room ≡ self.old.room }
     {
         let _inside: Option<Owned> = None;
-        let slot = slot_at(&self.chunks, address as usize);
-        set_slot(&mut self.chunks, address as usize, None);
-        slot.unwrap()
+        take_slot(&mut self.chunks, address as usize).unwrap()
     }
 }

@@ -4,6 +4,7 @@
 
 mod cells;
 mod chunk;
+mod live;
 mod value;
 
 pub use cells::Cells;

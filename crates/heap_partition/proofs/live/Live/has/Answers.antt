@@ -1,0 +1,9 @@
+use Rattle.std.proofs.Common.{arith}
+use Rattle.heap_partition.proofs.BitLemmas.{mask_within, bit_read}
+use Rattle.heap_partition.proofs.live.Live.has.Goals as goal
+
+pub bounds-self-inside-at : goal.bounds-self-inside-at
+bounds-self-inside-at c = omega (arith, mask_within c.self.inside.masks c.args.at (rw (← c.self.view_is) at c.requires), c.self.told)
+
+pub returns : goal.returns
+returns c = rw (← c.self.view_is) (bit_read c.self.inside.masks c.args.at (rw (← c.self.view_is) at c.requires))
