@@ -1,9 +1,9 @@
-//! Maps and queues, filled and emptied out of order.
+//! Maps, filled and emptied out of order.
 
 ghost use Rattle.std.specs.Prelude.{◌<◌, ◌^◌};
 
 use fr_base::NoMemory;
-use rank_map::{Queue, RankMap};
+use rank_map::RankMap;
 use std::test::Fail;
 
 // Puts an item at a key, for which it makes a place.
@@ -104,21 +104,5 @@ fn fills_and_empties_in_other_orders(rt: HostRuntime) -> Result<(), Fail> {
         assert_eq!(rt; take(&mut map, key, true)?, Some(key * 132 % MANY));
         assert_eq!(rt; map.len() as u64, MANY - 1 - turn);
     }
-    Ok(())
-}
-
-#[test]
-fn takes_from_the_middle(rt: HostRuntime) -> Result<(), Fail> {
-    let mut queue = Queue::new(rt.alloc());
-    queue.reserve(3)?;
-    queue.push(10);
-    queue.push(11);
-    queue.push(12);
-    assert_eq!(rt; (queue.take(1), queue.len()), (11, 2));
-    queue.reserve(1)?;
-    queue.push(14);
-    assert!(rt; queue.at(0) == Some(&10) && queue.at(2) == Some(&14) && queue.at(3).is_none());
-    assert_eq!(rt; queue.take(1), 12);
-    assert_eq!(rt; queue.take(0), 10);
     Ok(())
 }

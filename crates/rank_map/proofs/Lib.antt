@@ -3,4 +3,3 @@ pub mod RankLemmas
 pub mod MarkLemmas
 mod ForkLemmas
 mod BlockLemmas
-mod QueueLemmas
