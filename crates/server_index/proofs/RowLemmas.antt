@@ -1,10 +1,10 @@
 -- What rows of entries tell of a key, and what another entry and more rows or columns do to it.
-use Rattle.std.proofs.Common.{◌≡◌, ℕ, zero, suc, ◌+◌, ◌-◌, ◌*◌, ◌^◌, ◌<◌, ◌≤◌, List, [], ◌∷◌, ◌++◌, length, get_or, set, replicate, Option, None, Some, Result, Ok, Err, OnOk, OnErr, refl, sym, subst, ap, ◌∙◌, arith}
+use Rattle.std.proofs.Common.{◌≡◌, ℕ, zero, suc, ◌+◌, ◌-◌, ◌*◌, ◌^◌, ◌<◌, ◌≤◌, List, [], ◌∷◌, ◌++◌, length, map, get_or, set, replicate, Option, None, Some, Result, Ok, Err, OnOk, OnErr, refl, sym, subst, ap, ◌∙◌, arith, append_assoc}
 use Rattle.std.proofs.lemmas.Bool.{eq-eqb, ne_eqb, le-ltb}
-use Rattle.std.proofs.lemmas.List.{get_or_past, length-append, length-replicate}
+use Rattle.std.proofs.lemmas.List.{get_or_past, length-append, length-replicate, replicate-append-replicate, map-id, map_push}
 use Rattle.rank_map.specs.Places.{Place, place_at, put_first, with_place, Rises}
 use Rattle.rank_map.proofs.PlaceLemmas.{below_all, at_low, at_high, with_below, with_low, with_high, first_rises, rises_wider, rises_append}
-use Rattle.server_index.specs.Rows.{row_places, places_from, AreShort}
+use Rattle.server_index.specs.Rows.{row_places, places_from, AreShort, Longer}
 
 -- the keys of a row's places rise
 row_rises : {T : Type 0} (f : ℕ → Option (Option T)) (es : List ℕ) (first : ℕ) → Rises first (first + length es) (row_places f first es)
@@ -110,10 +110,11 @@ rows_same f [] first row r e = refl
 rows_same f (q ∷ rs) first zero r e = ap (λ ps. ps ++ places_from f (first + 2 ^ 32) rs) (e first)
 rows_same f (q ∷ rs) first (suc row) r e = ap (λ ps. row_places f first q ++ ps) (rows_same f rs (first + 2 ^ 32) row r e)
 
--- nor does a row more without columns
-pub rows_push : {T : Type 0} (f : ℕ → Option (Option T)) (rs : List (List ℕ)) (first : ℕ) → places_from f first (rs ++ [] ∷ []) ≡ places_from f first rs
-rows_push f [] first = refl
-rows_push f (r ∷ rs) first = ap (λ ps. row_places f first r ++ ps) (rows_push f rs (first + 2 ^ 32))
+-- nor do rows more without columns
+rows_push : {T : Type 0} (f : ℕ → Option (Option T)) (rs : List (List ℕ)) (n first : ℕ) → places_from f first (rs ++ replicate n []) ≡ places_from f first rs
+rows_push f [] zero first = refl
+rows_push f [] (suc n) first = rows_push f [] n (first + 2 ^ 32)
+rows_push f (r ∷ rs) n first = ap (λ ps. row_places f first r ++ ps) (rows_push f rs n (first + 2 ^ 32))
 
 -- entries that are 0 tell no place
 bare_places : {T : Type 0} (f : ℕ → Option (Option T)) (n first : ℕ) → f 0 ≡ None → row_places f first (replicate n 0) ≡ []
@@ -135,10 +136,30 @@ short_set [] row r h s = tt
 short_set (q ∷ rs) zero r h s = (h, s.1)
 short_set (q ∷ rs) (suc row) r h s = (s.0, short_set rs row r h s.1)
 
--- and so does one more without columns
-pub short_push : (rs : List (List ℕ)) → AreShort rs → AreShort (rs ++ [] ∷ [])
-short_push [] s = (omega arith, tt)
-short_push (r ∷ rs) s = (s.0, short_push rs s.1)
+-- and so do more without columns
+short_push : (rs : List (List ℕ)) (n : ℕ) → AreShort rs → AreShort (rs ++ replicate n [])
+short_push [] zero s = tt
+short_push [] (suc n) s = (omega arith, short_push [] n tt)
+short_push (r ∷ rs) n s = (s.0, short_push rs n s.1)
+
+-- what rows are in the place of others that tell the same
+pub record IsLonger {T : Type 0} (f : ℕ → Option (Option T)) (old new : List (List ℕ)) : Type 0 where
+  pub same : places_from f 0 new ≡ places_from f 0 old
+  pub short : AreShort new
+
+-- longer rows are, and short as those were
+pub longer : {T : Type 0} (f : ℕ → Option (Option T)) (old new : List (List ℕ)) → AreShort old → Longer old new → IsLonger f old new
+longer f old new s l = record { same = ap (places_from f 0) l.1 ∙ rows_push f old l.0 0; short = subst AreShort (sym l.1) (short_push old l.0 s) }
+
+-- the same of rows that are lists
+pub longer_rows : {T : Type 0} (f : ℕ → Option (Option T)) (old new : List (List ℕ)) → AreShort old → Longer (map (λ r. r) old) (map (λ r. r) new) → IsLonger f old new
+longer_rows f old new s l = longer f old new s (l.0, sym (map-id new) ∙ l.1 ∙ ap (λ rs. rs ++ replicate l.0 []) (map-id old))
+
+-- one row more without columns makes them longer
+pub longer_push : {R : Type 0} (f : R → List ℕ) (old : List (List ℕ)) (rows new : List R) (r : R) (n : ℕ) → new ≡ rows ++ r ∷ [] → f r ≡ [] → map f rows ≡ old ++ replicate n [] → map f new ≡ old ++ replicate (n + 1) []
+longer_push f old rows new r n more bare is =
+    ap (map f) more ∙ map_push f rows r ∙ ap (λ e. map f rows ++ e ∷ []) bare ∙ ap (λ rs. rs ++ [] ∷ []) is
+    ∙ append_assoc old (replicate n []) ([] ∷ []) ∙ ap (λ rs. old ++ rs) (replicate-append-replicate n 1 [])
 
 -- each of them is short
 pub short_at : (rs : List (List ℕ)) (row : ℕ) → AreShort rs → length (get_or rs row []) ≤ 2 ^ 32

@@ -1,5 +1,5 @@
 -- The places that rows of entries tell (this project's own).
-use Rattle.std.specs.Prelude.{ℕ, ◌+◌, ◌^◌, ◌≤◌, ⊤, List, [], ◌∷◌, ◌++◌, length, Option}
+use Rattle.std.specs.Prelude.{◌≡◌, ℕ, ◌+◌, ◌^◌, ◌≤◌, ⊤, List, [], ◌∷◌, ◌++◌, length, replicate, Option}
 use Rattle.rank_map.specs.Places.{Place, put_first}
 
 -- the places of a row's entries, of which the first is that key's; the function says which place an entry tells
@@ -16,3 +16,7 @@ places_from told first (r ∷ rs) = row_places told first r ++ places_from told 
 abbrev pub AreShort : List (List ℕ) → Type 0
 AreShort [] = ⊤
 AreShort (r ∷ rs) = (length r ≤ 2 ^ 32) × AreShort rs
+
+-- rows with more behind them that have no column
+abbrev pub Longer : List (List ℕ) → List (List ℕ) → Type 0
+Longer old new = (n : ℕ) × (new ≡ old ++ replicate n [])

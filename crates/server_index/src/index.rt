@@ -7,6 +7,7 @@ ghost use Rattle.server_index.specs.Lists.{lists};
 ghost use Rattle.server_index.specs.Indexes.{place_in};
 
 use crate::keys::split;
+use crate::rows::make_rows;
 use crate::widen::widen;
 use fr_base::NoMemory;
 use std::alloc::Global;
@@ -47,21 +48,6 @@ fn slot_in(entry: u32) -> Option<usize>
     ensures { result ≡ item_in (place_in entry) }
 {
     (entry as usize).checked_sub(1)
-}
-
-// Makes that many rows at least; those that are new have no column.
-fn make_rows(alloc: Global, rows: &mut Vec<Vec<u32>>, count: usize) -> Result<(), NoMemory>
-    requires short { AreShort (lists rows.old.items) }
-    ensures enough { OnOk result (count ≤ length rows.new.items) }
-    ensures same { places_from place_in 0 (lists rows.new.items) ≡ places_from place_in 0 (lists rows.old.items) }
-    ensures short { AreShort (lists rows.new.items) }
-{
-    let missing = count.saturating_sub(rows.len());
-    rows.reserve(missing)?;
-    'rows: for _ in 0..missing {
-        rows.push_reserved(Vec::new(alloc));
-    }
-    Ok(())
 }
 
 // Notes a key's slot at its column.

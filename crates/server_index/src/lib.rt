@@ -8,6 +8,7 @@ mod marks;
 mod queue;
 mod ranks;
 mod row;
+mod rows;
 mod sums;
 mod table;
 mod widen;

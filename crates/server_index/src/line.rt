@@ -84,7 +84,7 @@ impl<T: Drop> Line<T> {
         ensures items { IfOk result (λ line. line.items ≡ []) }
         ensures room { IfOk result (λ line. line.room ≡ count) }
     {
-        let marks = Row::of_free(alloc, count)?;
+        let marks = Row::of_none(alloc, count)?;
         let slots = empty_slots(alloc, count)?;
         Ok(Line {
             alloc,

@@ -7,6 +7,7 @@ ghost use Rattle.server_index.specs.Ranks.{mark_in};
 
 use crate::keys::{key_at, split};
 use crate::row::{FREE, MARK, NONE, Row, count_in};
+use crate::rows::make_rows;
 use fr_base::NoMemory;
 use std::alloc::Global;
 use std::marker::Model;
@@ -32,24 +33,6 @@ impl Model for Ranks {
     ghost view = { λ r. places_from mark_in 0 r.rows.items };
 
     ghost invariant = { λ r. IsRanks r.rows.items r.total };
-}
-
-// Makes that many rows at least; those that are new have no state.
-fn make_rows(alloc: Global, rows: &mut Vec<Row>, count: usize) -> Result<(), NoMemory>
-    requires few { count ≤ 2 ^ 8 }
-    requires short { AreShort rows.old.items }
-    requires least { length rows.old.items ≤ 2 ^ 8 }
-    ensures enough { OnOk result (count ≤ length rows.new.items) }
-    ensures same { places_from mark_in 0 rows.new.items ≡ places_from mark_in 0 rows.old.items }
-    ensures short { AreShort rows.new.items }
-    ensures most { length rows.new.items ≤ 2 ^ 8 }
-{
-    let missing = count.saturating_sub(rows.len());
-    rows.reserve(missing)?;
-    'rows: for _ in 0..missing {
-        rows.push_reserved(Row::new(alloc));
-    }
-    Ok(())
 }
 
 impl Ranks {

@@ -81,7 +81,7 @@ impl Row {
     }
 
     // So many states, each none.
-    pub(crate) fn of_free(alloc: Global, count: usize) -> Result<Row, NoMemory>
+    pub(crate) fn of_none(alloc: Global, count: usize) -> Result<Row, NoMemory>
         requires few { count ≤ 2 ^ 32 }
         ensures { IfOk result (λ r. r ≡ replicate count 0) }
     {
