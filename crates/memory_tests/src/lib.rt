@@ -9,6 +9,8 @@ mod colours;
 #[cfg(test)]
 mod copies;
 #[cfg(test)]
+mod drawn_copies;
+#[cfg(test)]
 mod hops;
 #[cfg(test)]
 mod messages;

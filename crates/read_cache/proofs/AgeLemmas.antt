@@ -9,6 +9,7 @@ use Rattle.rank_map.proofs.MarkLemmas.{with_entry, entries_with, keeps_place, fr
 use Rattle.read_cache.specs.Cache.{Copy, oldest_unused, with_users, without_copy}
 use Rattle.read_cache.specs.Slots.{Aged, copies_of}
 use Rattle.read_cache.specs.Ages.{word_if, unused_of, AgesRise, ArePlaced, IsAged}
+use Rattle.read_cache.proofs.OrderLemmas.{item_of, without_item}
 
 abbrev Places : Type 0
 Places = List (Place ℕ)
@@ -18,8 +19,7 @@ aged w c u a = record { word = w; cell = c; users = u; age = a }
 
 -- the copy under a word
 abbrev pub aged_of : List Aged → ℕ → Option Aged
-aged_of [] w = None
-aged_of (h ∷ hs) w = if h.word == w then Some h else aged_of hs w
+aged_of hs w = item_of (λ h. h.word) hs w
 
 -- the same with so many users, and without it
 abbrev pub aged_users : List Aged → ℕ → ℕ → List Aged
@@ -27,8 +27,7 @@ aged_users [] w n = []
 aged_users (h ∷ hs) w n = if h.word == w then record h { users = n } ∷ hs else h ∷ aged_users hs w n
 
 abbrev pub without_aged : List Aged → ℕ → List Aged
-without_aged [] w = []
-without_aged (h ∷ hs) w = if h.word == w then hs else h ∷ without_aged hs w
+without_aged hs w = without_item (λ h. h.word) hs w
 
 differ : (a b : ℕ) → a ≢ b → (a == b) ≡ false
 differ a b d = by (a == b) refl

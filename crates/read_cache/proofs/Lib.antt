@@ -1,2 +1,3 @@
 mod AgeLemmas
 mod SlotLemmas
+mod OrderLemmas

@@ -12,10 +12,14 @@ abbrev pub unused_of : List Aged → List (Entry ℕ)
 unused_of [] = []
 unused_of (h ∷ hs) = entry_first h.age (word_if h.word h.users) (unused_of hs)
 
--- the ages rise, from the lower bound on and below the upper one
+-- the ranks rise, from the lower bound on and below the upper one
+abbrev pub RisesBy : {X : Type 0} → (X → ℕ) → ℕ → ℕ → List X → Type 0
+RisesBy rank low high [] = low ≤ high
+RisesBy rank low high (x ∷ xs) = (low ≤ rank x) × RisesBy rank (rank x + 1) high xs
+
+-- the ages do
 abbrev pub AgesRise : ℕ → ℕ → List Aged → Type 0
-AgesRise low high [] = low ≤ high
-AgesRise low high (h ∷ hs) = (low ≤ h.age) × AgesRise (h.age + 1) high hs
+AgesRise low high hs = RisesBy (λ h. h.age) low high hs
 
 -- each age has a place
 abbrev pub ArePlaced : List Aged → List (Place ℕ) → Type 0

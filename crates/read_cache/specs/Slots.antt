@@ -1,9 +1,9 @@
--- What the entries of a cache's map stand for.
-use Rattle.std.specs.Prelude.{◌≡◌, ℕ, zero, suc, Bool, true, false, ◌==◌, List, [], ◌∷◌}
+-- What the entries of a cache's map stand for, whatever their order.
+use Rattle.std.specs.Prelude.{◌≡◌, ℕ, zero, suc, true, false, ◌==◌, nat_lt, if◌then◌else◌, List, [], ◌∷◌, Option, Some, None}
 use Rattle.heap_partition.specs.declared.value.Cell.{Cell}
 use Rattle.read_cache.specs.Cache.{Copy}
 use Rattle.read_cache.specs.declared.slot.Slot.{Slot}
-use Rattle.read_cache.specs.declared.slot.Slot.TheVariants.{Room, Gone, Held}
+use Rattle.read_cache.specs.declared.slot.Slot.TheVariants.{Room, Held}
 
 -- a copy and its age: how many copies were filled before it
 pub record Aged : Type 0 where
@@ -12,15 +12,40 @@ pub record Aged : Type 0 where
   pub users : ℕ
   pub age : ℕ
 
-abbrev pub held_before : ℕ → Slot → List Aged → List Aged
-held_before w Room hs = hs
-held_before w Gone hs = hs
-held_before w (Held cell users age) hs = record { word = w; cell = cell; users = users; age = age } ∷ hs
+-- a word that has room alone, and the number of its room
+pub record Numbered : Type 0 where
+  pub word : ℕ
+  pub number : ℕ
 
--- the copies among the entries, each with its age
+-- before the first with a higher rank
+abbrev pub put_by : {X : Type 0} → (X → ℕ) → X → List X → List X
+put_by rank x [] = x ∷ []
+put_by rank x (y ∷ ys) = if nat_lt (rank x) (rank y) then x ∷ y ∷ ys else y ∷ put_by rank x ys
+
+abbrev pub put_some : {X : Type 0} → (X → ℕ) → Option X → List X → List X
+put_some rank None xs = xs
+put_some rank (Some x) xs = put_by rank x xs
+
+-- what the entries give, by rank
+abbrev pub sorted_by : {X : Type 0} → (X → ℕ) → (ℕ × Slot → Option X) → List (ℕ × Slot) → List X
+sorted_by rank of [] = []
+sorted_by rank of (e ∷ es) = put_some rank (of e) (sorted_by rank of es)
+
+abbrev pub held : ℕ → Slot → Option Aged
+held w (Room number) = None
+held w (Held cell users age) = Some record { word = w; cell = cell; users = users; age = age }
+
+abbrev pub numbered : ℕ → Slot → Option Numbered
+numbered w (Room number) = Some record { word = w; number = number }
+numbered w (Held cell users age) = None
+
+-- the copies among the entries, the one that was filled first first
 abbrev pub held_in : List (ℕ × Slot) → List Aged
-held_in [] = []
-held_in (e ∷ es) = held_before e.0 e.1 (held_in es)
+held_in es = sorted_by (λ h. h.age) (λ e. held e.0 e.1) es
+
+-- the rooms among the entries, the oldest first
+abbrev pub numbered_in : List (ℕ × Slot) → List Numbered
+numbered_in es = sorted_by (λ r. r.number) (λ e. numbered e.0 e.1) es
 
 abbrev pub copies_of : List Aged → List Copy
 copies_of [] = []
@@ -30,21 +55,13 @@ copies_of (h ∷ hs) = record { word = h.word; cell = h.cell; users = h.users } 
 abbrev pub copies_in : List (ℕ × Slot) → List Copy
 copies_in es = copies_of (held_in es)
 
-abbrev pub room_before : ℕ → Slot → List ℕ → List ℕ
-room_before w Room ws = w ∷ ws
-room_before w Gone ws = ws
-room_before w (Held cell users age) ws = ws
+abbrev pub words_of : List Numbered → List ℕ
+words_of [] = []
+words_of (r ∷ rs) = r.word ∷ words_of rs
 
 -- the words that have room alone
 abbrev pub rooms_in : List (ℕ × Slot) → List ℕ
-rooms_in [] = []
-rooms_in (e ∷ es) = room_before e.0 e.1 (rooms_in es)
-
--- the word of a copy that was evicted, whose entry stays until it is cleared
-abbrev pub is_gone : Slot → Bool
-is_gone Room = false
-is_gone Gone = true
-is_gone (Held cell users age) = false
+rooms_in es = words_of (numbered_in es)
 
 -- no entry has the word
 abbrev pub IsAbsent : List (ℕ × Slot) → ℕ → Type 0
@@ -56,3 +73,7 @@ abbrev pub StandsAt : List (ℕ × Slot) → ℕ → ℕ → Slot → Type 0
 StandsAt [] w at slot = true ≡ false
 StandsAt (e ∷ es) w zero slot = (e.0 ≡ w) × (e.1 ≡ slot) × IsAbsent es w
 StandsAt (e ∷ es) w (suc at) slot = ((e.0 == w) ≡ false) × StandsAt es w at slot
+
+-- the word has room, by the entry at that place
+abbrev pub StandsAsRoom : List (ℕ × Slot) → ℕ → ℕ → Type 0
+StandsAsRoom es w at = (number : ℕ) × StandsAt es w at (Room number)

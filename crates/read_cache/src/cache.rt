@@ -1,13 +1,14 @@
-//! Copies by word, in the order in which they were filled.
+//! Copies by word, which contracts see in the order in which they were filled.
 
-ghost use Rattle.std.specs.Prelude.{◌≡◌, ◌<◌, ◌==◌, ◌||◌, ◌++◌, [], ◌∷◌, true, false, not, None, Some, length, if◌then◌else◌, IsOk, OnOk, OnErr, IfSome, IfNone};
+ghost use Rattle.std.specs.Prelude.{◌≡◌, ◌<◌, ◌==◌, ◌||◌, ◌++◌, [], ◌∷◌, true, false, None, Some, length, if◌then◌else◌, IsOk, OnOk, OnErr, IfSome, IfNone};
 ghost use Rattle.rank_map.specs.Places.{has_place as has_age, with_place};
 ghost use Rattle.indexmap.specs.IndexMap.{index_map_len};
 ghost use Rattle.read_cache.specs.Cache.{copy_of, is_cached, hit, can_fill, fill, can_pin, pin, can_unpin, unpin, users, can_evict, evict, oldest_unused};
-ghost use Rattle.read_cache.specs.Slots.{held_in, copies_in, rooms_in, is_gone, IsAbsent, StandsAt};
+ghost use Rattle.read_cache.specs.Slots.{copies_in, rooms_in, IsAbsent, StandsAt, StandsAsRoom};
 ghost use Rattle.read_cache.specs.declared.slot.Slot.TheVariants.{Room, Held};
 ghost use Rattle.read_cache.specs.View.{is_among, has_place, with_room, without_room};
 
+use crate::hash::WordHasher;
 use crate::slot::Slot;
 use fr_base::NoMemory;
 use global_addr::Word;
@@ -17,6 +18,9 @@ use rank_map::RankMap;
 use std::alloc::Global;
 use std::marker::Model;
 
+// What stands under each word.
+type Slots = IndexMap<Word, Slot, WordHasher>;
+
 // Ages are below this number.
 const AGES: u64 = 1 << 40;
 
@@ -24,35 +28,32 @@ const AGES: u64 = 1 << 40;
 /// word, its cell and the number of its users, and beside it as `rooms` the words for which there is room.
 ///
 /// `hit`, `users` and `len` take constant time, and so do `pin` and `unpin` of a copy that is in use before and after; the others
-/// take besides some forty steps in the set of the copies that nobody uses, by age, however many copies there are. `evict` leaves the
-/// entry of the copy, which is cleared by a `reserve` that lacks room: that takes linear time, and makes room for as many entries as are
-/// left, so that each clearing is paid by as many calls. `fill` moves the entries behind the word's room, which are none where the
-/// room was made last, and `reserve` those behind an evicted copy of the same word. Only `reserve` takes memory. 2^40 copies can be
-/// filled over a cache's whole life.
+/// take besides some forty steps in the set of the copies that nobody uses, by age, however many copies there are. That goes for every
+/// order of calls: a copy has its age and room its number, so their entries stand in no order, and one that goes is replaced by the last.
+/// Only `reserve` takes memory: where the map is full it makes room for as many words again, in linear time, so that each growth is paid
+/// by as many calls. 2^40 copies can be filled over a cache's whole life.
 #[derive(Drop)]
 pub struct Cache {
-    slots: IndexMap<Word, Slot>,
+    slots: Slots,
     // the words of the copies that nobody uses, by age
     unused: RankMap<Word>,
     // how many copies were filled, which is the age of the next one
     next: u64,
     // how many words have room alone
     rooms: u64,
-    // how many slots are copies
-    filled: usize,
 }
 
 impl Model for Cache {
-    ghost use Rattle.std.specs.Prelude.{◌≡◌, length};
-    ghost use Rattle.read_cache.specs.Ages.{IsAged};
-    ghost use Rattle.read_cache.specs.Slots.{held_in, copies_in, rooms_in};
+    ghost use Rattle.std.specs.Prelude.{◌≡◌, ◌+◌, length};
+    ghost use Rattle.read_cache.specs.Ages.{IsAged, RisesBy};
+    ghost use Rattle.read_cache.specs.Slots.{held_in, numbered_in, copies_in, rooms_in};
     ghost use Rattle.read_cache.specs.View.{CacheView};
 
     ghost Value = { CacheView };
 
     ghost view = { λ c. record { state = copies_in c.slots.entries; rooms = rooms_in c.slots.entries } };
 
-    ghost invariant = { λ c. IsAged (held_in c.slots.entries) c.unused c.next c.rooms × (c.rooms ≡ length (rooms_in c.slots.entries)) × (c.filled ≡ length (copies_in c.slots.entries)) };
+    ghost invariant = { λ c. IsAged (held_in c.slots.entries) c.unused c.next c.rooms × (c.rooms ≡ length (rooms_in c.slots.entries)) × RisesBy (λ r. r.number) 0 (c.next + c.rooms) (numbered_in c.slots.entries) };
 }
 
 // A copy: its place, its cell, the number of its users and its age.
@@ -65,7 +66,7 @@ struct Found {
 }
 
 // What stands under the word, and at which place.
-fn find(slots: &IndexMap<Word, Slot>, word: Word) -> Option<(usize, Slot)>
+fn find(slots: &Slots, word: Word) -> Option<(usize, Slot)>
     ensures there { IfSome result (λ found. StandsAt slots.now.entries word found.0 found.1) }
     ensures within { IfSome result (λ found. found.0 < index_map_len slots.now) }
     ensures absent { IfNone result (IsAbsent slots.now.entries word) }
@@ -81,7 +82,7 @@ fn find(slots: &IndexMap<Word, Slot>, word: Word) -> Option<(usize, Slot)>
 }
 
 // The copy under the word.
-fn copy_at(slots: &IndexMap<Word, Slot>, word: Word) -> Option<Found>
+fn copy_at(slots: &Slots, word: Word) -> Option<Found>
     ensures copy { IfSome result (λ copy. StandsAt slots.now.entries word copy.at (Held copy.cell copy.users copy.age)) }
     ensures within { IfSome result (λ copy. copy.at < index_map_len slots.now) }
     ensures none { IfNone result (copy_of (copies_in slots.now.entries) word ≡ None) }
@@ -94,79 +95,55 @@ fn copy_at(slots: &IndexMap<Word, Slot>, word: Word) -> Option<Found>
             users,
             age,
         }),
-        Some((_, Slot::Room)) => None,
-        Some((_, Slot::Gone)) => None,
+        Some((_, Slot::Room(_))) => None,
         None => None,
     }
 }
 
 // The place of the word's room.
-fn room_at(slots: &IndexMap<Word, Slot>, word: Word) -> Option<usize>
-    ensures room { IfSome result (λ at. StandsAt slots.now.entries word at Room) }
+fn room_at(slots: &Slots, word: Word) -> Option<usize>
+    ensures room { IfSome result (λ at. StandsAsRoom slots.now.entries word at) }
     ensures within { IfSome result (λ at. at < index_map_len slots.now) }
     ensures none { IfNone result (is_among (rooms_in slots.now.entries) word ≡ false) }
 {
     match find(slots, word) {
-        Some((at, Slot::Room)) => Some(at),
+        Some((at, Slot::Room(_))) => Some(at),
         Some((_, Slot::Held(_, _, _))) => None,
-        Some((_, Slot::Gone)) => None,
         None => None,
     }
 }
 
 // Whether there is a copy under the word, or room for one.
-fn is_there(slots: &IndexMap<Word, Slot>, word: Word) -> bool
-    ensures { result ≡ (is_cached (copies_in slots.now.entries) word || is_among (rooms_in slots.now.entries) word) }
+fn is_there(slots: &Slots, word: Word) -> bool
+    ensures there { result ≡ (is_cached (copies_in slots.now.entries) word || is_among (rooms_in slots.now.entries) word) }
+    ensures absent { result ≡ false → IsAbsent slots.now.entries word }
 {
-    match find(slots, word) {
-        Some((_, Slot::Room)) => true,
-        Some((_, Slot::Held(_, _, _))) => true,
-        Some((_, Slot::Gone)) => false,
-        None => false,
-    }
+    find(slots, word).is_some()
 }
 
-// Clears the entries of copies that were evicted.
-fn clear(slots: &mut IndexMap<Word, Slot>)
-    ensures held { held_in slots.new.entries ≡ held_in slots.old.entries }
-    ensures rooms { rooms_in slots.new.entries ≡ rooms_in slots.old.entries }
-{
-    let _inside: Option<(Cell, Owned)> = None;
-    slots.retain(
-        |_word: &Word, slot: &mut Slot| -> bool
-            ensures { (result ≡ not (is_gone slot.old)) × (slot.new ≡ slot.old) }
-        { !slot.is_gone() },
-    );
-}
-
-// Makes a free entry. Where none is left, those of evicted copies are cleared first, and there is room for as many as are left.
-fn make_entry(slots: &mut IndexMap<Word, Slot>) -> Result<(), NoMemory>
-    ensures held { held_in slots.new.entries ≡ held_in slots.old.entries }
-    ensures rooms { rooms_in slots.new.entries ≡ rooms_in slots.old.entries }
+// Makes a free entry. Where none is left, there is room for as many again afterwards.
+fn make_entry(slots: &mut Slots) -> Result<(), NoMemory>
+    ensures { slots.new.entries ≡ slots.old.entries }
 {
     let _inside: Option<(Slot, Cell, Owned)> = None;
     if slots.len() < slots.capacity() {
         return Ok(());
     }
-    clear(slots);
     match slots.reserve(slots.len().max(1)) {
         Ok(()) => Ok(()),
         Err(_) => Err(NoMemory),
     }
 }
 
-// Adds room for a word that has neither a copy nor room; a copy of it may have been evicted.
-fn add_room(slots: &mut IndexMap<Word, Slot>, word: Word) -> Result<(), NoMemory>
-    requires copy { is_cached (copies_in slots.old.entries) word ≡ false }
-    requires room { is_among (rooms_in slots.old.entries) word ≡ false }
-    ensures held { held_in slots.new.entries ≡ held_in slots.old.entries }
-    ensures added { OnOk result (rooms_in slots.new.entries ≡ rooms_in slots.old.entries ++ word ∷ []) }
-    ensures refused { OnErr result (rooms_in slots.new.entries ≡ rooms_in slots.old.entries) }
+// Adds room of that number for a word that is not there.
+fn add_room(slots: &mut Slots, word: Word, number: u64) -> Result<(), NoMemory>
+    requires absent { IsAbsent slots.old.entries word }
+    ensures added { OnOk result (slots.new.entries ≡ slots.old.entries ++ (word, Room number) ∷ []) }
+    ensures refused { OnErr result (slots.new.entries ≡ slots.old.entries) }
 {
     let _inside: Option<(Slot, Cell, Owned)> = None;
     make_entry(slots)?;
-    slots.shift_remove(&word);
-    match slots.insert(word, Slot::Room) {
+    match slots.insert(word, Slot::Room(number)) {
         Ok(_) => Ok(()),
         Err(_) => Err(NoMemory),
     }
@@ -199,11 +176,10 @@ impl Cache {
         ensures rooms { result.rooms ≡ [] }
     {
         Cache {
-            slots: IndexMap::new(alloc),
+            slots: IndexMap::with_hasher(alloc, WordHasher::new()),
             unused: RankMap::new(alloc),
             next: 0,
             rooms: 0,
-            filled: 0,
         }
     }
 
@@ -225,7 +201,7 @@ impl Cache {
             return Err(NoMemory);
         }
         self.unused.reserve(age)?;
-        add_room(&mut self.slots, word)?;
+        add_room(&mut self.slots, word, age)?;
         self.rooms += 1;
         Ok(())
     }
@@ -243,13 +219,10 @@ impl Cache {
         let Some(at) = room_at(&self.slots, word) else {
             return;
         };
-        let last = self.slots.len() - 1;
-        self.slots.move_index(at, last);
-        self.slots[last] = Slot::Held(cell, 0, self.next);
+        self.slots[at] = Slot::Held(cell, 0, self.next);
         self.unused.insert(self.next, word);
         self.next += 1;
         self.rooms -= 1;
-        self.filled += 1;
     }
 
     /// The cell that is copied under the word; `None` exactly where no copy is there.
@@ -312,9 +285,8 @@ impl Cache {
         if users > 0 {
             return false;
         }
-        self.slots[at] = Slot::Gone;
+        self.slots.swap_remove_index(at);
         self.unused.remove(age);
-        self.filled -= 1;
         true
     }
 
@@ -338,6 +310,6 @@ impl Cache {
     pub fn len(&self) -> usize
         ensures { result ≡ length self.now.state }
     {
-        self.filled
+        self.slots.len() - self.rooms as usize
     }
 }

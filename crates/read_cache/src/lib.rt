@@ -3,6 +3,7 @@
 #![tactic(auto)]
 
 mod cache;
+mod hash;
 mod laws;
 mod slot;
 

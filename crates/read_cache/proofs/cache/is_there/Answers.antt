@@ -1,20 +1,14 @@
-use Rattle.std.proofs.Common.{refl, sym, true}
-use Rattle.std.proofs.lemmas.Bool.{or_right}
+use Rattle.std.proofs.Common.{◌≡◌, ℕ, ◌||◌, List, Option, None, Some, is_some, IfSome, IfNone, refl, sym, ◌∙◌}
+use Rattle.read_cache.specs.declared.slot.Slot.{Slot}
 use Rattle.read_cache.specs.Cache.{is_cached}
-use Rattle.read_cache.specs.Slots.{copies_in}
-use Rattle.read_cache.proofs.SlotLemmas.{no_copy, no_room, held_copy, room_is_there, gone_no_copy, gone_no_room}
+use Rattle.read_cache.specs.Slots.{copies_in, rooms_in, IsAbsent, StandsAt}
+use Rattle.read_cache.specs.View.{is_among}
+use Rattle.read_cache.proofs.SlotLemmas.{no_copy, no_room, is_one}
 use Rattle.read_cache.proofs.cache.is_there.Goals as goal
 
-pub returns-in-Some-default-Room : goal.returns-in-Some-default-Room
-returns-in-Some-default-Room c = rw (room_is_there c.args.word c.args.slots.now.entries _ (rw c.in-Some-default-Room.field-0-1-is at c.in-Some-default-Room.ensures.there)) (sym (or_right (is_cached (copies_in c.args.slots.now.entries) c.args.word) true refl))
+found_is : (es : List (ℕ × Slot)) (w : ℕ) (o : Option (ℕ × Slot)) → IfSome o (λ found. StandsAt es w found.0 found.1) → IfNone o (IsAbsent es w) → is_some o ≡ (is_cached (copies_in es) w || is_among (rooms_in es) w)
+found_is es w None s n = rw (no_copy w es n, no_room w es n) refl
+found_is es w (Some found) s n = sym (is_one w es found.0 found.1 s)
 
-pub returns-in-Some-default-Held : goal.returns-in-Some-default-Held
-returns-in-Some-default-Held c = rw (held_copy c.args.word c.args.slots.now.entries _ _ _ _ (rw c.in-Some-default-Held.field-0-1-is at c.in-Some-default-Held.ensures.there)) refl
-
-pub returns-in-None : goal.returns-in-None
-returns-in-None c = rw (no_copy c.args.word c.args.slots.now.entries c.in-None.ensures.absent, no_room c.args.word c.args.slots.now.entries c.in-None.ensures.absent) refl
-
-pub returns-in-Some-default-Gone : goal.returns-in-Some-default-Gone
-returns-in-Some-default-Gone c =
-    let there = (rw c.in-Some-default-Gone.field-0-1-is at c.in-Some-default-Gone.ensures.there) in
-    rw (gone_no_copy c.args.word c.args.slots.now.entries _ there, gone_no_room c.args.word c.args.slots.now.entries _ there) refl
+pub returns-clause-there : goal.returns-clause-there
+returns-clause-there c = c.is_some.ensures ∙ found_is c.args.slots.now.entries c.args.word c.find.result c.find.ensures.there c.find.ensures.absent

@@ -1,4 +1,4 @@
-use Rattle.read_cache.proofs.SlotLemmas.{no_room, held_no_room, gone_no_room}
+use Rattle.read_cache.proofs.SlotLemmas.{no_room, held_no_room}
 use Rattle.read_cache.proofs.cache.room_at.Goals as goal
 
 pub returns-in-Some-default-Held-clause-none : goal.returns-in-Some-default-Held-clause-none
@@ -6,6 +6,3 @@ returns-in-Some-default-Held-clause-none c = held_no_room c.args.word c.args.slo
 
 pub returns-in-None-clause-none : goal.returns-in-None-clause-none
 returns-in-None-clause-none c = no_room c.args.word c.args.slots.now.entries c.in-None.ensures.absent
-
-pub returns-in-Some-default-Gone-clause-none : goal.returns-in-Some-default-Gone-clause-none
-returns-in-Some-default-Gone-clause-none c = gone_no_room c.args.word c.args.slots.now.entries _ (rw c.in-Some-default-Gone.field-0-1-is at c.in-Some-default-Gone.ensures.there)

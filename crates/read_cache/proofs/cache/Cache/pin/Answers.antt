@@ -2,7 +2,7 @@ use Rattle.std.proofs.Common.{◌≡◌, ◌<◌, ◌^◌, ◌+◌, refl, arith,
 use Rattle.read_cache.specs.Slots.{held_in, copies_in}
 use Rattle.read_cache.specs.Cache.{can_pin}
 use Rattle.read_cache.proofs.AgeLemmas.{aged, held_place, used_aged, copies_users}
-use Rattle.read_cache.proofs.SlotLemmas.{held_aged, held_copy, users_set, rooms_stay, users_is, can_pin_is, length_with}
+use Rattle.read_cache.proofs.SlotLemmas.{held_aged, held_copy, users_set, rooms_stay, users_is, can_pin_is}
 use Rattle.read_cache.proofs.cache.Cache.pin.Goals as goal
 
 pub overflow_add-copy : goal.overflow_add-copy
@@ -23,7 +23,7 @@ invariant_of-self c =
     let e = users_set w es at cell u a (u + 1) copy in (
       rw e (used_aged c.self.invariant.0 w (aged w cell u a) (held_aged w es at cell u a copy) c.take_into_use.new.unused u refl c.take_into_use.ensures),
       rw (rooms_stay w es at cell u a (u + 1) copy) c.self.invariant.1,
-      rw (e, copies_users (held_in es) w (u + 1), length_with w (copies_in es) (u + 1)) c.self.invariant.2,
+      rw (rooms_stay w es at cell u a (u + 1) copy) c.self.invariant.2,
     )
 
 pub returns : goal.returns

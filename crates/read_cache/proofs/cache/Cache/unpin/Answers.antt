@@ -2,7 +2,7 @@ use Rattle.std.proofs.Common.{◌≡◌, ◌<◌, ◌-◌, refl, arith, true}
 use Rattle.read_cache.specs.Slots.{held_in, copies_in}
 use Rattle.read_cache.specs.Cache.{can_unpin}
 use Rattle.read_cache.proofs.AgeLemmas.{aged, held_place, freed_aged, copies_users}
-use Rattle.read_cache.proofs.SlotLemmas.{held_aged, held_copy, users_set, rooms_stay, users_is, can_unpin_is, length_with}
+use Rattle.read_cache.proofs.SlotLemmas.{held_aged, held_copy, users_set, rooms_stay, users_is, can_unpin_is}
 use Rattle.read_cache.proofs.cache.Cache.unpin.Goals as goal
 
 pub overflow_sub-copy : goal.overflow_sub-copy
@@ -25,7 +25,7 @@ invariant_of-self c =
     let l : 0 < u = can_unpin_is (copies_in es) w cell u (held_copy w es at cell u a copy) p in (
       rw e (freed_aged c.self.invariant.0 w (aged w cell u a) (held_aged w es at cell u a copy) c.give_up.new.unused u refl l c.give_up.ensures),
       rw (rooms_stay w es at cell u a (u - 1) copy) c.self.invariant.1,
-      rw (e, copies_users (held_in es) w (u - 1), length_with w (copies_in es) (u - 1)) c.self.invariant.2,
+      rw (rooms_stay w es at cell u a (u - 1) copy) c.self.invariant.2,
     )
 
 pub returns : goal.returns
