@@ -198,7 +198,7 @@ if __name__ == "__main__":
     if words:
         told(" ".join(words), [("item", f"{ROOT}/{words[0]}/specs/{words[1]}.antt", words[2])], "--files" in sys.argv)
     else:
-        coherent = [("item", f"{ROOT}/type_law/specs/ClusterTypes.antt", "IsCoherent")]
+        coherent = [("item", f"{ROOT}/coherent_types/specs/ClusterTypes.antt", "IsCoherent")]
         told("the headline", headline(), "--files" in sys.argv)
         told("a coherent cluster", coherent, "--files" in sys.argv)
         told("both together", headline() + coherent, "--files" in sys.argv)

@@ -3,7 +3,7 @@ use Rattle.std.proofs.Common.{◌≡◌, ℕ, ◌<◌, List, Option, Some, None,
 use Rattle.std.specs.Prelude.{slice_get, IfSome}
 use Rattle.borrow_check.specs.Programs.{Program}
 use Rattle.server_model.specs.declared.event.What.{What}
-use Rattle.type_law.specs.ClusterTypes.{IsCoherent}
+use Rattle.coherent_types.specs.ClusterTypes.{IsCoherent}
 use Rattle.server_core.specs.Servers.{ServerView}
 use Rattle.cluster_core.specs.Views.{states, events_in, cluster_of, AreServersOf}
 use Rattle.cluster_core.specs.Applying.{can_do, CanAct}

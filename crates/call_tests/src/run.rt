@@ -1,7 +1,7 @@
 //! A run that is driven row by row.
 
 ghost use Rattle.std.specs.Prelude.{◌≡◌, ◌≤◌};
-ghost use Rattle.type_law.specs.Below.heap_law.Naming.{options_out};
+ghost use Rattle.coherent_types.specs.Below.coherent_memory.Naming.{options_out};
 
 use crate::hand::do_event;
 use crate::rows::{Row, event_of, row_of};
@@ -51,7 +51,7 @@ pub struct Run {
 impl Model for Run {
     ghost use Rattle.cluster_core.specs.Views.{ClusterView};
     ghost use Rattle.cluster_core.specs.Handing.{NoneSent};
-    ghost use Rattle.type_law.specs.ClusterTypes.{IsCoherent};
+    ghost use Rattle.coherent_types.specs.ClusterTypes.{IsCoherent};
 
     ghost Value = { ClusterView };
 

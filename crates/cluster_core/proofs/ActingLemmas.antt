@@ -12,9 +12,9 @@ use Rattle.server_model.specs.Clusters.{outboxes}
 use Rattle.server_model.specs.Work.{then_some, in_hand, beside_threads}
 use Rattle.server_model.specs.Moving.{migrate}
 use Rattle.server_model.specs.Events.{enabled, does, stepped, left_by, step_in, begin_at, deliver, evict_copy}
-use Rattle.event_law.specs.Laws.{Gives}
-use Rattle.limit_law.specs.Sending.{SendsFew}
-use Rattle.limit_law.proofs.Events.{events_send_few}
+use Rattle.law_counts_sums.specs.Laws.{Gives}
+use Rattle.law_counts_limits.specs.limits.Sending.{SendsFew}
+use Rattle.law_counts_limits.proofs.limits.Events.{events_send_few}
 use Rattle.server_core.specs.Servers.{ServerView}
 use Rattle.server_core.specs.Steps.{CountsLeft}
 use Rattle.cluster_core.specs.Views.{states, events_in, AreNumbered}

@@ -9,10 +9,10 @@ use Rattle.server_model.specs.Servers.{Server, Sent, Cluster, server_at}
 use Rattle.server_model.specs.Work.{then_some, thread_in}
 use Rattle.server_model.specs.Events.{enabled, does}
 use Rattle.server_model.specs.Clusters.{accept_all, with_server, with_outbox, hand_over_newer, done_at, apply}
-use Rattle.type_law.specs.ClusterTypes.{IsCoherent}
-use Rattle.limit_law.specs.Counts.{IsServerSmall}
-use Rattle.limit_law.proofs.Counts.{counts_are_small, few_are_few}
-use Rattle.enabled_law.proofs.Each.{each_event}
+use Rattle.coherent_types.specs.ClusterTypes.{IsCoherent}
+use Rattle.law_counts_limits.specs.limits.Counts.{IsServerSmall}
+use Rattle.law_counts_limits.proofs.limits.Counts.{counts_are_small, few_are_few}
+use Rattle.law_results_events.proofs.enabled.Each.{each_event}
 use Rattle.server_core.specs.Servers.{ServerView}
 use Rattle.server_core.specs.Steps.{ThreadLeft, CountsLeft}
 use Rattle.cluster_core.specs.Views.{states, events_in, code_in, options_in, cluster_of, AreServersOf}

@@ -3,7 +3,7 @@ use Rattle.std.proofs.Common.{◌≡◌, ℕ, zero, suc, List, [], ◌∷◌, le
 use Rattle.std.specs.Prelude.{slice_get, OnErr, Result, Ok, Err}
 use Rattle.fr_base.specs.declared.instruction.Instr.{Instr}
 use Rattle.fr_base.specs.declared.settings.Options.{Options}
-use Rattle.table_law.specs.Bare.{bare}
+use Rattle.law_plain_table.specs.Bare.{bare}
 use Rattle.borrow_check.specs.Programs.{Program}
 use Rattle.server_model.specs.Servers.{Server, server_at}
 use Rattle.server_core.specs.Servers.{ServerView}

@@ -7,8 +7,8 @@ use Rattle.server_model.specs.Servers.{Server, server_at, empty_servers, with_ma
 use Rattle.server_core.specs.Servers.{ServerView}
 use Rattle.fr_syntax.specs.Meanings.{term_of}
 use Rattle.fr_plain.specs.Resolve.{program}
-use Rattle.table_law.specs.Bare.{bare}
-use Rattle.table_law.specs.CodeOf.{code_of}
+use Rattle.law_plain_table.specs.Bare.{bare}
+use Rattle.law_plain_table.specs.CodeOf.{code_of}
 use Rattle.borrow_check.specs.Programs.{Program}
 use Rattle.cluster_core.specs.Views.{states, events_in, code_in, options_in, cluster_of, AreNumbered, AllKeep, AreServersOf}
 use Rattle.cluster_core.specs.Handing.{NoneSent}

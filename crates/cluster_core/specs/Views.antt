@@ -4,12 +4,12 @@ use Rattle.fr_base.specs.declared.instruction.Instr.{Instr}
 use Rattle.fr_base.specs.declared.settings.Options.{Options}
 use Rattle.fr_syntax.specs.Meanings.{term_of}
 use Rattle.fr_plain.specs.Resolve.{program}
-use Rattle.table_law.specs.Bare.{bare}
-use Rattle.table_law.specs.CodeOf.{code_of}
+use Rattle.law_plain_table.specs.Bare.{bare}
+use Rattle.law_plain_table.specs.CodeOf.{code_of}
 use Rattle.borrow_check.specs.Programs.{Program}
 use Rattle.server_model.specs.Servers.{Server, Cluster}
 use Rattle.server_core.specs.Servers.{ServerView}
-pub use Rattle.limit_law.specs.Counts.{events_in}
+pub use Rattle.law_counts_limits.specs.limits.Counts.{events_in}
 
 pub record ClusterView : Type 0 where
   pub state : Cluster

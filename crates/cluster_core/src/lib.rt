@@ -11,5 +11,5 @@ mod waiting;
 
 pub use cluster::Cluster;
 // each event that a cluster does keeps it coherent
-pub use coherence_law::events_keep_coherence;
+pub use law_runs_coherent::events_keep_coherence;
 pub use refused::Refused;

@@ -1,7 +1,7 @@
 //! A run that is driven event by event.
 
 ghost use Rattle.std.specs.Prelude.{◌≡◌, ◌≤◌};
-ghost use Rattle.type_law.specs.Below.heap_law.Naming.{options_out};
+ghost use Rattle.coherent_types.specs.Below.coherent_memory.Naming.{options_out};
 
 use crate::events::event_of;
 use borrow_check::{CheckError, Checked, check};
@@ -28,7 +28,7 @@ pub struct Run {
 impl Model for Run {
     ghost use Rattle.cluster_core.specs.Views.{ClusterView};
     ghost use Rattle.cluster_core.specs.Handing.{NoneSent};
-    ghost use Rattle.type_law.specs.ClusterTypes.{IsCoherent};
+    ghost use Rattle.coherent_types.specs.ClusterTypes.{IsCoherent};
 
     ghost Value = { ClusterView };
 

@@ -12,14 +12,14 @@ use Rattle.server_model.specs.Servers.{Cluster, empty_servers, with_main, main_t
 use Rattle.coloured_heap.specs.Heap.{Copied, Running, Wish}
 use Rattle.coloured_heap.specs.Heap as coloured
 use Rattle.coloured_heap.specs.Rules as rules
-use Rattle.heap_law.specs.Names.{tot, one, some, same_mutex}
-use Rattle.heap_law.specs.Things.{Thing, counts, stands, at_home, servers_things}
-use Rattle.heap_law.specs.Follow.{threads_in}
-use Rattle.heap_law.specs.Sight.{Sight, sight, Pointer, is_issued}
-use Rattle.heap_law.specs.Naming.{events_of, started_at, made_at}
-use Rattle.heap_law.specs.OneHeap.{Node, object_n, mutex_n, Owner, a_thread, inside, outside, owner_of, owner_in, names, named_in, any_named, in_state_by, is_in_state, first_shown, is_given_thread, one_heap}
-use Rattle.heap_law.specs.Colours.{IsColoured, running_of, has_finished, served_of, wishes_of, is_mutex_there}
-use Rattle.heap_law.specs.LeftBy.{RunsWith, messages_of}
+use Rattle.coherent_memory.specs.Names.{tot, one, some, same_mutex}
+use Rattle.coherent_memory.specs.Things.{Thing, counts, stands, at_home, servers_things}
+use Rattle.coherent_memory.specs.Follow.{threads_in}
+use Rattle.coherent_memory.specs.Sight.{Sight, sight, Pointer, is_issued}
+use Rattle.coherent_memory.specs.Naming.{events_of, started_at, made_at}
+use Rattle.coherent_memory.specs.OneHeap.{Node, object_n, mutex_n, Owner, a_thread, inside, outside, owner_of, owner_in, names, named_in, any_named, in_state_by, is_in_state, first_shown, is_given_thread, one_heap}
+use Rattle.coherent_memory.specs.Colours.{IsColoured, running_of, has_finished, served_of, wishes_of, is_mutex_there}
+use Rattle.coherent_memory.specs.LeftBy.{RunsWith, messages_of}
 use Rattle.fr_code.specs.Machine.{code_start}
 use Rattle.journal.specs.View.{EntryView}
 use Rattle.code_meaning.specs.OneHeap.{plain_run}

@@ -2,7 +2,7 @@
 use Rattle.std.specs.Prelude.{List}
 use Rattle.journal.specs.View.{EntryView}
 use Rattle.server_model.specs.Servers.{Cluster}
-use Rattle.heap_law.specs.LeftBy.{LeftBy}
+use Rattle.coherent_memory.specs.LeftBy.{LeftBy}
 use Rattle.code_meaning.specs.OneHeap.{plain_run}
 
 -- the order of the journal is one of plain steps of the code over one heap; they have the journal's labels and leave the cluster's one heap. Beside

@@ -4,7 +4,7 @@ use Rattle.fr_base.specs.declared.label.Label.{Label}
 use Rattle.fr_base.specs.declared.instruction.Instr.{Instr}
 use Rattle.fr_plain.specs.PlainState.{plain_state}
 use Rattle.fr_code.specs.Machine.{CodeState, CodeStepped}
-use Rattle.heap_law.specs.LeftBy.{PlainRun}
+use Rattle.coherent_memory.specs.LeftBy.{PlainRun}
 use Rattle.code_meaning.specs.Runs.{run}
 
 abbrev pub in_plain : Option CodeStepped → Option (CodeState × List Label)

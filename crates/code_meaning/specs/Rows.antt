@@ -17,10 +17,10 @@ use Rattle.server_model.specs.Figures.{Ran, run as cluster_run, steps_of, delive
 use Rattle.server_model.specs.Programs.{with_servers, written_box, empty, lent_slot, read_elsewhere, written_elsewhere, read_by_pairs, often_written, lent_box, read_two, locked_twice, locked_elsewhere, counted_up, task_dropped}
 use Rattle.server_model.specs.Larger.{raised_by_two, pair_in_pair, all_dropped}
 use Rattle.server_model.specs.Rows.{reading_elsewhere, writing_elsewhere, reading_by_pairs, moving, evicting, locking_twice, locking_elsewhere, unlocked}
-use Rattle.heap_law.specs.OneHeap.{PlainLife, one_heap}
-use Rattle.heap_law.specs.OneHeapRuns.{along, starts}
-use Rattle.heap_law.specs.Chosen.{lent_deep, locked_by_two, viewed_twice, locked_in_box}
-use Rattle.heap_law.specs.ChosenEnds.{run_of, of_run}
+use Rattle.coherent_memory.specs.OneHeap.{PlainLife, one_heap}
+use Rattle.coherent_samples.specs.OneHeapRuns.{along, starts}
+use Rattle.sample_clusters.specs.ChosenPrograms.{lent_deep, locked_by_two, viewed_twice, locked_in_box}
+use Rattle.coherent_samples.specs.ChosenEnds.{run_of, of_run}
 use Rattle.fr_plain.specs.MachineThreads.{Shared}
 use Rattle.fr_plain.specs.PlainState.{plain_state}
 use Rattle.fr_code.specs.Machine.{CodeState, CodeStepped}

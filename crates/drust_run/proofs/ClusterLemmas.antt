@@ -6,15 +6,15 @@ use Rattle.rand_pcg.specs.Lcg.{Lcg}
 use Rattle.fr_base.specs.declared.instruction.Instr.{Instr}
 use Rattle.fr_base.specs.declared.settings.Options.{Options}
 use Rattle.borrow_check.specs.Programs.{Program}
-use Rattle.table_law.specs.Bare.{bare}
+use Rattle.law_plain_table.specs.Bare.{bare}
 use Rattle.server_model.specs.Servers.{Sent, Server, Cluster}
 use Rattle.server_model.specs.Clusters.{accept, accept_at, accept_all, emptied, outboxes, hand_over}
 use Rattle.server_core.specs.Servers.{ServerView}
 use Rattle.drive_model.specs.Rounds.{Run, Round, round_of, events_left, after_round, round}
-use Rattle.run_law.specs.Runs.{EachKeepsCoherence}
-use Rattle.rounds_law.specs.Working.{CanWork}
-use Rattle.rounds_law.specs.UnderWay.{IsUnderWay, ServersCanWork}
-use Rattle.rounds_law.proofs.UnderWay.{turns_in_range}
+use Rattle.law_runs_whole.specs.runs.Runs.{EachKeepsCoherence}
+use Rattle.law_runs_rounds.specs.rounds.Working.{CanWork}
+use Rattle.law_runs_rounds.specs.rounds.UnderWay.{IsUnderWay, ServersCanWork}
+use Rattle.law_runs_rounds.proofs.rounds.UnderWay.{turns_in_range}
 use Rattle.cluster_core.specs.Views.{states, code_in, options_in, events_in, cluster_of, AllKeep, AreServersOf}
 use Rattle.drust_run.proofs.RoundLemmas.{AllCan, IsRound, length_append}
 

@@ -11,9 +11,9 @@ use Rattle.server_model.specs.declared.event.What.TheVariants.{Step, Deliver, Ev
 use Rattle.server_model.specs.Servers.{Server}
 use Rattle.server_model.specs.Work.{then_some, in_hand, beside_threads}
 use Rattle.server_model.specs.Moving.{migrate}
-use Rattle.event_law.proofs.Results.{given_by}
-use Rattle.limit_law.specs.Sending.{SendsFew}
-use Rattle.limit_law.proofs.Events.{events_send_few}
+use Rattle.law_counts_sums.proofs.Results.{given_by}
+use Rattle.law_counts_limits.specs.limits.Sending.{SendsFew}
+use Rattle.law_counts_limits.proofs.limits.Events.{events_send_few}
 use Rattle.server_model.specs.Events.{does, stepped, left_by, step_in, begin_at, deliver, evict_copy}
 
 -- what a map gives comes from something

@@ -7,13 +7,13 @@ use Rattle.fr_base.specs.declared.instruction.Instr.{Instr}
 use Rattle.fr_base.specs.declared.settings.Options.{Options}
 use Rattle.journal.specs.View.{EntryView}
 use Rattle.borrow_check.specs.Programs.{Program}
-use Rattle.table_law.specs.Bare.{bare}
+use Rattle.law_plain_table.specs.Bare.{bare}
 use Rattle.server_model.specs.declared.event.What.{What}
 use Rattle.server_model.specs.Servers.{Server, Cluster}
 use Rattle.server_model.specs.Events.{enabled, does}
 use Rattle.server_core.specs.Steps.{CountsLeft}
 use Rattle.drive_model.specs.Rounds.{Run, events_left, is_balanced}
-use Rattle.rounds_law.specs.Working.{HasSmallCounts}
+use Rattle.law_runs_rounds.specs.rounds.Working.{HasSmallCounts}
 use Rattle.drust_run.specs.Moves.{CanAct, IsDone}
 use Rattle.drust_run.proofs.EventLemmas.{counted, same_number}
 use Rattle.drust_run.proofs.WorkLemmas.{counts_left}

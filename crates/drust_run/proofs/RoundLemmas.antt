@@ -14,7 +14,7 @@ use Rattle.server_model.specs.Work.{then_some}
 use Rattle.server_core.specs.Servers.{ServerView}
 use Rattle.drive_model.specs.Rounds.{Worked, work, before_round, round_of}
 use Rattle.cluster_core.specs.Views.{states, AllKeep, AreNumbered, events_in}
-use Rattle.rounds_law.specs.Working.{CanWork}
+use Rattle.law_runs_rounds.specs.rounds.Working.{CanWork}
 use Rattle.drust_run.specs.Desks.{IsReady, EachIsReady, Works, WorkEach, done_at, servers_at, choices_at, entries_at, AreFresh, NoneLacks}
 use Rattle.drust_run.specs.Turns.{most_in_turn, CanTakeTurn, CanTakeTurns, TakesTurn, TakesTurnThen, TakeTurns}
 use Rattle.drust_run.specs.declared.desk.Desk.{Desk}

@@ -11,9 +11,9 @@ use Rattle.server_model.specs.Clusters.{hand_over}
 use Rattle.server_core.specs.Servers.{ServerView}
 use Rattle.drive_model.specs.Balance.{Load, Shift, balance, loads}
 use Rattle.drive_model.specs.Rounds.{Run, is_balanced, shifted}
-use Rattle.run_law.specs.Runs.{EachKeepsCoherence}
-use Rattle.rounds_law.specs.UnderWay.{IsUnderWay, CanMove, BalancesCanMove}
-use Rattle.rounds_law.proofs.UnderWay.{turns_in_range}
+use Rattle.law_runs_whole.specs.runs.Runs.{EachKeepsCoherence}
+use Rattle.law_runs_rounds.specs.rounds.UnderWay.{IsUnderWay, CanMove, BalancesCanMove}
+use Rattle.law_runs_rounds.proofs.rounds.UnderWay.{turns_in_range}
 use Rattle.cluster_core.specs.Views.{states, events_in, cluster_of, AreServersOf}
 use Rattle.drust_run.specs.Moves.{CanAct, IsDone}
 use Rattle.drust_run.proofs.RoundLemmas.{length_append}

@@ -8,7 +8,7 @@ use Rattle.server_model.specs.Servers.{Server, Cluster, empty_servers, with_main
 use Rattle.server_model.specs.Work.{then_some}
 use Rattle.drive_model.specs.Rounds.{Run, generators_from, run_start, round, balanced, is_done, rounds_from}
 use Rattle.cluster_core.specs.Views.{events_in}
-use Rattle.rounds_law.specs.UnderWay.{IsUnderWay, GoesOn}
+use Rattle.law_runs_rounds.specs.rounds.UnderWay.{IsUnderWay, GoesOn}
 
 empty_counts : (o : Options) (s n : ℕ) → events_in (empty_servers o s n) ≡ 0
 empty_counts o s zero = refl

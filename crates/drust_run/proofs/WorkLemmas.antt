@@ -15,7 +15,7 @@ use Rattle.server_core.specs.Servers.{ServerView}
 use Rattle.server_core.specs.Steps.{ThreadLeft, CountsLeft}
 use Rattle.drive_model.specs.Choice.{Drawn, next}
 use Rattle.drive_model.specs.Rounds.{Worked, nothing_done, after_entry, work_on, work}
-use Rattle.rounds_law.specs.Working.{HasSmallCounts, Goes, goes_where, CanWork}
+use Rattle.law_runs_rounds.specs.rounds.Working.{HasSmallCounts, Goes, goes_where, CanWork}
 use Rattle.drust_run.specs.Turns.{with_before}
 use Rattle.drust_run.proofs.EventLemmas.{IsCounted, counted, same_number}
 

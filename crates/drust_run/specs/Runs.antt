@@ -4,8 +4,8 @@ use Rattle.fr_base.specs.declared.instruction.Instr.{Instr}
 use Rattle.fr_base.specs.declared.settings.Options.{Options}
 use Rattle.fr_syntax.specs.Meanings.{term_of}
 use Rattle.fr_plain.specs.Resolve.{program}
-use Rattle.table_law.specs.Bare.{bare}
-use Rattle.table_law.specs.CodeOf.{code_of}
+use Rattle.law_plain_table.specs.Bare.{bare}
+use Rattle.law_plain_table.specs.CodeOf.{code_of}
 use Rattle.borrow_check.specs.Programs.{Program}
 use Rattle.fr_base.specs.declared.step.Ending.{Ending}
 use Rattle.fr_base.specs.declared.step.Ending.TheVariants as end

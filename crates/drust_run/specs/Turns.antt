@@ -4,7 +4,7 @@ use Rattle.rand_pcg.specs.Lcg.{Lcg}
 use Rattle.journal.specs.View.{EntryView}
 use Rattle.server_core.specs.Servers.{ServerView}
 use Rattle.drive_model.specs.Rounds.{Worked, work}
-use Rattle.rounds_law.specs.Working.{CanWork}
+use Rattle.law_runs_rounds.specs.rounds.Working.{CanWork}
 
 -- the same with entries before
 abbrev pub with_before : List EntryView → Worked → Worked

@@ -4,16 +4,16 @@ ghost use Rattle.std.specs.Prelude.{◌≡◌, ◌≤◌, [], length, Some, IfOk
 ghost use Rattle.std.specs.Arc.{arc_value};
 ghost use Rattle.fr_syntax.specs.Meanings.{term_of};
 ghost use Rattle.fr_plain.specs.Resolve.{program};
-ghost use Rattle.table_law.specs.Bare.{bare};
-ghost use Rattle.table_law.specs.CodeOf.{code_of};
-ghost use Rattle.heap_law.specs.Naming.{options_out};
+ghost use Rattle.law_plain_table.specs.Bare.{bare};
+ghost use Rattle.law_plain_table.specs.CodeOf.{code_of};
+ghost use Rattle.coherent_memory.specs.Naming.{options_out};
 ghost use Rattle.server_model.specs.Clusters.{outboxes};
 ghost use Rattle.cluster_core.specs.Views.{events_in};
 ghost use Rattle.drive_model.specs.Ending.{ending};
 ghost use Rattle.drive_model.specs.Rounds.{generators_from, run_start, is_done, rounds_from};
-ghost use Rattle.run_law.specs.Runs.{EachKeepsCoherence};
-ghost use Rattle.type_law.specs.ClusterTypes.{IsCoherent};
-ghost use Rattle.rounds_law.specs.UnderWay.{IsUnderWay};
+ghost use Rattle.law_runs_whole.specs.runs.Runs.{EachKeepsCoherence};
+ghost use Rattle.coherent_types.specs.ClusterTypes.{IsCoherent};
+ghost use Rattle.law_runs_rounds.specs.rounds.UnderWay.{IsUnderWay};
 ghost use Rattle.drust_run.specs.Drives.{run_of};
 ghost use Rattle.drust_run.specs.Runs.{IsRunOf, ended};
 
@@ -27,11 +27,11 @@ use controller::Choice;
 use drust_io::Gate;
 use fr_base::{Ending, Ending3, NoMemory, Options};
 use journal::Journal;
-use rounds_law::{rounds_go_on, starts_are_under_way};
+use law_runs_rounds::{rounds_go_on, starts_are_under_way};
 use std::alloc::Global;
 use std::sync::Arc;
 use std::thread::Threads;
-use waiting_order_law::coherent_in_any_order;
+use law_runs_order::coherent_in_any_order;
 
 // The generators of so many servers.
 fn choices_of(alloc: Global, options: &Options) -> Result<Vec<Choice>, NoMemory>

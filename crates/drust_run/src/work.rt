@@ -4,7 +4,7 @@ ghost use Rattle.std.specs.Prelude.{◌≡◌, ◌≤◌, ◌^◌, true, length,
 ghost use Rattle.server_model.specs.Events.{does, enabled};
 ghost use Rattle.server_core.specs.Steps.{CountsLeft};
 ghost use Rattle.drive_model.specs.Rounds.{work};
-ghost use Rattle.rounds_law.specs.Working.{CanWork};
+ghost use Rattle.law_runs_rounds.specs.rounds.Working.{CanWork};
 ghost use Rattle.drust_run.specs.Desks.{IsReady, Works};
 ghost use Rattle.drust_run.specs.Turns.{with_before};
 

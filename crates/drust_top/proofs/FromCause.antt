@@ -3,7 +3,7 @@ use Rattle.std.proofs.Common.{◌≡◌, ℕ, List, Option, Some, ◌⊎◌, inl
 use Rattle.drust_cli.specs.declared.asked.Asked.{Asked}
 use Rattle.drust_cli.specs.declared.asked.Command.TheVariants.{Load}
 use Rattle.drust_cli.specs.Asked.{asked}
-use Rattle.load_law.specs.Laws.{ProgramsAreSources}
+use Rattle.law_plain_generated.specs.Laws.{ProgramsAreSources}
 use Rattle.server_answers.specs.Below.drust_run.declared.ran.Ran.{Ran}
 use Rattle.drust_top.specs.Headline.{Answers, Answered, IsAnswer, IsCutShort, IsOfRun, IsStatus}
 use Rattle.drust_top.proofs.OneAnswer.{one, loads}

@@ -10,7 +10,7 @@ use Rattle.drust_cli.specs.declared.asked.Command.{Command}
 use Rattle.drust_cli.specs.declared.asked.Command.TheVariants.{Run}
 use Rattle.drust_cli.specs.Asked.{asked}
 use Rattle.server_answers.specs.Below.drust_run.declared.ran.Ran.{Ran}
-use Rattle.server_answers.specs.Below.size_law.Size.{nodes_of}
+use Rattle.server_answers.specs.Below.law_length_programs.sizes.Size.{nodes_of}
 use Rattle.source_front.specs.Typed.{IsTyped}
 use Rattle.source_front.proofs.Refusals.{typed_unrefused}
 use Rattle.server_answers.specs.Runs.{IsRight}

@@ -10,7 +10,7 @@ use Rattle.fr_plain.specs.Resolve.{program}
 use Rattle.journal.specs.declared.order.OrderLine.{OrderLine}
 use Rattle.fr_typing.specs.Kinds.{own, unit}
 use Rattle.gen_load.specs.Programs.{program_text}
-use Rattle.load_law.specs.Laws.{ProgramsAreSources}
+use Rattle.law_plain_generated.specs.Laws.{ProgramsAreSources}
 use Rattle.drust_cli.specs.declared.asked.Asked.{Asked}
 use Rattle.drust_cli.specs.declared.asked.Command.{Command}
 use Rattle.drust_cli.specs.declared.asked.Command.TheVariants.{Run, Replay, Gen, Load}

@@ -6,8 +6,8 @@ use Rattle.std.proofs.lemmas.Bool.{and_parts, leb-true, le-leb}
 use Rattle.fr_base.specs.declared.settings.Options.{Options}
 use Rattle.drust_cli.specs.declared.asked.Asked.{Asked}
 use Rattle.drust_cli.specs.declared.asked.Command.{Command}
-use Rattle.heap_law.specs.Names.{other}
-use Rattle.heap_law.specs.Naming.{between, options_out}
+use Rattle.coherent_memory.specs.Names.{other}
+use Rattle.coherent_memory.specs.Naming.{between, options_out}
 use Rattle.drust_cli.specs.Numbers.{is_number, in_range, number_of}
 use Rattle.drust_cli.specs.Reading.{Given, Text, read, value_of}
 use Rattle.drust_cli.specs.Asked.{◌>>=◌, Values, command_of, names_of, number_or, machine_of, pace_of, options_of, asked_with, with_given, by_command, asked}

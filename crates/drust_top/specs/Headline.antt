@@ -11,7 +11,7 @@ use Rattle.drust_cli.specs.declared.asked.Command.TheVariants.{Run, Replay, Gen,
 use Rattle.drust_cli.specs.Asked.{asked}
 use Rattle.server_answers.specs.Below.drust_run.declared.ran.Ran.{Ran}
 use Rattle.fr_terms.specs.Terms.{Term}
-use Rattle.server_answers.specs.Below.size_law.Size.{nodes_of}
+use Rattle.server_answers.specs.Below.law_length_programs.sizes.Size.{nodes_of}
 use Rattle.source_front.specs.Typed.{IsTyped, limit}
 use Rattle.replay_answers.specs.Answers.{Replayed}
 use Rattle.server_answers.specs.Runs.{IsRight}

@@ -2,7 +2,7 @@
 
 ghost use Rattle.drust_top.specs.OneAnswer.{LoadsRun, OneAnswer, TypedFollows, TypedRuns};
 
-use load_law::programs_are_sources;
+use law_plain_generated::programs_are_sources;
 
 /// Words and an input have one answer at most: its status and its text are determined, but for a run on servers, of which each answer is one. Where the words ask for
 /// a run and the input is the source of a typed program, or where they ask for that of a generated program, it is a run: status 0, 1 or 2. Where they ask for a

@@ -1,7 +1,7 @@
 //! The top call.
 
 ghost use Rattle.std.specs.Prelude.{◌≡◌, ◌≤◌, ℕ, List, Option, Some, None, true, false, ◌⊎◌, map, length, string_bytes, IfOk, IfSome};
-ghost use Rattle.heap_law.specs.Naming.{options_out};
+ghost use Rattle.coherent_memory.specs.Naming.{options_out};
 ghost use Rattle.source_front.specs.Typed.{limit};
 ghost use Rattle.drust_io.specs.Flow.{NothingLeft, Rose};
 ghost use Rattle.drust_cli.specs.declared.asked.Asked.{Asked as AskedThere};
@@ -15,7 +15,7 @@ use drust_cli::{Asked, Command, WordsError, read_words};
 use drust_io::{Gate, ReadError, Sink, Source, read_all, write_all};
 use fr_base::NoMemory;
 use gen_load::generate;
-use load_law::programs_are_sources;
+use law_plain_generated::programs_are_sources;
 use replay_answers::replay_answer;
 use server_answers::{Answer, Ran, load_answer, run_answer};
 use std::alloc::Global;

@@ -6,9 +6,9 @@ use Rattle.fr_base.specs.Rooms.{WithRoom}
 use Rattle.fr_plain.specs.Run.{Capture}
 use Rattle.fr_forms.specs.declared.forms.Captured.{Captured}
 use Rattle.fr_forms.specs.FormTerms.{captures_of}
-use Rattle.table_law.specs.Bare.{full, bare}
-use Rattle.table_law.specs.CodeOf.{slots}
-use Rattle.table_law.proofs.Bare.{bare_join}
+use Rattle.law_plain_table.specs.Bare.{full, bare}
+use Rattle.law_plain_table.specs.CodeOf.{slots}
+use Rattle.law_plain_table.proofs.Bare.{bare_join}
 use Rattle.fr_compile.specs.declared.waiting.Waiting.{Waiting}
 
 -- the slots as an instruction lists them

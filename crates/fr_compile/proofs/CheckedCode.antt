@@ -9,9 +9,9 @@ use Rattle.fr_syntax.specs.Meanings.{term_of}
 use Rattle.borrow_check.specs.Programs.{Program, IsChecked}
 use Rattle.fr_plain.specs.Resolve.{program}
 use Rattle.fr_code.specs.StandsFor.{IsCodeOf}
-use Rattle.table_law.specs.Layout.{IsLaidOut}
-use Rattle.table_law.specs.Tables.{HasTable}
-use Rattle.table_law.proofs.Programs.{programs_have_tables}
+use Rattle.law_plain_table.specs.Layout.{IsLaidOut}
+use Rattle.law_plain_table.specs.Tables.{HasTable}
+use Rattle.law_plain_table.proofs.Programs.{programs_have_tables}
 
 block_tabled : (code : List Instr) (t : Term) → IsBlock t → HasShortPlaces t → IsTyped [] t → IsCodeOf code (program t) → IsLaidOut code → (k : Kind) × HasTable code k
 block_tabled code (block_t at items) b short y is laid = (y.kind, programs_have_tables code at items y.kind y.after short y.types is laid)

@@ -5,9 +5,9 @@ use Rattle.fr_base.specs.declared.instruction.Instr.{Instr}
 use Rattle.fr_base.specs.declared.instruction.Instr.TheVariants as instr
 use Rattle.fr_base.specs.Code.{starting, starting_other, change, change_at}
 use Rattle.fr_plain.specs.Run.{Run}
-use Rattle.table_law.specs.Bare.{bare_of, bare}
-use Rattle.table_law.specs.CodeOf.{Piece, does, starts, starts_two, threads_of, started_by, size, slots, placed}
-use Rattle.table_law.proofs.Generations.{begins, thread_long}
+use Rattle.law_plain_table.specs.Bare.{bare_of, bare}
+use Rattle.law_plain_table.specs.CodeOf.{Piece, does, starts, starts_two, threads_of, started_by, size, slots, placed}
+use Rattle.law_plain_table.proofs.Generations.{begins, thread_long}
 use Rattle.fr_compile.specs.Filling.{later_places, filled, Wait, waits, with_place}
 
 pub filled_long : (ns : List ℕ) (ps : List Piece) → length (filled ns ps) ≡ length ps

@@ -9,7 +9,7 @@ use Rattle.fr_forms.specs.FormTerms.{parts_from, parts_of, term_of}
 use Rattle.fr_syntax.specs.Meanings.{AllBelow}
 use Rattle.fr_forms.proofs.FormLemmas.{at_drop}
 use Rattle.fr_code.specs.StandsFor.{operand_of, operand_of_last}
-use Rattle.table_law.specs.CodeOf.{Piece, given_up, pieces, pieces_in}
+use Rattle.law_plain_table.specs.CodeOf.{Piece, given_up, pieces, pieces_in}
 use Rattle.fr_compile.specs.declared.waiting.Waiting.{Waiting}
 use Rattle.fr_compile.specs.Emitting.{IsAdded, IsEmitted, ArePartsEmitted, IsDiscarded}
 use Rattle.fr_compile.proofs.Rows.{none_added, then_added, discard_added}

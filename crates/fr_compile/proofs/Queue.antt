@@ -4,12 +4,12 @@ use Rattle.std.specs.Prelude.{slice_get}
 use Rattle.std.proofs.lemmas.Option.{slice_get_within}
 use Rattle.fr_base.specs.declared.instruction.Instr.{Instr}
 use Rattle.fr_plain.specs.Run.{Run, steps_left}
-use Rattle.table_law.specs.Bare.{bare}
-use Rattle.table_law.specs.CodeOf.{Piece, thread, threads_of, started_by, size, code_of}
-use Rattle.table_law.proofs.Bare.{bare_long}
-use Rattle.table_law.proofs.CountedPieces.{count, count_is, counted_thread, count_join}
-use Rattle.table_law.proofs.Generations.{begins, thread_long, some_size}
-use Rattle.table_law.proofs.Queued.{threads_join, code_queued}
+use Rattle.law_plain_table.specs.Bare.{bare}
+use Rattle.law_plain_table.specs.CodeOf.{Piece, thread, threads_of, started_by, size, code_of}
+use Rattle.law_plain_table.proofs.Bare.{bare_long}
+use Rattle.law_plain_table.proofs.CountedPieces.{count, count_is, counted_thread, count_join}
+use Rattle.law_plain_table.proofs.Generations.{begins, thread_long, some_size}
+use Rattle.law_plain_table.proofs.Queued.{threads_join, code_queued}
 use Rattle.fr_compile.specs.Filling.{filled, Wait, waits, with_place}
 use Rattle.fr_compile.proofs.Filled.{filled_long, filled_join, all_filled, runs, runs_join, runs_long, run_at, waits_runs, waits_join, Placed, place_more, place_bare, place_long, begins_long, begins_more}
 

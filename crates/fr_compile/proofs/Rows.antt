@@ -11,9 +11,9 @@ use Rattle.fr_plain.specs.Resolve.{dropping}
 use Rattle.fr_forms.specs.declared.forms.Form.{Form}
 use Rattle.fr_forms.specs.FormTerms.{term_of}
 use Rattle.fr_code.specs.StandsFor.{operand_of, borrowing}
-use Rattle.table_law.specs.Bare.{bare_of, bare}
-use Rattle.table_law.specs.CodeOf.{Piece, does, starts, starts_two, given_up, drops, pieces, pieces_in, thread, slots}
-use Rattle.table_law.proofs.Bare.{bare_long, bare_join}
+use Rattle.law_plain_table.specs.Bare.{bare_of, bare}
+use Rattle.law_plain_table.specs.CodeOf.{Piece, does, starts, starts_two, given_up, drops, pieces, pieces_in, thread, slots}
+use Rattle.law_plain_table.proofs.Bare.{bare_long, bare_join}
 use Rattle.fr_compile.specs.declared.waiting.Waiting.{Waiting}
 use Rattle.fr_compile.specs.Filling.{filled, Wait, waits}
 use Rattle.fr_compile.specs.Emitting.{waits_at, wait_of, waits_of, AllInside, IsAdded, IsEmitted, IsDiscarded, drop_slots}

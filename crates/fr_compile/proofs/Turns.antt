@@ -4,8 +4,8 @@ use Rattle.std.specs.Prelude.{slice_get}
 use Rattle.fr_base.specs.declared.instruction.Instr.{Instr}
 use Rattle.fr_plain.specs.Run.{Run, steps_left}
 use Rattle.fr_forms.specs.declared.forms.Form.{Form}
-use Rattle.table_law.specs.Bare.{bare}
-use Rattle.table_law.specs.CodeOf.{thread, code_of}
+use Rattle.law_plain_table.specs.Bare.{bare}
+use Rattle.law_plain_table.specs.CodeOf.{thread, code_of}
 use Rattle.fr_compile.specs.declared.waiting.Waiting.{Waiting}
 use Rattle.fr_compile.specs.Filling.{filled, waits}
 use Rattle.fr_compile.specs.Emitting.{wait_of, waits_of, AllInside, IsAdded, IsPlaced}

@@ -9,8 +9,8 @@ use Rattle.fr_plain.specs.Run.{Run, block, Parts, last}
 use Rattle.fr_forms.specs.declared.forms.Form.{Form}
 use Rattle.fr_forms.specs.FormTerms.{term_of}
 use Rattle.fr_code.specs.StandsFor.{operand_of, operand_of_last}
-use Rattle.table_law.specs.Bare.{bare}
-use Rattle.table_law.specs.CodeOf.{Piece, pieces, pieces_in, thread}
+use Rattle.law_plain_table.specs.Bare.{bare}
+use Rattle.law_plain_table.specs.CodeOf.{Piece, pieces, pieces_in, thread}
 use Rattle.fr_compile.specs.declared.waiting.Waiting.{Waiting}
 use Rattle.fr_compile.specs.Filling.{filled, Wait, waits, with_place}
 

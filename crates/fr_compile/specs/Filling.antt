@@ -4,7 +4,7 @@ use Rattle.fr_base.specs.declared.instruction.Instr.{Instr}
 use Rattle.fr_base.specs.declared.instruction.Instr.TheVariants as instr
 use Rattle.fr_base.specs.Code.{with_body, with_other}
 use Rattle.fr_plain.specs.Run.{Run}
-use Rattle.table_law.specs.CodeOf.{Piece, does, starts, starts_two, slots}
+use Rattle.law_plain_table.specs.CodeOf.{Piece, does, starts, starts_two, slots}
 
 -- the first place of some, or none yet
 abbrev pub next_place : List ℕ → ℕ

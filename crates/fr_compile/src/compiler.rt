@@ -6,10 +6,10 @@ ghost use Rattle.fr_syntax.specs.Meanings.{term_of};
 ghost use Rattle.fr_plain.specs.Resolve.{program};
 ghost use Rattle.fr_plain.specs.Run.{steps_left};
 ghost use Rattle.fr_code.specs.StandsFor.{IsCodeOf};
-ghost use Rattle.table_law.specs.Bare.{bare};
-ghost use Rattle.table_law.specs.CodeOf.{code_of};
-ghost use Rattle.table_law.specs.Layout.{IsLaidOut};
-ghost use Rattle.table_law.specs.Tables.{HasTable};
+ghost use Rattle.law_plain_table.specs.Bare.{bare};
+ghost use Rattle.law_plain_table.specs.CodeOf.{code_of};
+ghost use Rattle.law_plain_table.specs.Layout.{IsLaidOut};
+ghost use Rattle.law_plain_table.specs.Tables.{HasTable};
 
 use crate::threads::emit_threads;
 use borrow_check::Checked;

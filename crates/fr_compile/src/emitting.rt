@@ -6,8 +6,8 @@ ghost use Rattle.fr_base.specs.declared.instruction.Operand.TheVariants as opera
 ghost use Rattle.fr_forms.specs.FormTerms.{term_of, parts_of, captures_of, AreInOrder};
 ghost use Rattle.fr_syntax.specs.Meanings.{AllBelow};
 ghost use Rattle.fr_code.specs.StandsFor.{borrowing};
-ghost use Rattle.table_law.specs.Bare.{bare};
-ghost use Rattle.table_law.specs.CodeOf.{slots};
+ghost use Rattle.law_plain_table.specs.Bare.{bare};
+ghost use Rattle.law_plain_table.specs.CodeOf.{slots};
 ghost use Rattle.fr_compile.specs.Emitting.{waits_at, drop_slots, ArePartsEmitted, IsDiscarded, IsEmitted};
 
 use crate::waiting::Waiting;

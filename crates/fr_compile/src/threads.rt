@@ -3,8 +3,8 @@
 ghost use Rattle.std.specs.Prelude.{◌≡◌, ◌+◌, ◌<◌, ◌^◌, length, OnOk};
 ghost use Rattle.fr_plain.specs.Run.{steps_left};
 ghost use Rattle.fr_forms.specs.FormTerms.{root_of, AreInOrder};
-ghost use Rattle.table_law.specs.Bare.{bare};
-ghost use Rattle.table_law.specs.CodeOf.{code_of};
+ghost use Rattle.law_plain_table.specs.Bare.{bare};
+ghost use Rattle.law_plain_table.specs.CodeOf.{code_of};
 ghost use Rattle.fr_compile.specs.Emitting.{IsPlaced};
 ghost use Rattle.fr_compile.specs.Filling.{with_place};
 

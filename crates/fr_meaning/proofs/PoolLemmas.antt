@@ -11,8 +11,8 @@ use Rattle.fr_terms.specs.Terms as terms
 use Rattle.fr_terms.specs.Terms.{block_t, let_t, assign_t, read_t, borrow_t, borrow_mut_t, number_t, unit_t, box_t, print_t, arith_t, join_t, mutex_t, dup_t, lock_t, spawn_t, par_t, Items, IsBlock}
 use Rattle.fr_typing.specs.Laws.{IsTyped}
 use Rattle.fr_terms.specs.Limits.{HasShortPlaces}
-use Rattle.step_types.specs.TypedTerms.{AreTypedTerms, TermsStepOn}
-use Rattle.step_types.proofs.Programs.{programs_start_typed, typed_terms_step_on}
+use Rattle.law_plain_threads.specs.steps.TypedTerms.{AreTypedTerms, TermsStepOn}
+use Rattle.law_plain_threads.proofs.steps.Programs.{programs_start_typed, typed_terms_step_on}
 use Rattle.fr_forms.specs.declared.forms.Form.{Form}
 use Rattle.fr_forms.specs.FormTerms.{root_of}
 use Rattle.fr_meaning.specs.PoolView.{error_of, refusal, total_left}

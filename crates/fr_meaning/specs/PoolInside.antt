@@ -3,7 +3,7 @@ use Rattle.fr_meaning.specs.declared.pool.Pool.TheInside.{Inside}
 use Rattle.fr_forms.specs.FormTerms.{AreInOrder}
 use Rattle.fr_meaning.specs.Running.{view_of, Stands}
 use Rattle.fr_meaning.specs.PoolView.{View, whole_of}
-use Rattle.step_types.specs.TypedTerms.{AreTypedTerms}
+use Rattle.law_plain_threads.specs.steps.TypedTerms.{AreTypedTerms}
 
 abbrev pub pool_view : Inside → View
 pool_view p = view_of p.forms.items p.running

@@ -4,7 +4,7 @@ ghost use Rattle.std.specs.Prelude.{◌≡◌, ◌<◌, ◌≤◌, ◌+◌, [], 
 ghost use Rattle.fr_syntax.specs.Meanings.{term_of};
 ghost use Rattle.fr_plain.specs.Whole.{start, step, ending_of};
 ghost use Rattle.fr_plain.specs.Resolve.{program};
-ghost use Rattle.step_types.specs.TypedTerms.{AreTypedTerms};
+ghost use Rattle.law_plain_threads.specs.steps.TypedTerms.{AreTypedTerms};
 ghost use Rattle.fr_meaning.specs.declared.error.StepError.{StepError};
 ghost use Rattle.fr_meaning.specs.declared.error.StepError.TheVariants as step_error;
 ghost use Rattle.fr_forms.specs.Depths.{depth};

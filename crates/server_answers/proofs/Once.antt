@@ -10,10 +10,10 @@ use Rattle.journal.specs.View.{EntryView}
 use Rattle.journal.proofs.OneReading.{one_lines}
 use Rattle.journal.proofs.WritingLemmas.{one_text}
 use Rattle.tracer.specs.ReportText.{IsReport, report, summary}
-use Rattle.turns_law.specs.Below.right_law.Below.fr_terms.Terms.{Term}
-use Rattle.turns_law.specs.Below.right_law.Below.drive_model.Ending.{ending, waits, waits_in}
-use Rattle.turns_law.specs.Below.right_law.Below.server_model.Servers.{Server}
-use Rattle.room_law.proofs.Rounds.{runs_one}
+use Rattle.law_length_programs.specs.Below.law_runs_right.Below.fr_terms.Terms.{Term}
+use Rattle.law_length_programs.specs.Below.law_runs_right.Below.drive_model.Ending.{ending, waits, waits_in}
+use Rattle.law_length_programs.specs.Below.law_runs_right.Below.server_model.Servers.{Server}
+use Rattle.law_runs_rounds.proofs.room.Rounds.{runs_one}
 use Rattle.drust_run.specs.declared.ran.Ran.{Ran}
 use Rattle.drust_run.specs.Runs.{ended}
 use Rattle.source_front.specs.Typed.{IsTyped}

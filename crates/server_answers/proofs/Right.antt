@@ -7,18 +7,18 @@ use Rattle.fr_base.specs.declared.step.Ending3.{Ending3}
 use Rattle.fr_base.specs.declared.step.Ending3.TheVariants.{Finished, Deadlocked, Going}
 use Rattle.fr_base.specs.declared.memory.NoMemory.{NoMemory}
 use Rattle.borrow_check.specs.Programs.{Program}
-use Rattle.turns_law.specs.Below.right_law.Below.fr_terms.Terms.{Term}
-use Rattle.turns_law.specs.Below.right_law.Below.drive_model.Ending.{ending, is_going}
-use Rattle.turns_law.specs.Below.right_law.Below.heap_law.Naming.{options_out}
-use Rattle.turns_law.specs.Below.right_law.Right.{RunsInRoundsAreRight}
-use Rattle.turns_law.specs.Below.right_law.Right as run_law
+use Rattle.law_length_programs.specs.Below.law_runs_right.Below.fr_terms.Terms.{Term}
+use Rattle.law_length_programs.specs.Below.law_runs_right.Below.drive_model.Ending.{ending, is_going}
+use Rattle.law_length_programs.specs.Below.law_runs_right.Below.coherent_memory.Naming.{options_out}
+use Rattle.law_length_programs.specs.Below.law_runs_right.right.Right.{RunsInRoundsAreRight}
+use Rattle.law_length_programs.specs.Below.law_runs_right.right.Right as run_law
 use Rattle.drust_run.specs.declared.ran.Ran.{Ran}
 use Rattle.drust_run.specs.Runs.{ended}
 use Rattle.drust_run.specs.Runs as left
 use Rattle.source_front.specs.Below.fr_syntax.Meanings.{term_of}
 use Rattle.source_front.specs.Typed.{IsTyped}
-use Rattle.turns_law.specs.Below.order_law.Sources.{ProgramsHaveBlocks}
-use Rattle.turns_law.specs.Turns.{RunsInRoundsComeToAnEnd}
+use Rattle.law_length_programs.specs.orders.Sources.{ProgramsHaveBlocks}
+use Rattle.law_length_programs.specs.turns.Turns.{RunsInRoundsComeToAnEnd}
 use Rattle.server_answers.specs.Runs.{IsRunOf, IsRight}
 
 -- what a run leaves is the run of its program

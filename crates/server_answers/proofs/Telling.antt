@@ -3,7 +3,7 @@ use Rattle.std.proofs.Common.{◌≡◌, ℕ, List, Option, Some, None, sym, sub
 use Rattle.std.specs.Prelude.{Result, Ok, Err, IfOk}
 use Rattle.fr_base.specs.declared.settings.Options.{Options}
 use Rattle.fr_base.specs.declared.memory.NoMemory.{NoMemory as WantOfMemory}
-use Rattle.turns_law.specs.Below.right_law.Below.fr_terms.Terms.{Term}
+use Rattle.law_length_programs.specs.Below.law_runs_right.Below.fr_terms.Terms.{Term}
 use Rattle.drust_run.specs.declared.ran.Ran.{Ran}
 use Rattle.source_front.specs.declared.refused.Refused.{Refused}
 use Rattle.source_front.specs.Refusals.{HasCause, IsRefusedBy, status_of as status_of_refusal, text_of}

@@ -3,9 +3,9 @@ use Rattle.std.specs.Prelude.{◌≡◌, ℕ, List, [], ◌++◌, Bool, true, fa
 use Rattle.fr_base.specs.declared.settings.Options.{Options}
 use Rattle.fr_base.specs.declared.step.Ending.{Ending}
 use Rattle.fr_base.specs.declared.step.Ending.TheVariants as ending
-use Rattle.turns_law.specs.Below.right_law.Below.fr_terms.Terms.{Term}
-use Rattle.turns_law.specs.Below.right_law.Below.journal.View.{EntryView}
-use Rattle.turns_law.specs.Below.right_law.Below.drive_model.Ending.{waits}
+use Rattle.law_length_programs.specs.Below.law_runs_right.Below.fr_terms.Terms.{Term}
+use Rattle.law_length_programs.specs.Below.law_runs_right.Below.journal.View.{EntryView}
+use Rattle.law_length_programs.specs.Below.law_runs_right.Below.drive_model.Ending.{waits}
 use Rattle.tracer.specs.ReportText.{IsReport, summary}
 use Rattle.tracer.specs.TraceText.{trace}
 use Rattle.drust_run.specs.declared.ran.Ran.{Ran}

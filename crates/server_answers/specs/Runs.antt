@@ -2,14 +2,14 @@
 use Rattle.std.specs.Prelude.{◌≡◌, ◌≢◌, ◌≤◌, ℕ, ◌+◌, ◌*◌, List, Some}
 use Rattle.fr_base.specs.declared.instruction.Instr.{Instr}
 use Rattle.fr_base.specs.declared.settings.Options.{Options}
-use Rattle.turns_law.specs.Below.right_law.Below.fr_terms.Terms.{Term}
-use Rattle.turns_law.specs.Below.right_law.Below.fr_plain.Resolve.{program}
-use Rattle.turns_law.specs.Below.right_law.Below.table_law.Bare.{bare}
-use Rattle.turns_law.specs.Below.right_law.Below.table_law.CodeOf.{code_of}
-use Rattle.turns_law.specs.Below.right_law.Below.drive_model.Ending.{ending}
-use Rattle.turns_law.specs.Below.right_law.Below.drive_model.Rounds.{Run, rounds}
-use Rattle.turns_law.specs.Below.right_law.Right.{IsRight as IsRightRun}
-use Rattle.turns_law.specs.Below.size_law.Size.{nodes_of}
+use Rattle.law_length_programs.specs.Below.law_runs_right.Below.fr_terms.Terms.{Term}
+use Rattle.law_length_programs.specs.Below.law_runs_right.Below.fr_plain.Resolve.{program}
+use Rattle.law_length_programs.specs.Below.law_runs_right.Below.law_plain_table.Bare.{bare}
+use Rattle.law_length_programs.specs.Below.law_runs_right.Below.law_plain_table.CodeOf.{code_of}
+use Rattle.law_length_programs.specs.Below.law_runs_right.Below.drive_model.Ending.{ending}
+use Rattle.law_length_programs.specs.Below.law_runs_right.Below.drive_model.Rounds.{Run, rounds}
+use Rattle.law_length_programs.specs.Below.law_runs_right.right.Right.{IsRight as IsRightRun}
+use Rattle.law_length_programs.specs.sizes.Size.{nodes_of}
 use Rattle.fr_base.specs.declared.step.Ending.TheVariants as end
 use Rattle.drust_run.specs.declared.ran.Ran.{Ran}
 use Rattle.drust_run.specs.Runs.{ended}

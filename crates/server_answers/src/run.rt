@@ -3,7 +3,7 @@
 ghost use Rattle.std.specs.Prelude.{◌≡◌, ◌≤◌, ℕ, List, Some, IfOk, IfSome, length, string_bytes};
 ghost use Rattle.source_front.specs.Below.fr_syntax.Meanings.{term_of};
 ghost use Rattle.gen_load.specs.Programs.{program_text};
-ghost use Rattle.turns_law.specs.Below.right_law.Below.heap_law.Naming.{options_out};
+ghost use Rattle.law_length_programs.specs.Below.law_runs_right.Below.coherent_memory.Naming.{options_out};
 ghost use Rattle.source_front.specs.Typed.{IsTyped, limit};
 ghost use Rattle.server_answers.specs.Runs.{IsRunOf, IsRight};
 ghost use Rattle.server_answers.specs.Answers.{Answers, IsReply, IsReportOf, IsSummaryOf, Refuses, Tells, status_of};
@@ -14,13 +14,13 @@ use drust_io::Gate;
 use drust_run::{Ran, run_rounds};
 use fr_base::{Ending, NoMemory, Options};
 use gen_load::generate;
-use load_law::programs_are_sources;
+use law_plain_generated::programs_are_sources;
 use source_front::{Refused, checked_source};
 use std::alloc::Global;
 use std::sync::Arc;
 use std::thread::Threads;
 use tracer::{report_text, summary_text, trace_text};
-use turns_law::{programs_have_blocks, runs_in_rounds_are_right, runs_in_rounds_come_to_an_end};
+use law_length_programs::{programs_have_blocks, runs_in_rounds_are_right, runs_in_rounds_come_to_an_end};
 
 // The status of a run that ended so.
 fn status_of(ending: Ending) -> u8

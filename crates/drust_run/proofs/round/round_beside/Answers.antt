@@ -5,7 +5,7 @@ use Rattle.std.specs.List.{AllByRecursion}
 use Rattle.journal.specs.Journals.{NamesItsThread}
 use Rattle.server_model.specs.Servers.{Cluster}
 use Rattle.cluster_core.specs.Views.{states, code_in, options_in, events_in, AreServersOf}
-use Rattle.rounds_law.specs.UnderWay.{IsUnderWay}
+use Rattle.law_runs_rounds.specs.rounds.UnderWay.{IsUnderWay}
 use Rattle.drust_run.specs.Drives.{run_of}
 use Rattle.fr_base.specs.declared.settings.Options.{Options}
 use Rattle.drust_run.specs.Desks.{EachIsReady, WorkEach, NoneLacks, servers_at, choices_at, entries_at}

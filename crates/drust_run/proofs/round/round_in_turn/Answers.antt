@@ -4,7 +4,7 @@ use Rattle.std.specs.Arc.{arc_value}
 use Rattle.journal.specs.Journals.{NamesItsThread}
 use Rattle.server_model.specs.Servers.{Cluster}
 use Rattle.cluster_core.specs.Views.{states, code_in, options_in, events_in, AreServersOf}
-use Rattle.rounds_law.specs.UnderWay.{IsUnderWay}
+use Rattle.law_runs_rounds.specs.rounds.UnderWay.{IsUnderWay}
 use Rattle.drust_run.specs.Drives.{run_of}
 use Rattle.drust_run.specs.Turns.{TakeTurns, CanTakeTurns}
 use Rattle.drust_run.proofs.RoundLemmas.{written_back, turns_ready, turned}

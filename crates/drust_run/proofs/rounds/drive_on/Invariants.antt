@@ -1,6 +1,6 @@
 use Rattle.std.proofs.Common.{◌≡◌, ◌≤◌, ◌+◌, ◌-◌, length}
 use Rattle.cluster_core.specs.Views.{events_in}
-use Rattle.rounds_law.specs.UnderWay.{IsUnderWay}
+use Rattle.law_runs_rounds.specs.rounds.UnderWay.{IsUnderWay}
 use Rattle.drive_model.specs.Rounds.{rounds_from}
 use Rattle.drust_run.specs.Drives.{run_of}
 use Rattle.drust_run.proofs.rounds.drive_on.Given as goal

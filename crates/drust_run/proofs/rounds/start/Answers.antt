@@ -1,6 +1,6 @@
 use Rattle.std.proofs.Common.{length, sym, ap, subst, ◌∙◌}
 use Rattle.server_model.specs.Servers.{Cluster}
-use Rattle.rounds_law.specs.UnderWay.{IsUnderWay}
+use Rattle.law_runs_rounds.specs.rounds.UnderWay.{IsUnderWay}
 use Rattle.cluster_core.specs.Views.{events_in}
 use Rattle.drust_run.proofs.StartLemmas.{start_counts, start_is}
 use Rattle.drust_run.proofs.rounds.start.Goals as goal

@@ -1,6 +1,6 @@
 use Rattle.std.proofs.Common.{rules, ◌≡◌, ◌∙◌, ◌-◌, [], length, sym, ap, subst}
 use Rattle.std.specs.Prelude.{min}
-use Rattle.rounds_law.specs.Working.{CanWork}
+use Rattle.law_runs_rounds.specs.rounds.Working.{CanWork}
 use Rattle.drust_run.specs.Turns.{most_in_turn}
 use Rattle.drust_run.proofs.turns.take_turn.Goals as goal
 

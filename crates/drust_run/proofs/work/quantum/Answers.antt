@@ -3,7 +3,7 @@ use Rattle.std.specs.Prelude.{option_map}
 use Rattle.server_model.specs.Events.{does}
 use Rattle.drive_model.specs.Choice.{next}
 use Rattle.drive_model.specs.Rounds.{work}
-use Rattle.rounds_law.specs.Working.{CanWork}
+use Rattle.law_runs_rounds.specs.rounds.Working.{CanWork}
 use Rattle.drust_run.specs.Turns.{with_before}
 use Rattle.drust_run.proofs.EventLemmas.{counted}
 use Rattle.drust_run.proofs.WorkLemmas.{one_before, nothing_after, work_first, work_none, next_can}

@@ -1,7 +1,7 @@
 use Rattle.std.proofs.Common.{◌≡◌, ◌≤◌, ◌-◌}
 use Rattle.std.specs.Prelude.{option_map}
 use Rattle.drive_model.specs.Rounds.{work}
-use Rattle.rounds_law.specs.Working.{CanWork}
+use Rattle.law_runs_rounds.specs.rounds.Working.{CanWork}
 use Rattle.drust_run.specs.Turns.{with_before}
 use Rattle.drust_run.proofs.work.quantum.Given as goal
 

@@ -4,9 +4,9 @@ use Rattle.fr_plain.specs.Run.{Run, steps_left}
 use Rattle.fr_syntax.specs.Meanings.{term_of}
 use Rattle.fr_forms.specs.declared.forms.Form.{Form}
 use Rattle.fr_forms.specs.FormTerms.{root_of}
-use Rattle.table_law.specs.CodeOf.{code_of}
-use Rattle.table_law.proofs.Generations.{its_code}
-use Rattle.table_law.proofs.SourceTerms.{resolve_source}
+use Rattle.law_plain_table.specs.CodeOf.{code_of}
+use Rattle.law_plain_table.proofs.Generations.{its_code}
+use Rattle.law_plain_table.proofs.SourceTerms.{resolve_source}
 use Rattle.fr_compile.proofs.CheckedCode.{checked_tabled}
 use Rattle.fr_compile.proofs.Few.{program_few}
 use Rattle.fr_compile.proofs.compiler.compile.Goals as goal

@@ -7,8 +7,8 @@ use Rattle.fr_forms.specs.declared.forms.Captured.{Captured}
 use Rattle.fr_forms.specs.FormTerms.{term_of, parts_of, captures_of}
 use Rattle.fr_syntax.specs.Meanings.{AllBelow}
 use Rattle.fr_forms.proofs.FormLemmas.{form_term, form_below, pair_seen, all_dropped}
-use Rattle.table_law.specs.Bare.{bare}
-use Rattle.table_law.specs.CodeOf.{slots}
+use Rattle.law_plain_table.specs.Bare.{bare}
+use Rattle.law_plain_table.specs.CodeOf.{slots}
 use Rattle.fr_compile.specs.Emitting.{IsEmitted, ArePartsEmitted}
 use Rattle.fr_compile.proofs.Rows.{none_added, one_added, unary_added, binary_added, borrow_added, lock_emitted, block_emitted, spawn_added, par_added}
 use Rattle.fr_compile.proofs.Forms.{on_added, on_both, Leads, leads_first, leads_on, leads_all, item_lower}

@@ -4,7 +4,7 @@ use Rattle.fr_forms.specs.FormTerms.{term_of}
 use Rattle.fr_compile.specs.Emitting.{IsAdded, IsPlaced, wait_of}
 use Rattle.fr_compile.proofs.Rows.{thread_added}
 use Rattle.fr_compile.proofs.Forms.{on_ok}
-use Rattle.table_law.specs.CodeOf.{thread}
+use Rattle.law_plain_table.specs.CodeOf.{thread}
 use Rattle.fr_compile.proofs.threads.emit_body.Goals as goal
 
 pub returns : goal.returns

@@ -1,6 +1,6 @@
 use Rattle.std.proofs.Common.{◌<◌, sym, ap, subst, arith}
 use Rattle.std.specs.Arc.{arc_value}
-use Rattle.type_law.specs.ClusterTypes.{IsCoherent}
+use Rattle.coherent_types.specs.ClusterTypes.{IsCoherent}
 use Rattle.cluster_core.specs.Views.{cluster_of, events_in, states}
 use Rattle.call_tests.proofs.ReadyLemmas.{are_ready}
 use Rattle.call_tests.proofs.run.Run.by_hand.Goals as goal

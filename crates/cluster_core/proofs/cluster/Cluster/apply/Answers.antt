@@ -1,11 +1,11 @@
 use Rattle.std.proofs.Common.{◌≡◌, ◌<◌, true, false, slice_get, sym, ap, subst, ◌∙◌, arith}
 use Rattle.std.specs.Arc.{arc_value}
-use Rattle.type_law.specs.ClusterTypes.{IsCoherent}
+use Rattle.coherent_types.specs.ClusterTypes.{IsCoherent}
 use Rattle.journal.specs.View.{EntryView}
 use Rattle.server_model.specs.Servers.{Cluster}
 use Rattle.server_model.specs.Clusters.{apply}
-use Rattle.event_law.proofs.Results.{given_by}
-use Rattle.limit_law.proofs.Counts.{few_are_few}
+use Rattle.law_counts_sums.proofs.Results.{given_by}
+use Rattle.law_counts_limits.proofs.limits.Counts.{few_are_few}
 use Rattle.cluster_core.specs.Views.{ClusterView, AreServersOf, cluster_of, states, events_in}
 use Rattle.cluster_core.specs.Handing.{NoneSent}
 use Rattle.cluster_core.specs.Enabled.{is_enabled}

@@ -3,10 +3,10 @@ use Rattle.std.specs.Arc.{arc_value}
 use Rattle.fr_syntax.specs.Meanings.{term_of}
 use Rattle.fr_typing.specs.Kinds.{Kind}
 use Rattle.fr_plain.specs.Resolve.{program}
-use Rattle.table_law.specs.Bare.{bare}
-use Rattle.table_law.specs.CodeOf.{code_of}
-use Rattle.table_law.specs.Tables.{HasTable}
-use Rattle.type_law.specs.ClusterTypes.{IsCoherent}
+use Rattle.law_plain_table.specs.Bare.{bare}
+use Rattle.law_plain_table.specs.CodeOf.{code_of}
+use Rattle.law_plain_table.specs.Tables.{HasTable}
+use Rattle.coherent_types.specs.ClusterTypes.{IsCoherent}
 use Rattle.cluster_core.specs.Handing.{NoneSent}
 use Rattle.cluster_core.proofs.StartLemmas.{starts, start_sent}
 use Rattle.cluster_core.proofs.cluster.Cluster.new.Goals as goal

@@ -4,7 +4,7 @@ use Rattle.std.specs.Prelude.{IsSome, IfOk, OnOk, OnErr}
 use Rattle.fr_base.specs.Rooms.{WithRoom}
 use Rattle.fr_base.specs.declared.label.Label.{Label}
 use Rattle.fr_plain.specs.Whole.{Whole, step}
-use Rattle.step_types.specs.TypedTerms.{AreTypedTerms}
+use Rattle.law_plain_threads.specs.steps.TypedTerms.{AreTypedTerms}
 use Rattle.fr_forms.specs.declared.forms.Form.{Form}
 use Rattle.fr_meaning.specs.Beside.{beside_of}
 use Rattle.fr_meaning.specs.PoolView.{whole_of, total_left, refusal}

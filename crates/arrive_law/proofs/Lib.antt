@@ -1,4 +1,0 @@
-pub mod Below
-pub mod Lists
-pub mod Arrived
-pub mod Awaited

@@ -1,5 +1,0 @@
-use Rattle.ask_law.proofs.laws.undone_keeps.Goals as goal
-use Rattle.ask_law.proofs.Undone.{phases_undone, gifts_undone}
-
-pub returns : goal.returns
-returns c = record { phases_stand = phases_undone; gifts_fit = gifts_undone }

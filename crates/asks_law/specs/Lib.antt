@@ -1,6 +1,0 @@
-pub mod Below
-pub mod Resting
-pub mod Asking
-pub mod Starting
-pub mod Code
-pub mod Short

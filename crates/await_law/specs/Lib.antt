@@ -1,6 +1,0 @@
-pub mod Below
-pub mod WriteArrivals
-pub mod ReadArrivals
-pub mod TakenUp
-pub mod BorrowArrivals
-pub mod EndArrivals

@@ -1,4 +1,0 @@
--- What this law stands on, passed on to the laws above it, which need not list that then.
-pub use Rattle.fresh_law.specs.Below.clean_law as clean_law
-pub use Rattle.fresh_law.specs as fresh_law
-pub use Rattle.fresh_law.specs.Below.refs_law as refs_law

@@ -1,5 +1,0 @@
-pub mod Below
-pub mod Carried
-pub mod Steps
-pub mod Leaving
-pub mod Made

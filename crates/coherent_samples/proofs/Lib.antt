@@ -1,0 +1,2 @@
+pub mod ChosenRuns
+pub mod ChosenEndRuns

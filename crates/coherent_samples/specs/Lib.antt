@@ -1,0 +1,9 @@
+pub mod Sound
+pub mod Broken
+pub mod BrokenRest
+pub mod Along
+pub mod OneHeapRuns
+pub mod LeftRuns
+pub mod Chosen
+pub mod ChosenEnds
+pub mod OneEvent

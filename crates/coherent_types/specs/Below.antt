@@ -1,0 +1,23 @@
+-- What this law stands on, passed on to the laws above it, which need not list that then.
+pub use Rattle.coherent_memory.specs.Below.coloured_heap as coloured_heap
+pub use Rattle.coherent_memory.specs.Below.fr_base as fr_base
+pub use Rattle.coherent_memory.specs.Below.fr_code as fr_code
+pub use Rattle.coherent_memory.specs.Below.fr_plain as fr_plain
+pub use Rattle.coherent_memory.specs.Below.fr_sound as fr_sound
+pub use Rattle.coherent_memory.specs.Below.fr_store as fr_store
+pub use Rattle.coherent_memory.specs.Below.fr_terms as fr_terms
+pub use Rattle.coherent_memory.specs.Below.fr_typing as fr_typing
+pub use Rattle.coherent_memory.specs.Below.global_addr as global_addr
+pub use Rattle.coherent_memory.specs as coherent_memory
+pub use Rattle.sample_clusters.specs as sample_clusters
+pub use Rattle.coherent_memory.specs.Below.heap_partition as heap_partition
+pub use Rattle.coherent_memory.specs.Below.join_home as join_home
+pub use Rattle.coherent_memory.specs.Below.journal as journal
+pub use Rattle.coherent_memory.specs.Below.migration as migration
+pub use Rattle.coherent_memory.specs.Below.mut_borrow as mut_borrow
+pub use Rattle.coherent_memory.specs.Below.mutex_home as mutex_home
+pub use Rattle.coherent_memory.specs.Below.owner_box as owner_box
+pub use Rattle.coherent_memory.specs.Below.read_cache as read_cache
+pub use Rattle.coherent_memory.specs.Below.server_model as server_model
+pub use Rattle.coherent_memory.specs.Below.server_msgs as server_msgs
+pub use Rattle.coherent_memory.specs.Below.thread_state as thread_state

@@ -1,5 +1,0 @@
-pub mod Below
-pub mod Comes
-pub mod Clean
-pub mod Served
-pub mod KeptCopies

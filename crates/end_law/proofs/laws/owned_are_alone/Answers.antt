@@ -1,9 +1,0 @@
-use Rattle.end_law.proofs.laws.owned_are_alone.Goals as goal
-use Rattle.end_law.proofs.Given.{given_up_may_be}
-use Rattle.end_law.proofs.Owned.{owned_are_alone}
-
-pub returns-clause-alone : goal.returns-clause-alone
-returns-clause-alone c = owned_are_alone
-
-pub returns-clause-given : goal.returns-clause-given
-returns-clause-given c = given_up_may_be

@@ -1,6 +1,0 @@
-pub mod Below
-pub mod Ending
-pub mod Dropped
-pub mod Example
-pub mod Lying
-pub mod Objects

@@ -1,4 +1,0 @@
--- What this law stands on, passed on to the laws above it, which need not list that then.
-pub use Rattle.event_law.proofs as event_law
-pub use Rattle.event_law.proofs.Below.fr_typing as fr_typing
-pub use Rattle.event_law.proofs.Below.heap_law as heap_law

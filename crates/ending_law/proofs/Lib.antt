@@ -1,7 +1,0 @@
-pub mod Below
-pub mod Weighing
-pub mod Servers
-pub mod Going
-pub mod Bare
-pub mod Owners
-pub mod Left

@@ -1,5 +1,0 @@
-use Rattle.event_law.proofs.parts.sound_names.Goals as goal
-use Rattle.event_law.proofs.Askers.{issued_there, home_there, mutex_there, stands_there}
-
-pub returns : goal.returns
-returns c = λ k s. record { words = issued_there k s; threads = home_there k s; mutexes = mutex_there k s; askers = stands_there k s }

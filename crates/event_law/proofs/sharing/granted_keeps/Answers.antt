@@ -1,6 +1,0 @@
-use Rattle.event_law.proofs.sharing.granted_keeps.Goals as goal
-use Rattle.event_law.specs.Kinds.{granted}
-use Rattle.event_law.proofs.AllKinds.{home_leaves, owner_leaves, states_leave, users_leave, shares_leave, tasks_leave, threads_leave, servers_leave}
-
-pub returns : goal.returns
-returns c = record { home = home_leaves granted tt; owner = owner_leaves granted tt; states = states_leave granted tt; users = users_leave granted tt; shares = shares_leave granted tt; tasks = tasks_leave granted tt; threads = threads_leave granted tt; servers = servers_leave granted tt }

@@ -1,6 +1,0 @@
-pub mod Kinds
-pub mod Arrivals
-pub mod Lent
-pub mod Standing
-pub mod Below
-pub mod Issued

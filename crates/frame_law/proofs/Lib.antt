@@ -1,6 +1,0 @@
-pub mod Below
-pub mod Bare
-pub mod Twins
-pub mod Leading
-pub mod Viewing
-pub mod Undone

@@ -1,5 +1,0 @@
-pub mod Going
-pub mod Lists
-pub mod Unled
-pub mod Drops
-pub mod Below

@@ -1,3 +1,0 @@
--- What this law stands on, passed on to the laws above it, which need not list that then.
-pub use Rattle.run_law.proofs.Below.code_meaning as code_meaning
-pub use Rattle.run_law.proofs as run_law

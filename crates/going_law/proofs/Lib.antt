@@ -1,3 +1,0 @@
-pub mod Below
-pub mod Outboxes
-pub mod Going

@@ -1,5 +1,0 @@
-use Rattle.std.proofs.Common.{refl}
-use Rattle.heap_law.proofs.laws.one_event_keeps.Goals as goal
-
-pub returns : goal.returns
-returns c = record { middle_keeps = refl; busy_keeps = refl; relent_keeps = refl; ends_dirty_keeps = refl; older_stays = refl; pair_shown = refl }

@@ -1,9 +1,0 @@
-use Rattle.heap_law.proofs.laws.sums_stay.Goals as goal
-use Rattle.heap_law.proofs.Sums.{hand_over_law}
-use Rattle.heap_law.proofs.Starts.{start_law}
-
-pub returns-clause-handed : goal.returns-clause-handed
-returns-clause-handed c = hand_over_law
-
-pub returns-clause-starts : goal.returns-clause-starts
-returns-clause-starts c = start_law

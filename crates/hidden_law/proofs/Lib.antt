@@ -1,6 +1,0 @@
-pub mod Under
-pub mod Settled
-pub mod Handed
-pub mod Reworded
-pub mod EndMarks
-pub mod Below

@@ -1,0 +1,4 @@
+pub mod Comes
+pub mod Clean
+pub mod Served
+pub mod KeptCopies

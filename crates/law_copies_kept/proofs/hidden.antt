@@ -1,0 +1,5 @@
+pub mod Under
+pub mod Settled
+pub mod Handed
+pub mod Reworded
+pub mod EndMarks

@@ -1,0 +1,14 @@
+pub mod Changed
+pub mod Asked
+pub mod Kept
+pub mod References
+pub mod ReferenceCopies
+pub mod ReadHands
+pub mod ReadCommits
+pub mod ReadAsks
+pub mod CleanReads
+pub mod Worded
+pub mod ReadSteps
+pub mod WordedCopies
+pub mod Tinted
+pub mod ReadCopies

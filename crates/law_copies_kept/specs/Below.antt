@@ -1,0 +1,24 @@
+-- What this law stands on, passed on to the laws above it, which need not list that then.
+pub use Rattle.law_words_borrows.specs.Below.law_words_kept as law_words_kept
+pub use Rattle.law_words_borrows.specs.Below.law_words_paths as law_words_paths
+pub use Rattle.law_words_borrows.specs.Below.law_results_reads.Below.colour_retire as colour_retire
+pub use Rattle.law_words_borrows.specs.Below.law_counts_sums as law_counts_sums
+pub use Rattle.law_words_borrows.specs.Below.fr_base as fr_base
+pub use Rattle.law_words_borrows.specs.Below.fr_code as fr_code
+pub use Rattle.law_words_borrows.specs.Below.fr_store as fr_store
+pub use Rattle.law_words_borrows.specs.Below.global_addr as global_addr
+pub use Rattle.law_words_borrows.specs.Below.coherent_memory as coherent_memory
+pub use Rattle.law_words_borrows.specs.Below.heap_partition as heap_partition
+pub use Rattle.law_words_borrows.specs.Below.journal as journal
+pub use Rattle.law_words_borrows.specs.Below.law_results_reads.Below.migration as migration
+pub use Rattle.law_words_borrows.specs.Below.mut_borrow as mut_borrow
+pub use Rattle.law_words_borrows.specs.Below.owner_box as owner_box
+pub use Rattle.law_words_borrows.specs.Below.law_results_reads.Below.place_walk as place_walk
+pub use Rattle.law_words_borrows.specs.Below.law_results_reads.Below.read_cache as read_cache
+pub use Rattle.law_words_borrows.specs.Below.law_words_values as law_words_values
+pub use Rattle.law_words_borrows.specs.Below.server_model as server_model
+pub use Rattle.law_words_borrows.specs.Below.server_msgs as server_msgs
+pub use Rattle.law_words_borrows.specs.Below.thread_state as thread_state
+pub use Rattle.law_words_borrows.specs.Below.coherent_types as coherent_types
+pub use Rattle.law_words_borrows.specs.Below.law_results_reads as law_results_reads
+pub use Rattle.law_words_borrows.specs as law_words_borrows

@@ -1,0 +1,5 @@
+pub mod Below
+pub mod copies
+pub mod references
+pub mod objects
+pub mod hidden

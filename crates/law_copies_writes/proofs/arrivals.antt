@@ -1,0 +1,13 @@
+pub mod Beyond
+pub mod Owners
+pub mod Flying
+pub mod Delivery
+pub mod ReadArrivals
+pub mod Taken
+pub mod BorrowArrivals
+pub mod Behind
+pub mod WriteArrivals
+pub mod SlotEnds
+pub mod HandEnds
+pub mod EndArrivals
+pub mod Arrivals

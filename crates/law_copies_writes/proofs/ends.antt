@@ -1,0 +1,9 @@
+pub mod Cleaning
+pub mod Following
+pub mod Preparing
+pub mod Backs
+pub mod Finishing
+pub mod CellEnded
+pub mod CellFinishing
+pub mod Commits
+pub mod Ends

@@ -1,0 +1,14 @@
+pub mod Hops
+pub mod Walks
+pub mod Routes
+pub mod Settling
+pub mod Doing
+pub mod Marked
+pub mod Others
+pub mod Storing
+pub mod Putting
+pub mod TakenOut
+pub mod Filling
+pub mod Assignments
+pub mod Moves
+pub mod Written

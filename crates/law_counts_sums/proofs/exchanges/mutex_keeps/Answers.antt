@@ -1,0 +1,6 @@
+use Rattle.law_counts_sums.proofs.exchanges.mutex_keeps.Goals as goal
+use Rattle.law_counts_sums.specs.Kinds.{step_mutex}
+use Rattle.law_counts_sums.proofs.AllKinds.{home_leaves, owner_leaves, states_leave, users_leave, shares_leave, tasks_leave, threads_leave, servers_leave}
+
+pub returns : goal.returns
+returns c = record { home = home_leaves step_mutex tt; owner = owner_leaves step_mutex tt; states = states_leave step_mutex tt; users = users_leave step_mutex tt; shares = shares_leave step_mutex tt; tasks = tasks_leave step_mutex tt; threads = threads_leave step_mutex tt; servers = servers_leave step_mutex tt }

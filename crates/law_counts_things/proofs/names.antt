@@ -1,0 +1,16 @@
+pub mod Fit
+pub mod Middle
+pub mod Steps
+pub mod Deliveries
+pub mod Sums
+pub mod Does
+pub mod Split
+pub mod Counts
+pub mod Named
+pub mod Kept
+pub mod Sentences
+pub mod Coded
+pub mod Coherent
+pub mod Stays
+pub mod Askers
+pub mod Objects

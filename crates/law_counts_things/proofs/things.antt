@@ -1,0 +1,15 @@
+pub mod Small
+pub mod Plainly
+pub mod Goes
+pub mod Mail
+pub mod Threads
+pub mod Handed
+pub mod Sentences
+pub mod Messages
+pub mod Routes
+pub mod Rests
+pub mod MutexLists
+pub mod Homes
+pub mod Pairs
+pub mod Bare
+pub mod Queues

@@ -1,0 +1,12 @@
+pub mod Amounts
+pub mod Commits
+pub mod Steps
+pub mod Written
+pub mod Clusters
+pub mod Found
+pub mod Places
+pub mod Waiting
+pub mod Stay
+pub mod Fates
+pub mod Takers
+pub mod Steady

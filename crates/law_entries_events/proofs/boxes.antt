@@ -1,0 +1,13 @@
+pub mod Making
+pub mod NewAddress
+pub mod Absent
+pub mod OneCell
+pub mod Holders
+pub mod Comes
+pub mod Boxes
+pub mod InSlots
+pub mod Reworded
+pub mod Renewal
+pub mod Ended
+pub mod DirtyShares
+pub mod Borrows

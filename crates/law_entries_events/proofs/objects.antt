@@ -1,0 +1,14 @@
+pub mod Acts
+pub mod Owned
+pub mod Gifts
+pub mod Delivered
+pub mod Leaving
+pub mod Frees
+pub mod Goes
+pub mod Putting
+pub mod Landing
+pub mod PointerWords
+pub mod Words
+pub mod Takes
+pub mod Comes
+pub mod Onward

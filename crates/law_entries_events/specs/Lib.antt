@@ -1,0 +1,4 @@
+pub mod Below
+pub mod boxes
+pub mod objects
+pub mod events

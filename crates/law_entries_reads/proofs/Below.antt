@@ -1,0 +1,5 @@
+-- What this law stands on, passed on to the laws above it, which need not list that then.
+pub use Rattle.law_copies_kept.proofs.Below.law_words_borrows as law_words_borrows
+pub use Rattle.law_copies_kept.proofs.Below.law_words_values as law_words_values
+pub use Rattle.law_entries_variables.proofs as law_entries_variables
+pub use Rattle.law_copies_kept.proofs as law_copies_kept

@@ -1,0 +1,15 @@
+pub mod Recoloured
+pub mod NextColour
+pub mod Uncached
+pub mod Frames
+pub mod Agreeing
+pub mod Requests
+pub mod Pointed
+pub mod KeptRest
+pub mod ReadWalk
+pub mod GivenMutex
+pub mod Ending
+pub mod ReadRequests
+pub mod ReadKinds
+pub mod BorrowKinds
+pub mod Continuing

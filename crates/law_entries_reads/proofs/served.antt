@@ -1,0 +1,11 @@
+pub mod Acts
+pub mod Kept
+pub mod Wanted
+pub mod Beside
+pub mod Lying
+pub mod Serves
+pub mod Fills
+pub mod Gives
+pub mod CoherentLegal
+pub mod ServedKinds
+pub mod Continuing

@@ -1,0 +1,4 @@
+pub mod Below
+pub mod deliveries
+pub mod still
+pub mod variables

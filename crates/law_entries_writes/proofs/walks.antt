@@ -1,0 +1,9 @@
+pub mod Weights
+pub mod Acts
+pub mod Partitions
+pub mod Given
+pub mod Hops
+pub mod Boxes
+pub mod Walks
+pub mod Ways
+pub mod Running

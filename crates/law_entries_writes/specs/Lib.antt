@@ -1,0 +1,5 @@
+pub mod Below
+pub mod walks
+pub mod asks
+pub mod stores
+pub mod ends

@@ -1,0 +1,14 @@
+pub mod Parts
+pub mod OneTurn
+pub mod PlainTurn
+pub mod Instructions
+pub mod SlotReads
+pub mod Within
+pub mod Events
+pub mod ReadWalk
+pub mod PlainReads
+pub mod StarSteps
+pub mod StarLines
+pub mod BorrowLines
+pub mod DropLines
+pub mod Clauses

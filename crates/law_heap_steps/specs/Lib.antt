@@ -1,0 +1,4 @@
+pub mod Below
+pub mod turns
+pub mod mutexes
+pub mod threads

@@ -1,0 +1,17 @@
+pub mod CellApart
+pub mod CellChange
+pub mod CellMoves
+pub mod PlainCells
+pub mod Following
+pub mod Untouched
+pub mod Readies
+pub mod Seen
+pub mod MoveLines
+pub mod Chains
+pub mod CellOthers
+pub mod GivenUp
+pub mod AssignCells
+pub mod AssignSlots
+pub mod AssignLines
+pub mod Clauses
+pub mod Every

@@ -1,0 +1,26 @@
+-- What this law stands on, passed on to the laws above it, which need not list that then.
+pub use Rattle.law_words_writes.specs.Below.law_words_asked as law_words_asked
+pub use Rattle.law_words_writes.specs.Below.law_results_reads.Below.law_counts_sums as law_counts_sums
+pub use Rattle.law_words_writes.specs.Below.law_results_reads.Below.fr_base as fr_base
+pub use Rattle.law_words_writes.specs.Below.law_results_reads.Below.fr_code as fr_code
+pub use Rattle.law_words_writes.specs.Below.law_results_reads.Below.fr_plain as fr_plain
+pub use Rattle.law_words_writes.specs.Below.law_results_reads.Below.fr_sound as fr_sound
+pub use Rattle.law_words_writes.specs.Below.law_results_reads.Below.fr_store as fr_store
+pub use Rattle.law_words_writes.specs.Below.law_results_reads.Below.fr_typing as fr_typing
+pub use Rattle.law_words_writes.specs.Below.law_results_reads.Below.global_addr as global_addr
+pub use Rattle.law_words_writes.specs.Below.law_results_reads.Below.coherent_memory as coherent_memory
+pub use Rattle.law_words_writes.specs.Below.law_results_reads.Below.heap_partition as heap_partition
+pub use Rattle.law_words_writes.specs.Below.law_results_reads.Below.journal as journal
+pub use Rattle.law_words_writes.specs.Below.law_results_reads.Below.migration as migration
+pub use Rattle.law_words_writes.specs.Below.law_results_reads.Below.mut_borrow as mut_borrow
+pub use Rattle.law_words_writes.specs.Below.law_results_reads.Below.owner_box as owner_box
+pub use Rattle.law_words_writes.specs.Below.law_words_paths as law_words_paths
+pub use Rattle.law_words_writes.specs.Below.law_results_reads.Below.place_walk as place_walk
+pub use Rattle.law_words_writes.specs.Below.law_results_reads.Below.read_cache as read_cache
+pub use Rattle.law_words_writes.specs.Below.law_results_reads.Below.server_model as server_model
+pub use Rattle.law_words_writes.specs.Below.law_results_reads.Below.server_msgs as server_msgs
+pub use Rattle.law_words_writes.specs.Below.law_results_reads.Below.thread_state as thread_state
+pub use Rattle.law_heap_steps.specs as law_heap_steps
+pub use Rattle.law_words_writes.specs.Below.law_results_reads.Below.coherent_types as coherent_types
+pub use Rattle.law_words_writes.specs.Below.law_plain_threads as law_plain_threads
+pub use Rattle.law_words_writes.specs as law_words_writes

@@ -1,0 +1,10 @@
+pub mod Few
+pub mod Kin
+pub mod Halts
+pub mod Borrowed
+pub mod Ended
+pub mod Undone
+pub mod Quiet
+pub mod OwnAsks
+pub mod Beside
+pub mod Steps

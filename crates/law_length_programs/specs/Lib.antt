@@ -1,0 +1,4 @@
+pub mod Below
+pub mod sizes
+pub mod orders
+pub mod turns

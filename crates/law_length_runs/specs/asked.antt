@@ -1,0 +1,5 @@
+pub mod Resting
+pub mod Asking
+pub mod Starting
+pub mod Code
+pub mod Short

@@ -1,0 +1,3 @@
+pub mod mutexes
+pub mod threads
+pub mod steps

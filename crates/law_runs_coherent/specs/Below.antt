@@ -1,0 +1,26 @@
+-- What this law stands on, passed on to the laws above it, which need not list that then.
+pub use Rattle.coherent_types.specs.Below.coloured_heap as coloured_heap
+pub use Rattle.coherent_types.specs.Below.fr_base as fr_base
+pub use Rattle.coherent_types.specs.Below.fr_code as fr_code
+pub use Rattle.coherent_types.specs.Below.fr_plain as fr_plain
+pub use Rattle.coherent_types.specs.Below.coherent_memory as coherent_memory
+pub use Rattle.coherent_types.specs.Below.heap_partition as heap_partition
+pub use Rattle.coherent_types.specs.Below.join_home as join_home
+pub use Rattle.coherent_types.specs.Below.journal as journal
+pub use Rattle.coherent_types.specs.Below.migration as migration
+pub use Rattle.coherent_types.specs.Below.mutex_home as mutex_home
+pub use Rattle.coherent_types.specs.Below.owner_box as owner_box
+pub use Rattle.coherent_types.specs.Below.read_cache as read_cache
+pub use Rattle.coherent_types.specs.Below.server_model as server_model
+pub use Rattle.coherent_types.specs.Below.server_msgs as server_msgs
+pub use Rattle.coherent_types.specs.Below.thread_state as thread_state
+pub use Rattle.coherent_types.specs as coherent_types
+pub use Rattle.law_counts_sums.specs as law_counts_sums
+pub use Rattle.law_counts_things.specs as law_counts_things
+pub use Rattle.law_copies_writes.specs.Below.law_words_ends as law_words_ends
+pub use Rattle.law_words_issued.specs as law_words_issued
+pub use Rattle.law_counts_limits.specs as law_counts_limits
+pub use Rattle.law_types_events.specs.Below.law_heap_writes as law_heap_writes
+pub use Rattle.law_types_events.specs.Below.law_heap_steps as law_heap_steps
+pub use Rattle.law_counts_waiting.specs.Below.law_plain_threads as law_plain_threads
+pub use Rattle.law_counts_asking.specs.Below.law_heap_still as law_heap_still

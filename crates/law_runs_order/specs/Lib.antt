@@ -1,0 +1,4 @@
+pub mod Below
+pub mod things
+pub mod types
+pub mod messages

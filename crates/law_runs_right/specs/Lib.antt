@@ -1,0 +1,4 @@
+pub mod Below
+pub mod colours
+pub mod order
+pub mod right

@@ -1,0 +1,6 @@
+pub mod Weighing
+pub mod Servers
+pub mod Going
+pub mod Bare
+pub mod Owners
+pub mod Left

@@ -1,0 +1,4 @@
+pub mod Counting
+pub mod Unlabelled
+pub mod Following
+pub mod Colouring

@@ -1,0 +1,22 @@
+-- What this law stands on, passed on to the laws above it, which need not list that then.
+pub use Rattle.drive_model.specs as drive_model
+pub use Rattle.law_runs_coherent.specs.Below.law_counts_sums as law_counts_sums
+pub use Rattle.law_runs_coherent.specs.Below.fr_base as fr_base
+pub use Rattle.law_runs_coherent.specs.Below.law_counts_sums.Below.fr_code as fr_code
+pub use Rattle.law_runs_coherent.specs.Below.law_counts_sums.Below.fr_plain as fr_plain
+pub use Rattle.law_runs_coherent.specs.Below.coherent_memory as coherent_memory
+pub use Rattle.law_runs_coherent.specs.Below.heap_partition as heap_partition
+pub use Rattle.law_runs_coherent.specs.Below.join_home as join_home
+pub use Rattle.law_runs_coherent.specs.Below.journal as journal
+pub use Rattle.law_runs_coherent.specs.Below.law_counts_sums.Below.mut_borrow as mut_borrow
+pub use Rattle.law_runs_coherent.specs.Below.mutex_home as mutex_home
+pub use Rattle.law_runs_coherent.specs.Below.read_cache as read_cache
+pub use Rattle.law_runs_coherent.specs.Below.server_model as server_model
+pub use Rattle.law_runs_coherent.specs.Below.thread_state as thread_state
+pub use Rattle.code_meaning.specs as code_meaning
+pub use Rattle.law_runs_coherent.specs as law_runs_coherent
+pub use Rattle.law_runs_coherent.specs.Below.coloured_heap as coloured_heap
+pub use Rattle.law_runs_coherent.specs.Below.law_counts_things as law_counts_things
+pub use Rattle.law_runs_coherent.specs.Below.law_words_ends as law_words_ends
+pub use Rattle.law_runs_coherent.specs.Below.law_words_issued as law_words_issued
+pub use Rattle.law_plain_table.specs as law_plain_table

@@ -1,0 +1,11 @@
+pub mod Holding
+pub mod Came
+pub mod Walk
+pub mod Traced
+pub mod Typed
+pub mod Acts
+pub mod Beside
+pub mod Steps
+pub mod Rows
+pub mod Server
+pub mod Each

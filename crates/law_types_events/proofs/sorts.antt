@@ -1,0 +1,17 @@
+pub mod Tables
+pub mod Parts
+pub mod Suited
+pub mod Drops
+pub mod Captures
+pub mod Commits
+pub mod Viewing
+pub mod Sorted
+pub mod Forms
+pub mod Known
+pub mod Starts
+pub mod Steps
+pub mod Server
+pub mod Pairs
+pub mod Waiting
+pub mod Each
+pub mod Views

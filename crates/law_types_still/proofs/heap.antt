@@ -1,0 +1,9 @@
+pub mod Lists
+pub mod Wholes
+pub mod Following
+pub mod Values
+pub mod Leads
+pub mod Objects
+pub mod Forms
+pub mod Formed
+pub mod Counts

@@ -1,0 +1,9 @@
+pub mod Kept
+pub mod Deliveries
+pub mod Steps
+pub mod Events
+pub mod Things
+pub mod Lifted
+pub mod Cells
+pub mod Gifts
+pub mod Undone

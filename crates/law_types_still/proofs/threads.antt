@@ -1,0 +1,5 @@
+pub mod Bare
+pub mod Twins
+pub mod Leading
+pub mod Viewing
+pub mod Undone

@@ -1,0 +1,26 @@
+-- What this law stands on, passed on to the laws above it, which need not list that then.
+pub use Rattle.law_counts_things.specs.Below.law_counts_sums as law_counts_sums
+pub use Rattle.law_counts_things.specs.Below.fr_base as fr_base
+pub use Rattle.law_counts_things.specs.Below.fr_code as fr_code
+pub use Rattle.law_counts_things.specs.Below.fr_plain as fr_plain
+pub use Rattle.law_counts_things.specs.Below.fr_sound as fr_sound
+pub use Rattle.law_counts_things.specs.Below.fr_store as fr_store
+pub use Rattle.law_counts_things.specs.Below.fr_terms as fr_terms
+pub use Rattle.law_counts_things.specs.Below.fr_typing as fr_typing
+pub use Rattle.law_counts_things.specs.Below.coherent_memory as coherent_memory
+pub use Rattle.law_counts_things.specs.Below.heap_partition as heap_partition
+pub use Rattle.law_counts_things.specs.Below.join_home as join_home
+pub use Rattle.law_counts_things.specs.Below.journal as journal
+pub use Rattle.law_counts_things.specs.Below.migration as migration
+pub use Rattle.law_counts_things.specs.Below.mut_borrow as mut_borrow
+pub use Rattle.law_counts_things.specs.Below.mutex_home as mutex_home
+pub use Rattle.law_counts_things.specs.Below.owner_box as owner_box
+pub use Rattle.law_counts_things.specs.Below.read_cache as read_cache
+pub use Rattle.law_counts_things.specs.Below.server_model as server_model
+pub use Rattle.law_counts_things.specs.Below.server_msgs as server_msgs
+pub use Rattle.law_counts_things.specs.Below.thread_state as thread_state
+pub use Rattle.law_counts_things.specs.Below.coherent_types as coherent_types
+pub use Rattle.law_heap_still.specs.Below.law_words_paths as law_words_paths
+pub use Rattle.law_plain_values.specs as law_plain_values
+pub use Rattle.law_heap_still.specs.Below.global_addr as global_addr
+pub use Rattle.law_heap_still.specs as law_heap_still

@@ -1,0 +1,5 @@
+pub mod Below
+pub mod heap
+pub mod fits
+pub mod threads
+pub mod things

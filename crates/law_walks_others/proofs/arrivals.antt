@@ -1,0 +1,12 @@
+pub mod Unworded
+pub mod Lent
+pub mod Landing
+pub mod Seen
+pub mod Waiter
+pub mod Own
+pub mod Itself
+pub mod Places
+pub mod Others
+pub mod OwnKept
+pub mod Kept
+pub mod All

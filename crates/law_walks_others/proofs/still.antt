@@ -1,0 +1,12 @@
+pub mod Mail
+pub mod Asked
+pub mod Filled
+pub mod Sorts
+pub mod Turn
+pub mod Passing
+pub mod Passed
+pub mod Lying
+pub mod Mover
+pub mod Dropped
+pub mod Left
+pub mod Such

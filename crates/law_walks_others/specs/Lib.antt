@@ -1,0 +1,4 @@
+pub mod Below
+pub mod pointers
+pub mod still
+pub mod arrivals

@@ -1,0 +1,14 @@
+pub mod Landed
+pub mod After
+pub mod Words
+pub mod NewWords
+pub mod Stood
+pub mod Moved
+pub mod Own
+pub mod Ways
+pub mod New
+pub mod Lying
+pub mod Movers
+pub mod Stands
+pub mod Taking
+pub mod AllStand

@@ -1,0 +1,9 @@
+pub mod Landing
+pub mod Behind
+pub mod WriteArrivals
+pub mod Chasing
+pub mod ReadArrivals
+pub mod TakingUp
+pub mod Turns
+pub mod BorrowArrivals
+pub mod EndArrivals

@@ -1,0 +1,4 @@
+pub mod Below
+pub mod writes
+pub mod arrivals
+pub mod awaited

@@ -1,0 +1,16 @@
+-- What this law stands on, passed on to the laws above it, which need not list that then.
+pub use Rattle.law_words_writes.proofs.Below.law_words_values as law_words_values
+pub use Rattle.law_words_writes.proofs.Below.law_words_kept as law_words_kept
+pub use Rattle.law_words_borrows.proofs as law_words_borrows
+pub use Rattle.law_words_borrows.proofs.Below.law_counts_sums as law_counts_sums
+pub use Rattle.law_words_borrows.proofs.Below.fr_store as fr_store
+pub use Rattle.law_words_borrows.proofs.Below.coherent_memory as coherent_memory
+pub use Rattle.law_words_borrows.proofs.Below.law_words_paths as law_words_paths
+pub use Rattle.law_words_borrows.proofs.Below.law_results_reads as law_results_reads
+pub use Rattle.law_words_borrows.proofs.Below.coherent_types as coherent_types
+pub use Rattle.law_words_writes.proofs.Below.law_words_asked as law_words_asked
+pub use Rattle.law_words_borrows.proofs.Below.law_words_values.Below.fr_typing as fr_typing
+pub use Rattle.law_words_borrows.proofs.Below.law_counts_things as law_counts_things
+pub use Rattle.law_words_borrows.proofs.Below.law_words_values.Below.law_heap_still as law_heap_still
+pub use Rattle.law_words_writes.proofs.Below.law_results_events as law_results_events
+pub use Rattle.law_words_writes.proofs as law_words_writes

@@ -1,0 +1,5 @@
+pub mod Held
+pub mod HandArrivals
+pub mod Regained
+pub mod Arrivals
+pub mod Each

@@ -1,0 +1,11 @@
+pub mod Lending
+pub mod Placed
+pub mod HolderSoles
+pub mod CellEnds
+pub mod Cleaned
+pub mod Following
+pub mod EndStates
+pub mod Returns
+pub mod Commits
+pub mod Ends
+pub mod Each

@@ -1,0 +1,4 @@
+pub mod Below
+pub mod variables
+pub mod stars
+pub mod arrivals

@@ -1,0 +1,2 @@
+pub mod Regained
+pub mod Events

@@ -1,0 +1,14 @@
+-- What this law stands on, passed on to the laws above it, which need not list that then.
+pub use Rattle.law_walks_own.proofs.Below.law_copies_kept.Below.law_words_values as law_words_values
+pub use Rattle.law_walks_own.proofs.Below.law_copies_kept as law_copies_kept
+pub use Rattle.law_walks_own.proofs.Below.law_words_paths as law_words_paths
+pub use Rattle.law_walks_own.proofs.Below.law_words_kept as law_words_kept
+pub use Rattle.law_walks_own.proofs.Below.law_words_ends as law_words_ends
+pub use Rattle.law_walks_own.proofs.Below.law_counts_things as law_counts_things
+pub use Rattle.law_walks_own.proofs.Below.law_counts_sums as law_counts_sums
+pub use Rattle.law_walks_own.proofs.Below.law_copies_kept.Below.fr_typing as fr_typing
+pub use Rattle.law_walks_own.proofs.Below.coherent_memory as coherent_memory
+pub use Rattle.law_walks_own.proofs.Below.law_results_reads.Below.owner_box as owner_box
+pub use Rattle.law_walks_own.proofs.Below.law_results_reads as law_results_reads
+pub use Rattle.law_walks_own.proofs.Below.law_heap_still as law_heap_still
+pub use Rattle.law_walks_own.proofs.Below.law_counts_waiting as law_counts_waiting

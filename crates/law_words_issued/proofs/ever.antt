@@ -1,0 +1,13 @@
+pub mod ByKind
+pub mod Put
+pub mod There
+pub mod Fresh
+pub mod Arrivals
+pub mod Taken
+pub mod Steps
+pub mod Landings
+pub mod Live
+pub mod Stale
+pub mod Standing
+pub mod Settled
+pub mod Events

@@ -1,0 +1,13 @@
+pub mod Addresses
+pub mod Elsewhere
+pub mod Issued
+pub mod Words
+pub mod Hands
+pub mod Deliveries
+pub mod Steps
+pub mod Does
+pub mod Frees
+pub mod Events
+pub mod Plain
+pub mod Delivered
+pub mod Steady

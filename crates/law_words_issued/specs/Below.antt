@@ -1,0 +1,24 @@
+-- What this law stands on, passed on to the laws above it, which need not list that then.
+pub use Rattle.law_walks_own.specs.Below.law_words_values as law_words_values
+pub use Rattle.law_walks_own.specs.Below.law_copies_kept as law_copies_kept
+pub use Rattle.law_walks_own.specs.Below.law_words_paths as law_words_paths
+pub use Rattle.law_walks_own.specs.Below.law_words_kept as law_words_kept
+pub use Rattle.law_walks_own.specs.Below.law_copies_kept.Below.colour_retire as colour_retire
+pub use Rattle.law_walks_own.specs.Below.law_counts_sums as law_counts_sums
+pub use Rattle.law_walks_own.specs.Below.fr_base as fr_base
+pub use Rattle.law_walks_own.specs.Below.law_counts_things.Below.fr_sound as fr_sound
+pub use Rattle.law_walks_own.specs.Below.law_copies_kept.Below.fr_store as fr_store
+pub use Rattle.law_walks_own.specs.Below.global_addr as global_addr
+pub use Rattle.law_walks_own.specs.Below.coherent_memory as coherent_memory
+pub use Rattle.law_walks_own.specs.Below.heap_partition as heap_partition
+pub use Rattle.law_walks_own.specs.Below.law_copies_kept.Below.law_results_reads.Below.join_home as join_home
+pub use Rattle.law_walks_own.specs.Below.journal as journal
+pub use Rattle.law_walks_own.specs.Below.migration as migration
+pub use Rattle.law_walks_own.specs.Below.mut_borrow as mut_borrow
+pub use Rattle.law_walks_own.specs.Below.law_copies_kept.Below.law_results_reads.Below.mutex_home as mutex_home
+pub use Rattle.law_walks_own.specs.Below.law_copies_kept.Below.owner_box as owner_box
+pub use Rattle.law_walks_own.specs.Below.server_model as server_model
+pub use Rattle.law_walks_own.specs.Below.server_msgs as server_msgs
+pub use Rattle.law_walks_own.specs.Below.thread_state as thread_state
+pub use Rattle.law_walks_own.specs.Below.coherent_types as coherent_types
+pub use Rattle.law_walks_own.specs.Below.law_counts_waiting as law_counts_waiting

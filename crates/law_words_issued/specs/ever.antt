@@ -1,0 +1,5 @@
+pub mod Kinds
+pub mod Arrivals
+pub mod Lent
+pub mod Standing
+pub mod Issued

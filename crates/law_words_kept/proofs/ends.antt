@@ -1,0 +1,11 @@
+pub mod Lent
+pub mod Ends
+pub mod Alone
+pub mod Fresh
+pub mod Passed
+pub mod Owned
+pub mod Given
+pub mod Example
+pub mod Lying
+pub mod ReadPaths
+pub mod Requested

@@ -1,0 +1,27 @@
+-- What this law stands on, passed on to the laws above it, which need not list that then.
+pub use Rattle.law_words_paths.specs as law_words_paths
+pub use Rattle.law_counts_sums.specs.Below.colour_retire as colour_retire
+pub use Rattle.law_counts_sums.specs.Below.coloured_heap as coloured_heap
+pub use Rattle.law_counts_sums.specs as law_counts_sums
+pub use Rattle.law_counts_sums.specs.Below.fr_base as fr_base
+pub use Rattle.law_counts_sums.specs.Below.fr_code as fr_code
+pub use Rattle.law_counts_sums.specs.Below.fr_plain as fr_plain
+pub use Rattle.law_words_paths.specs.Below.fr_sound as fr_sound
+pub use Rattle.law_counts_sums.specs.Below.fr_store as fr_store
+pub use Rattle.law_counts_sums.specs.Below.fr_typing as fr_typing
+pub use Rattle.law_counts_sums.specs.Below.global_addr as global_addr
+pub use Rattle.law_counts_sums.specs.Below.coherent_memory as coherent_memory
+pub use Rattle.law_counts_sums.specs.Below.sample_clusters as sample_clusters
+pub use Rattle.law_counts_sums.specs.Below.heap_partition as heap_partition
+pub use Rattle.law_counts_sums.specs.Below.join_home as join_home
+pub use Rattle.law_counts_sums.specs.Below.journal as journal
+pub use Rattle.law_counts_sums.specs.Below.migration as migration
+pub use Rattle.law_counts_sums.specs.Below.mut_borrow as mut_borrow
+pub use Rattle.law_counts_sums.specs.Below.mutex_home as mutex_home
+pub use Rattle.law_counts_sums.specs.Below.owner_box as owner_box
+pub use Rattle.law_counts_sums.specs.Below.place_walk as place_walk
+pub use Rattle.law_counts_sums.specs.Below.read_cache as read_cache
+pub use Rattle.law_counts_sums.specs.Below.server_model as server_model
+pub use Rattle.law_counts_sums.specs.Below.server_msgs as server_msgs
+pub use Rattle.law_counts_sums.specs.Below.thread_state as thread_state
+pub use Rattle.law_words_paths.specs.Below.coherent_types as coherent_types

@@ -1,0 +1,5 @@
+pub mod Ending
+pub mod Dropped
+pub mod Example
+pub mod Lying
+pub mod Objects

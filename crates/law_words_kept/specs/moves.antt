@@ -1,0 +1,3 @@
+pub mod Relaid
+pub mod Ended
+pub mod Example

@@ -1,0 +1,14 @@
+pub mod Sole
+pub mod Circles
+pub mod Shown
+pub mod Alike
+pub mod Origins
+pub mod Forms
+pub mod Climbs
+pub mod InState
+pub mod Pointers
+pub mod MayWrites
+pub mod Contained
+pub mod Ended
+pub mod FreshPaths
+pub mod Example

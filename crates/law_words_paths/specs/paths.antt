@@ -1,0 +1,4 @@
+pub mod Above
+pub mod HeapStore
+pub mod Pointing
+pub mod Example

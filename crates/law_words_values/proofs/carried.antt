@@ -1,0 +1,16 @@
+pub mod Carrying
+pub mod Replaced
+pub mod Passing
+pub mod Places
+pub mod Taken
+pub mod Owned
+pub mod Hands
+pub mod Steps
+pub mod Events
+pub mod Gives
+pub mod Locks
+pub mod Far
+pub mod Leaving
+pub mod Assigning
+pub mod Assigns
+pub mod Making

@@ -1,0 +1,4 @@
+pub mod Going
+pub mod Lists
+pub mod Unled
+pub mod Drops

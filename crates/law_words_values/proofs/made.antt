@@ -1,0 +1,10 @@
+pub mod Unnamed
+pub mod Partition
+pub mod Sames
+pub mod NewCell
+pub mod Listed
+pub mod NewIssue
+pub mod Servers
+pub mod Boxing
+pub mod Boxes
+pub mod Apart

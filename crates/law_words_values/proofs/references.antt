@@ -1,0 +1,15 @@
+pub mod Unpassed
+pub mod Ranks
+pub mod FreshOwners
+pub mod Fewer
+pub mod QuietSlots
+pub mod RefPlaces
+pub mod Chains
+pub mod RefSteps
+pub mod RefEvents
+pub mod CaptureTypes
+pub mod Blank
+pub mod Beside
+pub mod CaptureSteps
+pub mod StartSteps
+pub mod StartEvents

@@ -1,0 +1,5 @@
+pub mod Below
+pub mod carried
+pub mod made
+pub mod freed
+pub mod references

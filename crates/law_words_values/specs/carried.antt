@@ -1,0 +1,4 @@
+pub mod Carried
+pub mod Steps
+pub mod Leaving
+pub mod Made

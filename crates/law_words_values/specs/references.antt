@@ -1,0 +1,4 @@
+pub mod Unpassed
+pub mod Fewer
+pub mod Gone
+pub mod Starts

@@ -1,4 +1,0 @@
-pub mod Below
-pub mod Changes
-pub mod Steps
-pub mod Events

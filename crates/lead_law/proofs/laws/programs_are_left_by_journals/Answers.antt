@@ -1,4 +1,0 @@
-use Rattle.lead_law.proofs.laws.programs_are_left_by_journals.Goals as goal
-
-pub returns : goal.returns
-returns c = c.programs_are_left.ensures c.entries_lead.ensures

@@ -1,7 +1,0 @@
--- What this law stands on, passed on to the laws above it, which need not list that then.
-pub use Rattle.event_law.proofs as event_law
-pub use Rattle.event_law.proofs.Below.fr_store as fr_store
-pub use Rattle.event_law.proofs.Below.fr_typing as fr_typing
-pub use Rattle.event_law.proofs.Below.heap_law as heap_law
-pub use Rattle.event_law.proofs.Below.owner_box as owner_box
-pub use Rattle.type_law.proofs as type_law

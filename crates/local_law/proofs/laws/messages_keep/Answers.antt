@@ -1,5 +1,0 @@
-use Rattle.local_law.proofs.laws.messages_keep.Goals as goal
-use Rattle.local_law.proofs.Routes.{goes_right_kept, asks_others_kept, options_kept}
-
-pub returns : goal.returns
-returns c = record { go_right = goes_right_kept; asks_others = asks_others_kept; options_in_range = options_kept }

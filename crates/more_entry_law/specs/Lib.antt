@@ -1,4 +1,0 @@
-pub mod Below
-pub mod Locks
-pub mod Places
-pub mod Boxes

@@ -1,4 +1,0 @@
-pub mod Below
-pub mod Relaid
-pub mod Ended
-pub mod Example

@@ -1,5 +1,0 @@
-use Rattle.old_words_law.proofs.laws.first_words_are_old.Goals as goal
-use Rattle.old_words_law.proofs.Firsts.{steps_leave_firsts, arrivals_leave_firsts}
-
-pub returns : goal.returns
-returns c = record { steps = steps_leave_firsts; arrivals = arrivals_leave_firsts }

@@ -1,8 +1,0 @@
-pub mod Walk
-pub mod Names
-pub mod Agreeing
-pub mod Steps
-pub mod Inside
-pub mod Gifts
-pub mod Outside
-pub mod Below

@@ -1,5 +1,0 @@
-pub mod Below
-pub mod Above
-pub mod HeapStore
-pub mod Pointing
-pub mod Example

@@ -1,8 +1,0 @@
-use Rattle.plain_types.proofs.laws.acts_are_ready.Goals as goal
-use Rattle.plain_types.proofs.Example.{print_is_ready, let_is_ready}
-
-pub returns-clause-print : goal.returns-clause-print
-returns-clause-print c = print_is_ready
-
-pub returns-clause-bind : goal.returns-clause-bind
-returns-clause-bind c = let_is_ready

@@ -1,8 +1,0 @@
-pub mod Meets
-pub mod ReadPlaces
-pub mod FreshReads
-pub mod Flights
-pub mod OwnChains
-pub mod Homes
-pub mod Lookups
-pub mod Below

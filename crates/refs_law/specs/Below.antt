@@ -1,3 +1,0 @@
--- What this law stands on, passed on to the laws above it, which need not list that then.
-pub use Rattle.carry_law.specs.Below.end_law as end_law
-pub use Rattle.carry_law.specs.Below.prepare_law as prepare_law

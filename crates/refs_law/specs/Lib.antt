@@ -1,5 +1,0 @@
-pub mod Below
-pub mod Unpassed
-pub mod Fewer
-pub mod Gone
-pub mod Starts

@@ -1,6 +1,0 @@
-pub mod Held
-pub mod HandArrivals
-pub mod Regained
-pub mod Arrivals
-pub mod Each
-pub mod Below

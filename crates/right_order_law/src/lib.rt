@@ -1,7 +1,0 @@
-//! What is said of a cluster to which a run leads depends on no order in which messages wait. There is no code here: a law is the contract of a function with an
-//! empty body.
-#![tactic(auto)]
-
-mod laws;
-
-pub use laws::{left_in_any_order, right_in_any_order};

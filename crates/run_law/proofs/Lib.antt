@@ -1,5 +1,0 @@
-pub mod Below
-pub mod Counting
-pub mod Unlabelled
-pub mod Following
-pub mod Colouring

@@ -1,8 +1,0 @@
-//! Laws of clusters with the same things.
-
-ghost use Rattle.same_things_law.specs.Laws.{SoundWithSameThings};
-
-/// A cluster is sound where one with the same things is: no sentence depends on the order in which things stand, nor on the list of messages in which one waits.
-pub fn sound_with_same_things()
-    ensures { SoundWithSameThings }
-{}

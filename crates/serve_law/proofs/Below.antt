@@ -1,3 +1,0 @@
--- What this law stands on, passed on to the laws above it, which need not list that then.
-pub use Rattle.entry_law.proofs as entry_law
-pub use Rattle.fresh_law.proofs as fresh_law

@@ -1,5 +1,0 @@
-use Rattle.short_law.proofs.laws.asks_left.Goals as goal
-use Rattle.short_law.proofs.Runs.{twenty_left}
-
-pub returns : goal.returns
-returns c = twenty_left c.asks_are_few.ensures c.asks_take_one.ensures c.events_leave_asks.ensures

@@ -1,6 +1,0 @@
-pub mod Below
-pub mod Kept
-pub mod Settled
-pub mod PlainSteps
-pub mod Asks
-pub mod Borrows

@@ -1,3 +1,0 @@
--- What this law stands on, passed on to the laws above it, which need not list that then.
-pub use Rattle.walk_law.specs.Below.wait_law as wait_law
-pub use Rattle.walk_law.specs as walk_law

@@ -1,5 +1,0 @@
-use Rattle.turns_law.proofs.laws.runs_in_rounds_come_to_an_end.Goals as goal
-use Rattle.turns_law.proofs.Rounds.{runs_in_rounds_come_to_an_end}
-
-pub returns : goal.returns
-returns c = runs_in_rounds_come_to_an_end c.events_keep_coherence.ensures c.journals_are_bounded.ensures c.typed_code_has_table.ensures c.runs_in_rounds_end.ensures.ends c.runs_in_rounds_are_driven.ensures c.journals_are_short.ensures c.events_are_right.ensures

@@ -1,5 +1,0 @@
-use Rattle.turns_law.proofs.laws.steps_and_threads_are_few.Goals as goal
-use Rattle.turns_law.proofs.Few.{steps_and_threads_are_few}
-
-pub returns : goal.returns
-returns c = steps_and_threads_are_few c.events_keep_coherence.ensures c.starts_are_coherent.ensures c.typed_code_has_table.ensures c.programs_run_right.ensures c.orders_are_short.ensures

@@ -1,5 +1,0 @@
-use Rattle.type_law.proofs.laws.starts_have_types.Goals as goal
-use Rattle.type_law.proofs.Start.{start_has_types_lem}
-
-pub returns : goal.returns
-returns c = start_has_types_lem

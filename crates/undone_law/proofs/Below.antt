@@ -1,4 +1,0 @@
--- What this law stands on, passed on to the laws above it, which need not list that then.
-pub use Rattle.still_law.proofs.Below.event_law as event_law
-pub use Rattle.path_law.proofs as path_law
-pub use Rattle.still_law.proofs as still_law

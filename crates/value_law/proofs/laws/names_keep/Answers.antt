@@ -1,6 +1,0 @@
-use Rattle.value_law.proofs.laws.names_keep.Goals as goal
-use Rattle.value_law.proofs.Objects.{objects_kept}
-use Rattle.value_law.proofs.Sentences.{limits_kept, names_kept, counts_kept, fews_kept}
-
-pub returns : goal.returns
-returns c = record { below_limit = limits_kept; names_counted = names_kept; counts_from_one = counts_kept; few_names = fews_kept; objects_made = objects_kept }

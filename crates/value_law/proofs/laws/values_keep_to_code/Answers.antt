@@ -1,5 +1,0 @@
-use Rattle.value_law.proofs.laws.values_keep_to_code.Goals as goal
-use Rattle.value_law.proofs.Coherent.{marks_stay, holders_stay}
-
-pub returns : goal.returns
-returns c = record { marks_in_slots = marks_stay; holders_short = holders_stay }

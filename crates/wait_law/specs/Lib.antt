@@ -1,4 +1,0 @@
-pub mod Below
-pub mod Places
-pub mod Taken
-pub mod Steady

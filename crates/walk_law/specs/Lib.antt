@@ -1,4 +1,0 @@
-pub mod Below
-pub mod Pointers
-pub mod Steady
-pub mod Deliveries

@@ -1,3 +1,0 @@
-pub mod Below
-pub mod Messages
-pub mod Programs

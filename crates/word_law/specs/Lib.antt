@@ -1,8 +1,0 @@
-pub mod Below
-pub mod Reworded
-pub mod Unmoved
-pub mod OneMore
-pub mod Soles
-pub mod WordsAfter
-pub mod PutBack
-pub mod Example
