@@ -3,14 +3,14 @@
 
 ghost use Rattle.law_length_programs.specs.turns.Turns.{JournalsAreShort, RunsInRoundsComeToAnEnd, StepsAndThreadsAreFew};
 
-use drive_model::laws::journals_are_bounded;
 use crate::orders_are_short;
+use drive_model::laws::journals_are_bounded;
+use law_plain_table::typed_code_has_table;
+use law_runs_coherent::starts_are_coherent;
 use law_runs_right::{
     events_are_right, events_keep_coherence, programs_run_right, runs_in_rounds_are_driven,
     runs_in_rounds_end, runs_of_programs_are_short,
 };
-use law_runs_coherent::starts_are_coherent;
-use law_plain_table::typed_code_has_table;
 
 /// A driven journal that fewer than 2^31 - 1 events leave from the start of whatever code of a typed program, whose threads do blocks, has at most so many plain steps and threads, main among
 /// them, as twice the nodes of the program's tree.

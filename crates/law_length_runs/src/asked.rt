@@ -7,8 +7,8 @@ ghost use Rattle.law_length_runs.specs.asked.Starting.{PlainStepsStartTwo, RunsS
 ghost use Rattle.law_length_runs.specs.asked.Code.{DrivenRunsOfCodeAreShort};
 ghost use Rattle.law_length_runs.specs.asked.Short.{DrivenRunsOfProgramsAreShort};
 
-use law_runs_coherent::starts_are_coherent;
 use law_plain_table::typed_code_has_table;
+use law_runs_coherent::starts_are_coherent;
 use law_runs_whole::events_keep_coherence;
 
 /// At the end of a driven journal no more threads rest than there are: those that its acts start, and main.

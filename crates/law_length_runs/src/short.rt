@@ -4,10 +4,10 @@
 ghost use Rattle.law_length_runs.specs.asked.Asking.{AsksLeft};
 ghost use Rattle.law_length_runs.specs.short.Short.{RunsOfCodeAreShort, RunsOfProgramsAreShort};
 
-use law_length_asks::{asks_are_few, asks_take_one, events_leave_asks};
 use crate::{
     driven_runs_of_code_are_short, driven_runs_of_programs_are_short, events_keep_coherence,
 };
+use law_length_asks::{asks_are_few, asks_take_one, events_leave_asks};
 
 /// Each thread asks at most twenty times before a step of it is done: a number of asks is left to it, twenty at most, that falls with each of its asks and that no event but a plain step of its
 /// own raises, from coherent clusters to coherent ones.

@@ -7,19 +7,20 @@ ghost use Rattle.law_runs_coherent.specs.events.Owning.{AgreeingEnd, EventsThatA
 ghost use Rattle.law_runs_coherent.specs.events.Types.{EventsKeepTypes, EventsStandOnce};
 ghost use Rattle.law_runs_coherent.specs.events.Ends.{EndsStay};
 
-use law_counts_asking::{answers_keep, gifts_keep, pairs_keep};
-use law_walks_own::{all_land, each_event_uncopied, steps_keep_walks, taken_stays};
-use law_counts_limits::{counts_keep, walks_keep};
-use law_counts_waiting::contents_keep;
-use law_words_kept::objects_follow;
-use law_counts_sums::every::each_event_handed_over;
-use law_words_issued::{each_event_issues, objects_stay_apart};
 use coherent_memory::laws::some_follow;
 use law_copies_writes::events_keep_words;
-use law_counts_things::{messages_keep, servers_keep, threads_keep, threads_keep_to_code};
+use law_counts_asking::{answers_keep, gifts_keep, pairs_keep};
+use law_counts_limits::{counts_keep, walks_keep};
+use law_counts_sums::every::each_event_handed_over;
+use law_counts_things::{
+    askers_keep, messages_keep, names_keep, servers_keep, threads_keep, threads_keep_to_code,
+    values_keep_to_code,
+};
+use law_counts_waiting::{contents_keep, waits_keep};
 use law_types_events::parts_keep;
-use law_counts_things::{askers_keep, names_keep, values_keep_to_code};
-use law_counts_waiting::waits_keep;
+use law_walks_own::{all_land, each_event_uncopied, steps_keep_walks, taken_stays};
+use law_words_issued::{each_event_issues, objects_stay_apart};
+use law_words_kept::objects_follow;
 
 /// From a coherent cluster in which few events were done, each event that has a result, its messages handed over, leaves a cluster in which the code of each thread that is
 /// over ends with the type that its task has afterwards, by whatever types of names by which those that were given before have the types that they had: the thread was over,

@@ -3,12 +3,12 @@
 
 ghost use Rattle.law_runs_right.specs.right.Right.{RunsInRoundsAreRight};
 
+use crate::{left_in_any_order, right_in_any_order};
 use drive_model::laws::journals_are_bounded;
-use law_length_runs::{runs_in_rounds_are_driven, runs_in_rounds_end};
 use law_entries_events::{
     events_are_right, events_keep_coherence, programs_are_left_by_journals, programs_run_right,
 };
-use crate::{left_in_any_order, right_in_any_order};
+use law_length_runs::{runs_in_rounds_are_driven, runs_in_rounds_end};
 use law_plain_table::typed_code_has_table;
 use law_runs_whole::programs_stand_there;
 

@@ -4,11 +4,10 @@
 ghost use Rattle.law_runs_rounds.specs.rounds.UnderWay.{BalancesCanMove, BalancesGoOn, EndsAreExact, RoundsEnd, RoundsGoOn, RoundsGrow, ServersCanWork, StartsAreUnderWay};
 
 use drive_model::laws::balances_move;
-use law_results_events::enabled_events_have_results;
-use law_runs_whole::going_goes_on;
 use law_counts_limits::{counts_are_small, events_send_few};
-use law_runs_whole::runs_from_starts;
+use law_results_events::enabled_events_have_results;
 use law_runs_coherent::starts_are_coherent;
+use law_runs_whole::{going_goes_on, runs_from_starts};
 
 /// The start of each code with a table, under options in their ranges, is under way.
 pub fn starts_are_under_way()

@@ -7,8 +7,7 @@ use fr_code::same_plain;
 use fr_typing::exactly_one;
 use law_plain_names::all_runs_end_so;
 use law_plain_table::programs_have_codes;
-use law_runs_whole::locks_wait;
-use law_runs_whole::programs_run_right;
+use law_runs_whole::{locks_wait, programs_run_right};
 
 /// **What a computation finds of all plain runs of a program holds of each of its runs on servers**: where each order of plain steps of the program's code, its new names numbered as they
 /// come, has so many steps and comes to that end, then whatever fewer than 2^31 - 1 events from the start of whatever code of whatever source of the program, on however many servers and under

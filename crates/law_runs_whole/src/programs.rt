@@ -3,9 +3,8 @@
 
 ghost use Rattle.law_runs_whole.specs.programs.Programs.{ProgramsAreLeft, ProgramsRunRight};
 
-use law_runs_coherent::events_keep_coherence;
-use law_runs_coherent::starts_are_coherent;
 use law_plain_table::typed_code_has_table;
+use law_runs_coherent::{events_keep_coherence, starts_are_coherent};
 
 /// **A run on servers is a run on one heap**: from the start of whatever code of a typed program, laid out thread by thread, under options in their ranges and on however many servers,
 /// each list of fewer than 2^31 - 1 events that has a result leads to a coherent cluster, whatever the order of steps, deliveries, evictions and migrations. The
