@@ -87,7 +87,7 @@ def resolved(module):
     at = folder
     while left:
         path = f"{at}/{left[0]}.antt"
-        if os.path.isfile(path):
+        if os.path.isfile(path) and not (len(left) > 1 and os.path.isfile(f"{at}/{left[0]}/{left[1]}.antt")):
             found = file_at(path)
             if len(left) > 1 and left[1] in found.modules:
                 return resolved(".".join([found.modules[left[1]], *left[2:]]))

@@ -1,5 +1,4 @@
 //! Copies of cells, and what each event leaves of them.
-//! Laws of copies.
 
 ghost use Rattle.law_words_borrows.specs.Below.law_counts_sums.Kinds.{arrives, asks_dup, asks_join, asks_lock, dupped, evicts, fetch, fetched, finished, granted, joined, migrates, released, starts, step_arith, step_par_end, step_print, unlocked};
 ghost use Rattle.law_copies_kept.specs.copies.Copies.{AssignsKeepCopies, CopiesComeFromCopies, DiscardsKeepCopies, DropsKeepCopies, KeepCopies, StepsKeepCopies};

@@ -1,5 +1,4 @@
 //! Copies where objects change under words of which no copy is.
-//! Laws of copies under words of which none was.
 
 ghost use Rattle.law_copies_kept.specs.hidden.Hidden.{CopiesComeUnderWords};
 

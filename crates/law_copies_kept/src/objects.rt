@@ -1,5 +1,4 @@
 //! Copies of cells where objects come, leave and go, where threads start, and at borrows.
-//! Laws of copies where objects come, leave and go, where threads start, and at borrows.
 
 ghost use Rattle.law_copies_kept.specs.objects.Fresh.{BoxesKeepCopies, DeliveredDropsKeepCopies, DeliveredMovesKeepCopies, MutableBorrowsKeepCopies, SharedBorrowsKeepCopies, StartsKeepCopies};
 

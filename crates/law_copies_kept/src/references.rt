@@ -1,5 +1,4 @@
 //! Copies of cells where references go and come, and where places are read.
-//! Laws of copies where references go and come.
 
 ghost use Rattle.law_copies_kept.specs.references.Clean.{ReadsKeepCopies, ReferencesKeepCopies, VariableBorrowsKeepCopies};
 

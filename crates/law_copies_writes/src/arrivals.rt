@@ -1,5 +1,4 @@
 //! Copies of cells where an object comes to a thread that waits for it.
-//! Laws of copies where an object comes.
 
 ghost use Rattle.law_copies_writes.specs.arrivals.Landed.{ArrivalsKeepCopies, BorrowArrivalsKeepCopies, EndArrivalsKeepCopies, ReadArrivalsKeepCopies, WriteArrivalsKeepCopies};
 

@@ -1,5 +1,4 @@
 //! Copies of cells where mutable references end.
-//! Laws of copies where mutable references end.
 
 ghost use Rattle.law_copies_writes.specs.ends.Close.{EndsKeepCopies};
 

@@ -1,5 +1,4 @@
 //! Copies of cells at writes through stars.
-//! Laws of copies at writes through stars.
 
 ghost use Rattle.law_copies_writes.specs.writes.Cover.{AssignmentsKeepCopies, MovesKeepCopies};
 

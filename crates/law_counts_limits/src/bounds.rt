@@ -1,5 +1,4 @@
 //! How far an event raises the counts of a cluster.
-//! What each event keeps of counts.
 
 ghost use Rattle.law_counts_things.specs.Below.coherent_memory.Coherent.{counts_bounded, passed_within};
 ghost use Rattle.law_counts_things.specs.things.Laws.{EachCoherentEventKeeps, EachEventKeeps};

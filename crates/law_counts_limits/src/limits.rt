@@ -1,5 +1,4 @@
 //! How much an event takes at most, and how large the counts of a coherent cluster get.
-//! Laws of what an event takes at most.
 
 ghost use Rattle.law_counts_limits.specs.limits.Counts.{CountsAreSmall, FewAreFew};
 ghost use Rattle.law_counts_limits.specs.limits.Sending.{EventsSendFew};

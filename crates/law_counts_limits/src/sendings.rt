@@ -1,5 +1,4 @@
 //! What an event sends is what its acts send.
-//! The law of what an event sends.
 
 ghost use Rattle.law_counts_limits.specs.sendings.Counting.{EventsCountMessages};
 ghost use Rattle.law_counts_limits.specs.sendings.Sending.{EventsSendTheirActs};

@@ -1,5 +1,4 @@
 //! What each event keeps of the names in a cluster: words, threads, mutexes, holders and who asks.
-//! What each event keeps of names, one clause for each sentence.
 
 ghost use Rattle.law_counts_things.specs.Below.coherent_memory.Coherent.{askers_stand, below_limit, counts_from_one, few_names, holders_short, marks_in_slots, names_counted, objects_made, return_right};
 ghost use Rattle.law_counts_things.specs.things.Laws.{EachCoherentEventKeeps, EachEventKeeps};

@@ -1,5 +1,4 @@
 //! What each thing of a cluster keeps by itself, whatever event is done.
-//! What each event keeps of a sound cluster, one clause for each sentence.
 
 ghost use Rattle.law_counts_sums.specs.Below.coherent_memory.Coherent.{asks_others, at_their_home, content_without_shares, go_right, join_walks_nothing, options_in_range, over_are_bare, par_ends, parcels_ready, passed_in_a_walk, queue_while_out, thread_homes, walk_empty};
 ghost use Rattle.law_counts_things.specs.things.Laws.{EachCoherentEventKeeps, EachEventKeeps};

@@ -1,5 +1,4 @@
 //! The contents of mutexes: each stands in exactly one place, after each event.
-//! What each event keeps of the contents of mutexes.
 
 ghost use Rattle.law_counts_waiting.specs.contents.Contents.{EachEventLeavesOneContent};
 ghost use Rattle.law_counts_waiting.specs.Below.coherent_memory.Coherent.{one_content};

@@ -1,5 +1,4 @@
 //! What each event keeps of threads that wait, or have taken an object: they stand where they asked, and their places lead where they led.
-//! What each event keeps of threads that wait.
 
 ghost use Rattle.law_counts_asking.specs.Below.coherent_memory.Coherent.{gifts_fit, phases_stand, taken_is_new, taken_stands};
 ghost use Rattle.law_counts_asking.specs.Below.law_counts_things.things.Laws.{EachCoherentEventKeeps};

@@ -1,5 +1,4 @@
 //! Entries of boxes and of borrows, whatever their pointer, in the coloured heap.
-//! Laws of the entries of boxes and of borrows.
 
 ghost use Rattle.law_entries_writes.specs.Below.law_entries_reads.places.Reads.{DoneStepsLegal};
 ghost use Rattle.law_entries_writes.specs.Below.law_entries_variables.variables.Steps.{StepsLegal};

@@ -1,5 +1,4 @@
 //! That each event has a legal entry, and what follows for runs of programs.
-//! Laws of the entries of all events.
 
 ghost use Rattle.law_entries_events.specs.Below.law_runs_whole.runs.Runs.{EachEventIsRight};
 ghost use Rattle.law_entries_events.specs.events.Leads.{EachProgramIsLeft};

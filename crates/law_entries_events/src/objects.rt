@@ -1,5 +1,4 @@
 //! Entries of deliveries of objects that come, and of objects that go, in the coloured heap.
-//! Laws of the entries of deliveries of objects that come, and of objects that go.
 
 ghost use Rattle.law_runs_whole.specs.Below.law_counts_sums.Kinds.{drop, moved};
 ghost use Rattle.law_entries_events.specs.objects.Objects.{CoherentJournalGoesOn};

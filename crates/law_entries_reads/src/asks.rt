@@ -1,5 +1,4 @@
 //! Entries of steps that end in a request, in the coloured heap.
-//! Laws of the entries of steps that end in a request.
 
 ghost use Rattle.law_entries_reads.specs.asks.Asking.{AskingContinues, MutableBorrowsThatAskLegal, ReadsThatAskLegal, SharedBorrowsThatAskLegal};
 

@@ -1,5 +1,4 @@
 //! Entries of locks that take their content and of all steps that follow a place, in the coloured heap, and the words that boxes give.
-//! Laws of the entries of locks that take their content and of all steps that follow a place, and of the words that boxes give.
 
 ghost use Rattle.law_entries_reads.specs.places.Reads.{DoneStepsLegal};
 ghost use Rattle.law_entries_reads.specs.locks.Boxes.{BoxesTakeNextWords};

@@ -1,5 +1,4 @@
 //! Entries of steps that read their place, in the coloured heap, where they are done.
-//! Laws of the entries of steps that read their place.
 
 ghost use Rattle.law_entries_reads.specs.places.Reads.{BorrowsThrough, DoneStepsContinue, DoneStepsLegal, ReadsPlace};
 ghost use Rattle.law_entries_reads.specs.places.Walks.{WalksReach};

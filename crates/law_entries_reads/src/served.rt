@@ -1,5 +1,4 @@
 //! Entries of deliveries of objects and copies in the coloured heap.
-//! Laws of the entries of deliveries of objects and copies.
 
 ghost use Rattle.law_entries_variables.specs.Below.law_counts_sums.Kinds.{fetch, fetched, moving};
 ghost use Rattle.law_entries_reads.specs.served.Served.{CoherentEntriesLegal, LegalEntryContinues};

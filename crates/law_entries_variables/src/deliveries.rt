@@ -1,5 +1,4 @@
 //! Entries of events in the coloured heap.
-//! Laws of the entries of events.
 
 ghost use Rattle.law_words_ends.specs.Below.law_counts_sums.Kinds.{arrives, asks_dup, asks_join, asks_lock, dupped, evicts, finished, granted, joined, migrates, released, starts, unlocked};
 ghost use Rattle.law_entries_variables.specs.deliveries.Entries.{EntriesLegal, LegalEntriesContinue};

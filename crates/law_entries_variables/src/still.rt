@@ -1,5 +1,4 @@
 //! Entries of steps in the coloured heap: of those that note no act, and of joins that ask.
-//! Laws of the entries of steps.
 
 ghost use Rattle.law_entries_variables.specs.Below.law_counts_sums.Kinds.{step_arith, step_join, step_par_end, step_print};
 ghost use Rattle.law_entries_variables.specs.deliveries.Entries.{EntriesLegal};

@@ -1,5 +1,4 @@
 //! Entries of steps without stars in the coloured heap.
-//! Laws of the entries of steps whose place has no star.
 
 ghost use Rattle.law_words_ends.specs.Below.law_counts_sums.Kinds.{step_end, step_join, step_let, step_mutex};
 ghost use Rattle.law_entries_variables.specs.deliveries.Entries.{EntriesLegal, JournalGoesOn};

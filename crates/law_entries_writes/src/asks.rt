@@ -1,5 +1,4 @@
 //! Entries of writes through stars and of ends of references that end in a request.
-//! Laws of the entries of writes and of ends of references that end in a request.
 
 ghost use Rattle.law_entries_writes.specs.asks.Each.{EachStepThatAsksLegal};
 ghost use Rattle.law_entries_writes.specs.asks.Writes.{AssignmentsThatAskLegal, DiscardsThatAskLegal, DropsThatAskLegal, MovesThatAskLegal};

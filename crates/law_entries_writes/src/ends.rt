@@ -1,5 +1,4 @@
 //! Entries of discards and of drops of slots, in the coloured heap, where they are done.
-//! Laws of the entries of steps that end mutable references, of discards and of drops of slots.
 
 ghost use Rattle.law_entries_reads.specs.places.Reads.{DoneStepsLegal};
 ghost use Rattle.law_entries_writes.specs.ends.Going.{DropsContinue, EndsMutable, LetsGo};

@@ -1,5 +1,4 @@
 //! Entries of moves and assignments, in the coloured heap.
-//! Laws of the entries of moves and assignments.
 
 ghost use Rattle.law_entries_reads.specs.places.Reads.{DoneStepsLegal};
 ghost use Rattle.law_entries_reads.specs.Below.law_entries_variables.variables.Steps.{StepsLegal};

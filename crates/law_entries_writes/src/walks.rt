@@ -1,5 +1,4 @@
 //! Acts of a place that is followed for writing, in the coloured heap.
-//! Laws of the acts of a place that is followed for writing.
 
 ghost use Rattle.law_entries_writes.specs.walks.Walked.{WrittenPlacesRun};
 

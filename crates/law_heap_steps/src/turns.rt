@@ -1,5 +1,4 @@
 //! An event that does a plain step does exactly that step on the one heap.
-//! Laws of events that do a plain step.
 
 ghost use Rattle.law_words_kept.specs.Below.coherent_memory.Coherent.{IsSound};
 ghost use Rattle.law_heap_steps.specs.turns.Rows.{RowsCompute};

@@ -1,5 +1,4 @@
 //! An event that does no plain step leaves the one heap as it was.
-//! Laws of events without a plain step.
 
 ghost use Rattle.law_counts_sums.specs.Kinds.{arrives, asks_dup, asks_join, asks_lock, dupped, evicts, fetch, fetched, finished, granted, joined, migrates, moved, moving, released, starts, unlocked};
 ghost use Rattle.law_heap_still.specs.events.Laws.{AlikeStandForOne, JoinsThatAsk, LeaveHeap, RequestsLeaveHeap};

@@ -1,5 +1,4 @@
 //! Whatever does no plain step leaves the one heap as it was.
-//! The law of events without a plain step.
 
 ghost use Rattle.law_heap_still.specs.undone.Undone.{EachUndoneLeavesHeap};
 

@@ -1,5 +1,4 @@
 //! How many hops of its place a thread has ahead of it.
-//! Laws of how many hops a thread has ahead of it.
 
 ghost use Rattle.std.specs.Prelude.{ℕ};
 ghost use Rattle.law_walks_own.specs.Below.server_msgs.declared.message.Message.TheVariants.{Drop, Move};

@@ -1,5 +1,4 @@
 //! What answers make of the asks that a thread has left.
-//! Laws of the asks that threads have left, in all events but their own steps.
 
 ghost use Rattle.law_length_asks.specs.answers.Events.{EventsLeaveAsks};
 

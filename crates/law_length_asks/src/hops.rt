@@ -1,5 +1,4 @@
 //! What events leave of the hops ahead of a thread.
-//! Laws of the hops ahead of a thread, in events beside it and in its own writes.
 
 ghost use Rattle.law_length_asks.specs.hops.Beside.{EventsBesideLeaveAhead};
 ghost use Rattle.law_length_asks.specs.hops.Writes.{OwnWritesLeaveNoMore};

@@ -1,5 +1,4 @@
 //! How often a thread asks yet before a step of it is done.
-//! Laws of how many asks a thread has left.
 
 ghost use Rattle.law_length_asks.specs.left.Steps.{AsksTakeOne, AtMostTwenty, OthersStepsLeaveAsks};
 

@@ -1,5 +1,4 @@
 //! How long an order of a program is.
-//! Laws of the orders of a program.
 
 ghost use Rattle.law_length_programs.specs.orders.Orders.{OrdersAreShort};
 ghost use Rattle.law_length_programs.specs.orders.Sources.{ProgramsHaveBlocks, TreesHaveTheirNodes};

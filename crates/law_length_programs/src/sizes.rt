@@ -1,5 +1,4 @@
 //! How many steps and threads a program has, by its nodes.
-//! The law of how many steps and threads a program has.
 
 ghost use Rattle.law_length_programs.specs.sizes.Size.{ProgramsDoFewSteps};
 

@@ -1,5 +1,4 @@
 //! Runs in rounds come to an end.
-//! Laws of how many turns a run in rounds needs.
 
 ghost use Rattle.law_length_programs.specs.turns.Turns.{JournalsAreShort, RunsInRoundsComeToAnEnd, StepsAndThreadsAreFew};
 

@@ -1,5 +1,4 @@
 //! Laws of how long a driven run gets.
-//! Laws of how long a driven run gets.
 
 ghost use Rattle.law_length_runs.specs.asked.Asking.{RunsEnd, StepsAreFew};
 ghost use Rattle.law_length_runs.specs.asked.Resting.{FewRest};

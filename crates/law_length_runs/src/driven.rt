@@ -1,5 +1,4 @@
 //! Runs in rounds leave driven journals.
-//! Laws of driven journals.
 
 ghost use Rattle.law_length_runs.specs.driven.Driving.{ChosenRunsAreDriven, RunsInRoundsAreDriven};
 

@@ -1,5 +1,4 @@
 //! How long a driven run of a program gets.
-//! Laws of how long a driven run gets, without a premise.
 
 ghost use Rattle.law_length_runs.specs.asked.Asking.{AsksLeft};
 ghost use Rattle.law_length_runs.specs.short.Short.{RunsOfCodeAreShort, RunsOfProgramsAreShort};

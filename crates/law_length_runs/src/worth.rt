@@ -1,5 +1,4 @@
 //! How long a run gets.
-//! Laws of how long a run gets.
 
 ghost use Rattle.law_length_runs.specs.worth.Driving.{DrivenMoveFew, DrivenRunsAreShort};
 ghost use Rattle.law_length_runs.specs.worth.Spending.{EventsSpend, RunsAreShort, StartsWithLittle};

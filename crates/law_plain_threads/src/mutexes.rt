@@ -1,5 +1,4 @@
 //! A plain step at a mutex keeps a state typed, for running terms and code alike.
-//! Laws of the typing of acts at mutexes.
 
 ghost use Rattle.law_plain_values.specs.acts.Keeps.{Keeps, KeepsNamed, KeepsUnlessWaiting};
 ghost use Rattle.law_plain_threads.specs.mutexes.Example.{DupIsReady, LockIsReady, MakeIsReady, UnlockIsReady};

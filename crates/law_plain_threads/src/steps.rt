@@ -1,5 +1,4 @@
 //! A plain step of typed code keeps the state typed, whatever instruction it is, and no thread is stuck.
-//! Laws of plain steps.
 
 ghost use Rattle.law_plain_threads.specs.steps.Machines.{TermsKeepTypes};
 ghost use Rattle.law_plain_threads.specs.steps.Steps.{ExamplesNeverStuck, NeverStuck, ProgramsNeverStuck, RunsKeepTypes, ShownStepsKeepTypes, StartsTyped, StepsKeepTypes};

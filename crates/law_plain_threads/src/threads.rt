@@ -1,5 +1,4 @@
 //! A plain step that starts, ends or joins threads keeps a state typed, for running terms and code alike.
-//! Laws of the typing of acts that start, end and join threads.
 
 ghost use Rattle.law_plain_values.specs.acts.Keeps.{KeepsNamed, KeepsUnlessWaiting};
 ghost use Rattle.law_plain_threads.specs.threads.Example.{FinishIsReady, JoinIsReady, ParEndIsReady, ParIsReady, StartIsReady};

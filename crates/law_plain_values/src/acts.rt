@@ -1,5 +1,4 @@
 //! A plain step keeps a state typed, act by act, for running terms and code alike.
-//! Laws of the typing of acts.
 
 ghost use Rattle.law_plain_values.specs.acts.CodeRows.{EndsHaveRows, InstructionsHaveRows};
 ghost use Rattle.law_plain_values.specs.acts.Example.{LetIsReady, PrintIsReady};

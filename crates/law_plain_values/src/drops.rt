@@ -1,5 +1,4 @@
 //! A drop keeps a state typed, for running terms and code alike.
-//! Laws of drops.
 
 ghost use Rattle.law_plain_values.specs.drops.DropActs.{EndKeeps, IsAssign, IsDiscard, IsDrop};
 ghost use Rattle.law_plain_values.specs.drops.Drops.{DropKeeps};

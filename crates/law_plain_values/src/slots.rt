@@ -1,5 +1,4 @@
 //! A plain step that moves or boxes a value keeps a state typed, for running terms and code alike.
-//! Laws of the typing of acts that change slots, or make an object.
 
 ghost use Rattle.law_plain_values.specs.acts.Keeps.{Keeps};
 ghost use Rattle.law_plain_values.specs.slots.Example.{BoxIsReady, MoveIsReady};

@@ -1,5 +1,4 @@
 //! That each enabled event of a coherent cluster has a result.
-//! That an enabled event has a result.
 
 ghost use Rattle.law_results_events.specs.enabled.Events.{EventsHaveResults};
 ghost use Rattle.law_results_events.specs.Below.law_counts_sums.Kinds.{step_par, step_spawn};

@@ -1,5 +1,4 @@
 //! That an enabled step has a result that writes through a place or ends a mutable reference.
-//! That a step that writes through a place, or ends a mutable reference, has a result.
 
 ghost use Rattle.law_results_reads.specs.Below.law_counts_sums.Kinds.{step_assign, step_discard, step_drop_slot, step_read};
 ghost use Rattle.law_results_reads.specs.Results.{Anyhow, StepsHaveResults};

@@ -1,5 +1,4 @@
 //! What each event of a coherent cluster keeps, with all laws of events together.
-//! What each event keeps, all sentences together.
 
 ghost use Rattle.law_runs_coherent.specs.events.Coherence.{EventsKeepCoherence};
 ghost use Rattle.law_runs_coherent.specs.events.Copies.{EventsKeepCopies};

@@ -1,5 +1,4 @@
 //! The start of a run is coherent.
-//! Laws of starts.
 
 ghost use Rattle.law_runs_coherent.specs.starts.Starts.{StartsAreCoherent};
 

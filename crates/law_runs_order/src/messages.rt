@@ -1,5 +1,4 @@
 //! Coherence depends on no order in which messages wait.
-//! Laws of clusters that are the same but for the order in which messages wait.
 
 ghost use Rattle.law_runs_order.specs.messages.Laws.{CoherentInAnyOrder, ThingsInAnyOrder};
 

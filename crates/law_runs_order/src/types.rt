@@ -1,5 +1,4 @@
 //! A cluster is coherent, and stands for the same one heap, in whatever order its things stand, so in whatever order its messages wait.
-//! Laws of clusters with the same things.
 
 ghost use Rattle.law_runs_order.specs.types.Laws.{CoherentWithSameThings, OneHeapWithSameThings};
 

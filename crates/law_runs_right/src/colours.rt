@@ -1,5 +1,4 @@
 //! A cluster stands for the same coloured heaps in whatever order its things stand, so in whatever order its messages wait.
-//! Laws of clusters with the same things.
 
 ghost use Rattle.law_runs_right.specs.colours.Laws.{ColouredWithSameThings};
 

@@ -1,5 +1,4 @@
 //! What is said of a cluster to which a run leads depends on no order in which messages wait.
-//! Laws of what a run leads to.
 
 ghost use Rattle.law_runs_right.specs.order.Laws.{LeftInAnyOrder, RightInAnyOrder};
 

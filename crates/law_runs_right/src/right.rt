@@ -1,5 +1,4 @@
 //! Laws of runs in rounds of typed programs.
-//! Laws of runs in rounds of typed programs.
 
 ghost use Rattle.law_runs_right.specs.right.Right.{RunsInRoundsAreRight};
 

@@ -1,5 +1,4 @@
 //! Runs in rounds don't depend on the room of lists in their code.
-//! The law of runs of codes that differ in the room of their lists.
 
 ghost use Rattle.law_runs_rounds.specs.room.Rooms.{RunsAreOne, RunsKnowNoRoom};
 

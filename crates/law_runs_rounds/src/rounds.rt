@@ -1,5 +1,4 @@
 //! Runs in rounds are runs of events: each round has a result, its journal is one of events one after another, and the run ends.
-//! Laws of runs in rounds.
 
 ghost use Rattle.law_runs_rounds.specs.rounds.UnderWay.{BalancesCanMove, BalancesGoOn, EndsAreExact, RoundsEnd, RoundsGoOn, RoundsGrow, ServersCanWork, StartsAreUnderWay};
 

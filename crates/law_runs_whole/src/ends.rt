@@ -1,5 +1,4 @@
 //! How a cluster ends: one that goes on can go on, and of one that is finished nothing is left.
-//! Laws of how a cluster ends.
 
 ghost use Rattle.law_runs_whole.specs.ends.Going.{CanIsGoing, GoingCan};
 ghost use Rattle.law_runs_whole.specs.ends.Left.{FinishedIsEmpty};

@@ -1,5 +1,4 @@
 //! Runs go on until they have ended: a step or a delivery has a result wherever a run comes to a cluster that is going.
-//! Laws of runs that go on.
 
 ghost use Rattle.law_runs_whole.specs.going.Going.{GoingHasResult, OutboxesStayEmpty, RunsGoOn};
 

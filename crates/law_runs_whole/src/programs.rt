@@ -1,5 +1,4 @@
 //! Whole runs of programs on servers.
-//! What whole runs of programs on servers are.
 
 ghost use Rattle.law_runs_whole.specs.programs.Programs.{ProgramsAreLeft, ProgramsRunRight};
 

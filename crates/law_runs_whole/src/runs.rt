@@ -1,5 +1,4 @@
-//! Runs of events: where each event keeps a cluster coherent, so does each run from a start, and its plain steps are those of the code over one heap. There is no code here: a law is the contract of a function with an empty body.
-//! Laws of runs.
+//! Runs of events: where each event keeps a cluster coherent, so does each run from a start, and its plain steps are those of the code over one heap.
 
 ghost use Rattle.law_runs_whole.specs.runs.Runs.{RunsAreLeft, RunsLead, UndoneUnlabelled};
 

@@ -1,5 +1,4 @@
 //! What threads wait for.
-//! What a thread waits for in a cluster and on the plain machine, and where the program's own terms stand.
 
 ghost use Rattle.law_runs_whole.specs.waits.Waits.{JoinsWait, PairsWait, RestingWaitNot};
 ghost use Rattle.law_runs_whole.specs.waits.Locks.{DeadlocksAgree, LocksWait};

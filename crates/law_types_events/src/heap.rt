@@ -1,5 +1,4 @@
 //! Each event keeps the types of the one heap.
-//! Laws of the types of the one heap after events.
 
 ghost use Rattle.law_types_events.specs.heap.States.{EventsKeepNames, EventsKeepState};
 

@@ -1,5 +1,4 @@
 //! Each event keeps the holders of mutable references.
-//! The law of the holders of mutable references after events.
 
 ghost use Rattle.law_types_events.specs.holders.Holders.{EventsKeepHolders};
 

@@ -1,5 +1,4 @@
 //! What is outside the one heap agrees with the types of its names after each plain step.
-//! The law of what is outside the one heap after a plain step.
 
 ghost use Rattle.law_types_events.specs.outside.Outside.{StepsAgree, StepsFitOutside};
 

@@ -1,5 +1,4 @@
 //! What each event keeps of the types of a server's parts.
-//! What the types of the servers' parts keep.
 
 ghost use Rattle.law_counts_limits.specs.Below.coherent_memory.Coherent.{parts_are_typed};
 ghost use Rattle.law_counts_limits.specs.Below.law_counts_things.things.Laws.{EachEventKeeps};

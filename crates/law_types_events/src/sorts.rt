@@ -1,5 +1,4 @@
 //! Each event keeps the sorts of values, and what parents see of views.
-//! Laws of the sorts of values, and of views, after events.
 
 ghost use Rattle.law_types_events.specs.sorts.Sorts.{EventsKeepSorts, EventsKeepViews};
 

@@ -1,5 +1,4 @@
 //! What stands in a typed one heap agrees with the types of its names.
-//! The law of what stands in the one heap.
 
 ghost use Rattle.law_types_still.specs.fits.Fits.{SoundStandOnce, TypedHeapsFit, MisfitsFollow};
 

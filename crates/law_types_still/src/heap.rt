@@ -1,5 +1,4 @@
 //! What a typed one heap says of its cluster.
-//! Laws of the types of the one heap.
 
 ghost use Rattle.law_types_still.specs.heap.Counted.{TypedHeapsCount, TypesFollow};
 ghost use Rattle.law_types_still.specs.heap.Shown.{HeapsAreWhole};

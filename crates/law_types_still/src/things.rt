@@ -1,5 +1,4 @@
 //! What stands in a cluster keeps its types where no plain step is done.
-//! Laws of types where no plain step is done.
 
 ghost use Rattle.law_types_still.specs.things.Agrees.{UndoneKeepsCoherence, UndoneKeepsTypes};
 

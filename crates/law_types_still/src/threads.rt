@@ -1,5 +1,4 @@
 //! What types say of threads stays where no plain step is done.
-//! The law of what types say of threads.
 
 ghost use Rattle.law_types_still.specs.threads.Threads.{UndoneKeepsThreadTypes};
 

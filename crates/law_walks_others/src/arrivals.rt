@@ -1,5 +1,4 @@
 //! What other threads have passed, followed, taken and wait for where an object comes.
-//! What other threads have passed, followed, taken and wait for where an object comes.
 
 ghost use Rattle.law_counts_waiting.specs.Below.coherent_memory.Coherent.{passed_lie_here, place_followed, waits_in_turn};
 ghost use Rattle.law_counts_waiting.specs.Below.coherent_memory.Requests.{old_word};

@@ -1,5 +1,4 @@
-//! What an event leaves of the pointers that threads follow: the pointers on the way of each thread but the one that steps have the words that they had. There is no code here: a law is the contract of a function with an empty body.
-//! What an event leaves of the pointers that threads follow.
+//! What an event leaves of the pointers that threads follow: the pointers on the way of each thread but the one that steps have the words that they had.
 
 ghost use Rattle.std.specs.Prelude.{ℕ};
 ghost use Rattle.law_words_values.specs.Below.fr_base.declared.name.ObjNo.{ObjNo};

@@ -1,5 +1,4 @@
 //! What an event that is no step leaves of what threads have passed, followed and wait for.
-//! What an event that is no step leaves of what threads have passed, followed and wait for.
 
 ghost use Rattle.law_walks_others.specs.Below.coherent_memory.Coherent.{passed_lie_here, place_followed, waits_in_turn};
 ghost use Rattle.law_walks_others.specs.still.Deliveries.{EachSuchEventKeeps};

@@ -1,5 +1,4 @@
 //! Boxes that writes have passed have no copies after each event.
-//! What each event keeps of boxes that writes have passed.
 
 ghost use Rattle.law_copies_kept.specs.Below.coherent_memory.Coherent.{passed_not_copied};
 ghost use Rattle.law_copies_kept.specs.Below.coherent_memory.Walking.{copied_box, over_passed};

@@ -1,5 +1,4 @@
 //! What a step leaves of the walk of its own thread: what it has passed lies at its server, what it has followed is at hand, and it waits in turn.
-//! What a step leaves of the walk of its own thread.
 
 ghost use Rattle.law_walks_others.specs.Below.coherent_memory.Coherent.{passed_lie_here, place_followed, waits_in_turn};
 ghost use Rattle.law_walks_others.specs.Below.coherent_memory.Walking.{away, lost_place, out_of_turn, over_passed};

@@ -1,5 +1,4 @@
 //! What threads have taken, and what they have passed, after each event.
-//! What each event keeps of objects that threads have taken.
 
 ghost use Rattle.law_words_ends.specs.Below.coherent_memory.Coherent.{taken_is_new, taken_stands};
 ghost use Rattle.law_words_ends.specs.Below.law_counts_things.things.Laws.{EachCoherentEventKeeps};

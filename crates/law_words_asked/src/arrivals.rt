@@ -1,5 +1,4 @@
 //! The words of an object where it comes to another server.
-//! Laws of words where an object comes.
 
 ghost use Rattle.law_words_asked.specs.arrivals.Arrivals.{ArrivalsReword};
 ghost use Rattle.law_words_asked.specs.arrivals.Awaited.{ArrivalsAwaited};

@@ -1,5 +1,4 @@
 //! The words of objects where one comes to the thread that waits for it.
-//! Laws of words where an object comes to the thread that waits for it.
 
 ghost use Rattle.law_words_asked.specs.awaited.BorrowArrivals.{BorrowArrivalsKeep};
 ghost use Rattle.law_words_asked.specs.awaited.EndArrivals.{EndArrivalsKeep};

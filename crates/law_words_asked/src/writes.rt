@@ -1,5 +1,4 @@
 //! The words of objects where a step writes through a place.
-//! Laws of steps that write through stars.
 
 ghost use Rattle.law_words_asked.specs.writes.Writing.{WritesThatAsk};
 

@@ -1,5 +1,4 @@
 //! The words of objects where one comes back to the end of a reference, and after each event.
-//! Laws of words where an object comes to the end of a mutable reference, and of each event.
 
 ghost use Rattle.law_words_ends.specs.arrivals.Events.{EventsKeepWords, WordsRiseAlways};
 ghost use Rattle.law_words_ends.specs.arrivals.Regained.{ArrivalsKeep, EndsRegain};

@@ -1,5 +1,4 @@
 //! The words of objects where a mutable reference ends whose holder stands behind stars.
-//! Laws of words where a reference ends whose holder stands behind stars, and of each instruction with which values go.
 
 ghost use Rattle.law_words_ends.specs.stars.Returned.{EndsKeepWords};
 ghost use Rattle.law_words_ends.specs.stars.Each.{DiscardsKeepWords, DropsKeepWords, AssignmentsKeepWords, MovesKeepWords};

@@ -1,5 +1,4 @@
 //! The words of objects where a mutable reference ends.
-//! Laws of words where a mutable reference ends.
 
 ghost use Rattle.law_words_ends.specs.variables.Ends.{EndsAtHandLeaveWords, FlatEndsKeep};
 

@@ -1,5 +1,4 @@
 //! Different live objects have different words, after each event.
-//! The law of different words.
 
 ghost use Rattle.law_words_issued.specs.apart.Words.{ObjectsStayApart};
 

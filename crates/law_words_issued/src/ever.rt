@@ -1,5 +1,4 @@
 //! Words that stand after each event of a coherent cluster.
-//! The law of words that stand.
 
 ghost use Rattle.law_words_issued.specs.ever.Issued.{EachEventIssues};
 ghost use Rattle.law_words_issued.specs.ever.Standing.{EventsIssueWords, IssuedFollows};

@@ -1,5 +1,4 @@
 //! Old words that an event leaves: first words of references, and words of pointers from which objects were taken.
-//! Laws of words that stand.
 
 ghost use Rattle.law_words_issued.specs.old.Old.{ArrivalsLeaveFirstWords, StepsLeaveFirstWords};
 

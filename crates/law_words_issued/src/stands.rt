@@ -1,5 +1,4 @@
 //! Each word that stands anywhere was issued.
-//! Laws of issued words.
 
 ghost use Rattle.law_walks_own.specs.Below.coherent_memory.Coherent.{are_issued};
 ghost use Rattle.law_words_issued.specs.stands.Issuing.{DeliveriesKeepIssued, StepsKeepIssued};

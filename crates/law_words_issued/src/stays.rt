@@ -1,5 +1,4 @@
 //! What was issued stays issued, after each step.
-//! Laws of words that stand.
 
 ghost use Rattle.law_words_issued.specs.stays.Issued.{BoxesKeepWhatWasIssued, CopiesHaveOldWords, StepsKeepWhatWasIssued};
 

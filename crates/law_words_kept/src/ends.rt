@@ -1,5 +1,4 @@
 //! Who else points to what a thread ends, drops or writes through in a coherent cluster.
-//! Laws of what ends.
 
 ghost use Rattle.law_words_kept.specs.ends.Dropped.{GivenUpMayBe, OwnedAreAlone};
 ghost use Rattle.law_words_kept.specs.ends.Example.{WritesApply};

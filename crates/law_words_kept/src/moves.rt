@@ -1,5 +1,4 @@
 //! Events in which an object moves or a reference ends, and how the words of objects go on there.
-//! Laws of words where an object moves, or a mutable reference ends.
 
 ghost use Rattle.law_words_kept.specs.moves.Ended.{EndsLeaveWords};
 ghost use Rattle.law_words_kept.specs.moves.Example.{EndsApply};

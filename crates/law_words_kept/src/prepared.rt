@@ -1,5 +1,4 @@
 //! The words of objects where a step reads and where it ends in a request.
-//! Laws of steps that end in a request.
 
 ghost use Rattle.law_words_kept.specs.prepared.Requests.{CopiesKeep, DupsKeep, ReadsThatAsk};
 

@@ -1,5 +1,4 @@
 //! What a thread reads.
-//! Laws of what a thread reads.
 
 ghost use Rattle.law_words_kept.specs.reads.Reading.{MayReadThere, ReadAreFresh, ReadLieThere};
 

@@ -1,5 +1,4 @@
 //! Events in which each object keeps its word.
-//! Laws of events that leave words.
 
 ghost use Rattle.law_counts_sums.specs.Kinds.{arrives, asks_dup, asks_join, asks_lock, dupped, evicts, fetch, fetched, finished, granted, joined, migrates, released, starts, step_arith, step_join, step_par_end, step_print, unlocked};
 ghost use Rattle.law_words_kept.specs.stays.Laws.{LeaveWords, LeaveWordsUndone, VariableBorrowsLeaveWords};

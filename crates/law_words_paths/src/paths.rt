@@ -1,5 +1,4 @@
 //! Where the places of threads lead in a coherent cluster and in its one heap, and who else points to what a thread writes.
-//! Laws of places.
 
 ghost use Rattle.law_words_paths.specs.paths.Above.{SolePointer};
 ghost use Rattle.law_words_paths.specs.paths.Example.{PlacesApply};

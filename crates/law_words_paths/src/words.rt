@@ -1,5 +1,4 @@
 //! How the words of objects go on where one of them changes.
-//! Laws of words.
 
 ghost use Rattle.law_words_paths.specs.words.Example.{WordsApply};
 ghost use Rattle.law_words_paths.specs.words.OneMore.{OneMoreStays};

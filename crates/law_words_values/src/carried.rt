@@ -1,5 +1,4 @@
 //! The words of objects where a value goes from one place to another.
-//! Laws of words where a value goes from one place to another.
 
 ghost use Rattle.law_words_values.specs.carried.Carried.{CarriedStays};
 ghost use Rattle.law_words_values.specs.carried.Leaving.{MovesLeave};

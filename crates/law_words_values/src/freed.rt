@@ -1,5 +1,4 @@
 //! The words of objects where an object goes.
-//! Laws of words where an object goes.
 
 ghost use Rattle.law_words_values.specs.freed.Drops.{DropsLeave};
 ghost use Rattle.law_words_values.specs.freed.Freed.{FreedLeaves};

@@ -1,5 +1,4 @@
 //! The words of objects where a step makes one, and that different objects have different words.
-//! Laws of words where an object is made.
 
 ghost use Rattle.law_words_values.specs.made.Apart.{NewApart, StayApart, WordsTell};
 ghost use Rattle.law_words_values.specs.made.Boxes.{BoxesKeep};

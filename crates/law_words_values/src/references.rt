@@ -1,5 +1,4 @@
 //! The words of objects where a reference goes.
-//! Laws of words where a reference goes.
 
 ghost use Rattle.law_words_values.specs.references.Fewer.{FewerStays, RankedAreFresh, TypesRank};
 ghost use Rattle.law_words_values.specs.references.Gone.{ReferencesGo};
