@@ -1,153 +1,142 @@
 //! Environments that are built slot by slot.
 
-use crate::slots::Step::{
-    Blocked, Boxed, Chain, Copy, Either, Held, Is, Lend, Levels, Links, Number, Other, Path, Pop,
-    Put, Same, Share, Take, ToGone, ToNumber, ToShared, ToUnit,
-};
-use crate::slots::{Step, run};
+use crate::slots::answer;
+use fr_base::NoMemory;
 use fr_types::Env;
+use std::alloc::Global;
 use std::test::Fail;
 
-const LOANS_COME_AND_GO: [Step; 11] = [
-    Number,
-    Number,
-    Lend(0, 0),
-    Share(1, 0),
-    Blocked(0, true, true),
-    Blocked(1, false, true),
-    ToGone(2, 1, 0),
-    Blocked(0, false, false),
-    Blocked(1, false, true),
-    Pop,
-    Blocked(1, false, false),
-];
+// Cases, each from an environment without slots. A row is a change, or a question with its answer; slots count from 0, and each is
+// followed by its stars.
+const CASES: &str = "\
+# loans come and go
+number
+number
+lend 0 0
+share 1 0
+blocked 0|true true
+blocked 1|false true
+set-gone 2 0 1 0
+blocked 0|false false
+blocked 1|false true
+pop
+blocked 1|false false
+# a write goes through mutable references
+box
+lend 0 0
+lend 1 1
+lend 2 1
+kind 3 1|box
+kind 3 2|number
+path 3 2|true false true
+path 3 1|true false true
+path 0 1|true true false
+kind 3 3|no target
+# a borrowed slot may lead elsewhere
+number
+box
+share 0 0
+share 2 0
+share 3 2
+kind 4 1|number
+set-share 2 0 1 0
+kind 4 1|box
+kind 3 3|number
+set-number 2
+kind 4 1|no target
+# several places of a slot lend it once
+number
+box
+either 0 0 1 1
+either 1 0 1 1
+kind 2 1|number
+kind 3 1|no target
+copy
+blocked 0|false true
+blocked 1|false true
+pop
+blocked 1|false true
+pop
+blocked 0|false false
+blocked 1|false false
+# references to two shapes have no join
+number
+number
+box
+share 0 0
+share 1 0
+share 2 0
+either 3 0 4 0
+either 3 0 5 0
+kind 6 2|number
+kind 7 1|no target
+set-unit 1
+kind 6 1|no target
+set-number 1
+kind 6 2|number
+kind 7 1|no target
+# a slot that changes its shape is compared
+number
+number
+share 0 0
+mutex
+same 0 0 1 0|true
+same 3 0 3 0|true
+same 3 0 0 0|false
+set-unit 0
+same 0 0 1 0|false
+same 0 0 2 1|true
+same 1 0 2 1|false
+# a box is left and filled
+box
+take 0 1
+kind 0 1|gone
+kind 0 2|not defined
+copy
+put 0 1
+kind 0 0|box
+kind 0 1|number
+# a long chain is no long way
+number
+share 0 0
+chain 49999 1
+links 50000|true
+path 50000 1|false false false
+blocked 49999|false true
+blocked 50000|false false
+chain 40 0
+set-unit 0
+same 1 0 50000 0|true
+same 50000 1 50000 0|false
+same 50040 40 1 0|true
+same 50040 41 0 0|true
+same 50040 42 0 0|false
+same 50040 0 50039 0|false
+# references to references are told apart
+number
+chain 20000 0
+levels 20000|true
+";
 
-const A_WRITE_GOES_THROUGH_MUTABLE_REFERENCES: [Step; 10] = [
-    Boxed,
-    Lend(0, 0),
-    Lend(1, 1),
-    Lend(2, 1),
-    Is(3, 1, "box"),
-    Is(3, 2, "number"),
-    Path(3, 2, true, false, true),
-    Path(3, 1, true, false, true),
-    Path(0, 1, true, true, false),
-    Is(3, 3, "no target"),
-];
-
-const A_BORROWED_SLOT_MAY_LEAD_ELSEWHERE: [Step; 11] = [
-    Number,
-    Boxed,
-    Share(0, 0),
-    Share(2, 0),
-    Share(3, 2),
-    Is(4, 1, "number"),
-    ToShared(2, 1, 0),
-    Is(4, 1, "box"),
-    Is(3, 3, "number"),
-    ToNumber(2),
-    Is(4, 1, "no target"),
-];
-
-const SEVERAL_PLACES_OF_A_SLOT_LEND_IT_ONCE: [Step; 14] = [
-    Number,
-    Boxed,
-    Either(0, 0, 1, 1),
-    Either(1, 0, 1, 1),
-    Is(2, 1, "number"),
-    Is(3, 1, "no target"),
-    Copy,
-    Blocked(0, false, true),
-    Blocked(1, false, true),
-    Pop,
-    Blocked(1, false, true),
-    Pop,
-    Blocked(0, false, false),
-    Blocked(1, false, false),
-];
-
-const REFERENCES_TO_TWO_SHAPES_HAVE_NO_JOIN: [Step; 15] = [
-    Number,
-    Number,
-    Boxed,
-    Share(0, 0),
-    Share(1, 0),
-    Share(2, 0),
-    Either(3, 0, 4, 0),
-    Either(3, 0, 5, 0),
-    Is(6, 2, "number"),
-    Is(7, 1, "no target"),
-    ToUnit(1),
-    Is(6, 1, "no target"),
-    ToNumber(1),
-    Is(6, 2, "number"),
-    Is(7, 1, "no target"),
-];
-
-const A_SLOT_THAT_CHANGES_ITS_SHAPE_IS_COMPARED: [Step; 11] = [
-    Number,
-    Number,
-    Share(0, 0),
-    Held,
-    Same(0, 0, 1, 0),
-    Same(3, 0, 3, 0),
-    Other(3, 0, 0, 0),
-    ToUnit(0),
-    Other(0, 0, 1, 0),
-    Same(0, 0, 2, 1),
-    Other(1, 0, 2, 1),
-];
-
-const A_BOX_IS_LEFT_AND_FILLED: [Step; 8] = [
-    Boxed,
-    Take(0, 1),
-    Is(0, 1, "gone"),
-    Is(0, 2, "not defined"),
-    Copy,
-    Put(0, 1),
-    Is(0, 0, "box"),
-    Is(0, 1, "number"),
-];
-
-const A_LONG_CHAIN_IS_NO_LONG_WAY: [Step; 15] = [
-    Number,
-    Share(0, 0),
-    Chain(49_999, 1),
-    Links(50_000),
-    Path(50_000, 1, false, false, false),
-    Blocked(49_999, false, true),
-    Blocked(50_000, false, false),
-    Chain(40, 0),
-    ToUnit(0),
-    Same(1, 0, 50_000, 0),
-    Other(50_000, 1, 50_000, 0),
-    Same(50_040, 40, 1, 0),
-    Same(50_040, 41, 0, 0),
-    Other(50_040, 42, 0, 0),
-    Other(50_040, 0, 50_039, 0),
-];
-
-const REFERENCES_TO_REFERENCES_ARE_TOLD_APART: [Step; 3] = [
-    Number,
-    Chain(20_000, 0),
-    Levels(20_000),
-];
+// The first row that is answered otherwise.
+fn first_wrong(alloc: Global) -> Result<Option<&'static str>, NoMemory> {
+    let mut env = Env::new(alloc);
+    for row in CASES.lines() {
+        if row.starts_with('#') {
+            env = Env::new(alloc);
+            continue;
+        }
+        let (call, want) = row.split_once('|').unwrap_or((row, ""));
+        if answer(alloc, &mut env, call)?.as_str() != want {
+            return Ok(Some(row));
+        }
+    }
+    Ok(None)
+}
 
 #[test]
 fn environments(rt: HostRuntime) -> Result<(), Fail> {
-    for steps in [
-        LOANS_COME_AND_GO.as_slice(),
-        A_WRITE_GOES_THROUGH_MUTABLE_REFERENCES.as_slice(),
-        A_BORROWED_SLOT_MAY_LEAD_ELSEWHERE.as_slice(),
-        SEVERAL_PLACES_OF_A_SLOT_LEND_IT_ONCE.as_slice(),
-        REFERENCES_TO_TWO_SHAPES_HAVE_NO_JOIN.as_slice(),
-        A_SLOT_THAT_CHANGES_ITS_SHAPE_IS_COMPARED.as_slice(),
-        A_BOX_IS_LEFT_AND_FILLED.as_slice(),
-        A_LONG_CHAIN_IS_NO_LONG_WAY.as_slice(),
-        REFERENCES_TO_REFERENCES_ARE_TOLD_APART.as_slice(),
-    ] {
-        let mut env = Env::new(rt.alloc());
-        run(&rt, rt.alloc(), &mut env, steps)?;
-    }
+    let wrong = first_wrong(rt.alloc())?;
+    assert_eq!(rt; wrong, None);
     Ok(())
 }

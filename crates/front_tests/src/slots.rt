@@ -1,4 +1,4 @@
-//! What the lines of a case do to the slots of an environment, and what they want of them.
+//! What the rows of a case do to the slots of an environment, and what they ask of them.
 
 ghost use Rattle.std.specs.Prelude.{◌≡◌};
 
@@ -8,121 +8,115 @@ use fr_types::{
     same_shape,
 };
 use std::alloc::Global;
-use std::process::Abort;
-use std::test::Fail;
 
 // The most slots that an environment has.
 const MOST: u32 = 268_435_456;
 
-/// A line of a case. A place is a slot and its stars.
+// A row: a word, and up to two places. A place is a slot and its stars; where a word takes less, the rest says nothing.
 #[derive(Clone, Copy)]
-pub enum Step {
-    /// One more slot: with a number, with a box with a number, or with a mutex with a box with a number.
-    Number,
-    Boxed,
-    Held,
-    /// One more slot: with a shared reference to the place, with a mutable one, or with a shared one to either place.
-    Share(u32, u8),
-    Lend(u32, u8),
-    Either(u32, u8, u32, u8),
-    /// So many slots more, each with a shared reference to the one before, with so many stars.
-    Chain(u32, u8),
-    /// The last slot goes.
-    Pop,
-    /// The slots are those of a copy.
-    Copy,
-    /// Another part at the slot: a unit, a number, a shared reference to the place, or a mutable one that is gone.
-    ToUnit(u32),
-    ToNumber(u32),
-    ToShared(u32, u32, u8),
-    ToGone(u32, u32, u8),
-    /// The number at the place moves away, or one comes.
-    Take(u32, u8),
-    Put(u32, u8),
-    /// This stands at the place.
-    Is(u32, u8, &'static str),
-    /// Whether reads of the slot are blocked, and whether writes are.
-    Blocked(u32, bool, bool),
-    /// Whether the place is writable, whether its path is its own, and whether it goes through a mutable reference.
-    Path(u32, u8, bool, bool, bool),
-    /// References to both places have one shape; they have two.
-    Same(u32, u8, u32, u8),
-    Other(u32, u8, u32, u8),
-    /// Each slot from 1 to this one leads to a number with one star, and all but the last have its shape.
-    Links(u32),
-    /// Each slot up to this one has another shape than the one before, and leads to it.
-    Levels(u32),
+struct Row<'a> {
+    word: &'a str,
+    first: Lval,
+    second: Lval,
 }
 
-/// Takes the lines of a case in order.
-pub fn run<R: Abort>(rt: &R, alloc: Global, env: &mut Env, steps: &[Step]) -> Result<(), Fail> {
-    for step in steps {
-        take(rt, alloc, env, *step)?;
-    }
-    Ok(())
+// The place that a text begins with, and what is behind it.
+fn place_of(text: &str) -> (Lval, &str) {
+    let (slot, rest) = text.split_once(' ').unwrap_or((text, ""));
+    let (depth, rest) = rest.split_once(' ').unwrap_or((rest, ""));
+    let slot = slot.parse::<u32>().unwrap_or(MOST);
+    let depth = depth.parse::<u8>().unwrap_or(0);
+    (Lval { slot, depth }, rest)
 }
 
-// Takes one line.
-fn take<R: Abort>(rt: &R, alloc: Global, env: &mut Env, step: Step) -> Result<(), Fail> {
-    match step {
-        Step::Number => number(env)?,
-        Step::Boxed => boxed(env)?,
-        Step::Held => held(alloc, env)?,
-        Step::Share(slot, depth) => share(alloc, env, at(slot, depth))?,
-        Step::Lend(slot, depth) => lend(alloc, env, at(slot, depth))?,
-        Step::Either(slot, depth, other, stars) => either(
-            alloc,
-            env,
-            at(slot, depth),
-            at(other, stars),
-        )?,
-        Step::Chain(count, depth) => chain(alloc, env, count, depth)?,
-        Step::Pop => assert!(rt; env.pop().is_some()),
-        Step::Copy => copy(alloc, env)?,
-        step => change(rt, alloc, env, step)?,
+fn row_of(text: &str) -> Row<'_> {
+    let (word, rest) = text.split_once(' ').unwrap_or((text, ""));
+    let (first, rest) = place_of(rest);
+    let (second, _) = place_of(rest);
+    Row {
+        word,
+        first,
+        second,
     }
-    Ok(())
 }
 
-// Takes a line that changes a slot.
-fn change<R: Abort>(rt: &R, alloc: Global, env: &mut Env, step: Step) -> Result<(), Fail> {
-    match step {
-        Step::ToUnit(slot) => set_unit(env, slot)?,
-        Step::ToNumber(slot) => set_number(env, slot)?,
-        Step::ToShared(slot, to, depth) => set_shared(alloc, env, slot, at(to, depth))?,
-        Step::ToGone(slot, to, depth) => set_gone(alloc, env, slot, at(to, depth))?,
-        Step::Take(slot, depth) => take_away(alloc, env, at(slot, depth))?,
-        Step::Put(slot, depth) => put(alloc, env, at(slot, depth))?,
-        step => ask(rt, alloc, env, step)?,
+/// What the environment answers to the row, which may change it; a change has no answer.
+pub fn answer(alloc: Global, env: &mut Env, text: &str) -> Result<String, NoMemory> {
+    let row = row_of(text);
+    if is_added(alloc, env, row)? || is_changed(alloc, env, row)? {
+        return Ok(String::new(alloc));
     }
-    Ok(())
+    asked(alloc, env, row)
 }
 
-// Takes a line that wants something.
-fn ask<R: Abort>(rt: &R, alloc: Global, env: &Env, step: Step) -> Result<(), Fail> {
-    match step {
-        Step::Is(slot, depth, want) => assert_eq!(rt; kind(alloc, env, at(slot, depth))?, want),
-        Step::Blocked(slot, reads, writes) => {
-            assert_eq!(rt; env.read_blocked(slot), reads);
-            assert_eq!(rt; env.write_blocked(slot), writes);
-        }
-        Step::Path(slot, depth, writable, own, mutable) => {
-            assert_eq!(rt;
-                path(alloc, env, at(slot, depth))?,
-                (writable, own, mutable)
-            );
-        }
-        Step::Same(slot, depth, other, stars) => {
-            assert!(rt; same(alloc, env, at(slot, depth), at(other, stars))?);
-        }
-        Step::Other(slot, depth, other, stars) => {
-            assert!(rt; !same(alloc, env, at(slot, depth), at(other, stars))?);
-        }
-        Step::Links(last) => links(rt, alloc, env, last)?,
-        Step::Levels(last) => levels(rt, alloc, env, last)?,
-        _ => panic!(rt; "no such line"),
+// Whether the row adds slots or takes one away, which is done then.
+fn is_added(alloc: Global, env: &mut Env, row: Row<'_>) -> Result<bool, NoMemory> {
+    let Row {
+        word,
+        first,
+        second,
+    } = row;
+    match word {
+        "number" => number(env)?,
+        "box" => boxed(env)?,
+        "mutex" => held(alloc, env)?,
+        "share" => share(alloc, env, first)?,
+        "lend" => lend(alloc, env, first)?,
+        "either" => either(alloc, env, first, second)?,
+        "chain" => chain(alloc, env, first.slot, first.depth)?,
+        "pop" => pop(env)?,
+        "copy" => copy(alloc, env)?,
+        _ => return Ok(false),
     }
-    Ok(())
+    Ok(true)
+}
+
+// Whether the row changes a slot, which is done then.
+fn is_changed(alloc: Global, env: &mut Env, row: Row<'_>) -> Result<bool, NoMemory> {
+    let Row {
+        word,
+        first,
+        second,
+    } = row;
+    match word {
+        "set-unit" => set_unit(env, first.slot)?,
+        "set-number" => set_number(env, first.slot)?,
+        "set-share" => set_shared(alloc, env, first.slot, second)?,
+        "set-gone" => set_gone(alloc, env, first.slot, second)?,
+        "take" => take_away(alloc, env, first)?,
+        "put" => put(alloc, env, first)?,
+        _ => return Ok(false),
+    }
+    Ok(true)
+}
+
+// What stands at a place; whether reads and writes of a slot are blocked; whether a place is writable, whether its path is its own,
+// and whether it goes through a mutable reference; whether references to two places have one shape; whether the slots are a chain.
+fn asked(alloc: Global, env: &Env, row: Row<'_>) -> Result<String, NoMemory> {
+    let Row {
+        word,
+        first,
+        second,
+    } = row;
+    match word {
+        "kind" => Ok(String::from_str(alloc, kind(alloc, env, first)?)?),
+        "blocked" => {
+            let (reads, writes) = (env.read_blocked(first.slot), env.write_blocked(first.slot));
+            Ok(format!(in alloc; "{reads} {writes}")?)
+        }
+        "path" => {
+            let (writable, own, mutable) = path(alloc, env, first)?;
+            Ok(format!(in alloc; "{writable} {own} {mutable}")?)
+        }
+        "same" => told(alloc, same(alloc, env, first, second)?),
+        "links" => told(alloc, are_links(alloc, env, first.slot)?),
+        "levels" => told(alloc, are_levels(alloc, env, first.slot)?),
+        _ => Ok(String::from_str(alloc, "no such row")?),
+    }
+}
+
+fn told(alloc: Global, is_so: bool) -> Result<String, NoMemory> {
+    Ok(String::from_str(alloc, if is_so { "true" } else { "false" })?)
 }
 
 fn at(slot: u32, depth: u8) -> Lval
@@ -188,6 +182,13 @@ fn chain(alloc: Global, env: &mut Env, count: u32, depth: u8) -> Result<(), NoMe
         share(alloc, env, at(len - 1, depth))?;
     }
     Ok(())
+}
+
+fn pop(env: &mut Env) -> Result<(), NoMemory> {
+    match env.pop() {
+        Some(_) => Ok(()),
+        None => Err(NoMemory),
+    }
 }
 
 fn copy(alloc: Global, env: &mut Env) -> Result<(), NoMemory> {
@@ -285,20 +286,27 @@ fn same(alloc: Global, env: &Env, u: Lval, v: Lval) -> Result<bool, NoMemory> {
     Ok(same_shape(env, &a, &b))
 }
 
-fn links<R: Abort>(rt: &R, alloc: Global, env: &Env, last: u32) -> Result<(), Fail> {
+// Whether each slot from 1 to this one leads to a number with one star, and all but the last have its shape.
+fn are_links(alloc: Global, env: &Env, last: u32) -> Result<bool, NoMemory> {
     for slot in 1..last {
-        assert_eq!(rt; kind(alloc, env, at(slot, 1))?, "number");
-        assert!(rt; same(alloc, env, at(slot, 0), at(last, 0))?);
-        assert!(rt; !same(alloc, env, at(slot, 1), at(last, 0))?);
+        let (link, star) = (at(slot, 0), at(slot, 1));
+        if kind(alloc, env, star)? != "number"
+            || !same(alloc, env, link, at(last, 0))?
+            || same(alloc, env, star, at(last, 0))?
+        {
+            return Ok(false);
+        }
     }
-    assert_eq!(rt; kind(alloc, env, at(last, 1))?, "number");
-    Ok(())
+    Ok(kind(alloc, env, at(last, 1))? == "number")
 }
 
-fn levels<R: Abort>(rt: &R, alloc: Global, env: &Env, last: u32) -> Result<(), Fail> {
+// Whether each slot up to this one has another shape than the one before, and leads to it.
+fn are_levels(alloc: Global, env: &Env, last: u32) -> Result<bool, NoMemory> {
     for slot in 1..=last {
-        assert!(rt; !same(alloc, env, at(slot - 1, 0), at(slot, 0))?);
-        assert!(rt; same(alloc, env, at(slot - 1, 0), at(slot, 1))?);
+        let before = at(slot - 1, 0);
+        if same(alloc, env, before, at(slot, 0))? || !same(alloc, env, before, at(slot, 1))? {
+            return Ok(false);
+        }
     }
-    Ok(())
+    Ok(true)
 }
