@@ -1,19 +1,22 @@
 -- Heap places, as the code finds them.
 use Rattle.std.proofs.Common.{◌≡◌, ℕ, zero, suc, ◌+◌, ◌-◌, ◌<◌, ◌≤◌, Bool, true, false, List, [], ◌∷◌, length, drop, get_or, refl, sym, ap, ◌∙◌, subst, arith}
-use Rattle.std.specs.Prelude.{◌&&◌, Option, None, Result, Ok, Err, IfOk, if◌then◌else◌}
+use Rattle.std.specs.Prelude.{◌&&◌, Option, Some, None, Result, Ok, Err, IfOk, if◌then◌else◌}
 use Rattle.std.specs.List.{list_all}
 use Rattle.fr_base.specs.declared.place.Lval.{Lval}
 use Rattle.fr_terms.specs.Terms.{Text}
-use Rattle.fr_typing.specs.Kinds.{Owned, unit, int, box, mutex, task, own, shared, mutable, view, map_some, whole, gone, boxed}
-use Rattle.fr_typing.specs.Places.{Slot, Env, Found, found, undefined, no_target, then_found, star, type_at, alike, join_set, leads_to_heap, leads_by_star, is_heap_place, whole_owned, heap_type, AreBelow, IsNested}
+use Rattle.fr_typing.specs.Kinds.{Owned, unit, int, box, mutex, task, own, shared, mutable, view, map_some, Piece, whole, gone, boxed}
+use Rattle.fr_typing.specs.Places.{Slot, Env, Found, found, undefined, no_target, then_found, star, type_at, alike, join_set, leads_to_heap, leads_by_star, is_heap_place, whole_owned, heap_type, piece_places, AreBelow, IsNested}
 use Rattle.std.proofs.lemmas.List.{drop_all}
 use Rattle.fr_types.specs.declared.types.Part.{Part}
 use Rattle.fr_types.specs.declared.types.Part.TheVariants.{Whole}
 use Rattle.fr_types.specs.declared.types.Ty.{Ty}
 use Rattle.fr_types.specs.declared.types.Ty.TheVariants.{Shared, Mut}
+use Rattle.fr_types.specs.declared.resolved.Starred.{Starred}
 use Rattle.fr_types.specs.Types.{kind_of, piece_of}
+use Rattle.fr_types.specs.Bases.{starred, single, target}
 use Rattle.fr_types.specs.States.{Held, env_of, AreNested}
 use Rattle.fr_types.proofs.LookLemmas.{nested_env, inside_env}
+use Rattle.fr_types.proofs.BaseLemmas.{place, StartsBelow, target_below}
 use Rattle.fr_typing.specs.Captures.{by_par, captured_kind}
 use Rattle.borrow_check.specs.declared.written.Starter.{Starter}
 use Rattle.borrow_check.specs.declared.written.Starter.TheVariants as starter
@@ -83,6 +86,39 @@ heap_none [] w none = refl
 heap_none (s ∷ below) w none =
     eq_cases (λ b. (if b then leads_by_star (is_heap_place below) (s ∷ below) w.slot w.depth else is_heap_place below w) ≡ false) w.slot (length below)
     (λ same. ap (leads_by_star (is_heap_place below) (s ∷ below) w.slot) none) (λ ne. heap_none below w none)
+
+-- A REFERENCE TO ONE PLACE
+
+and_true : (b : Bool) → (b && true) ≡ b
+and_true true = refl
+and_true false = refl
+
+same_place : (u v : Lval) → Some (starred u) ≡ Some (starred v) → u ≡ v
+same_place u v h = ap place (equal (starred u) (starred v) h)
+  where
+    equal : (a b : Starred) → Some a ≡ Some b → a ≡ b
+    equal a b h = cc
+
+all_single : (test : Lval → Bool) (us : List Lval) (u : Lval) → single us ≡ Some (starred u) → list_all test us ≡ test u
+all_single test [] u h = absurd cc
+all_single test (v ∷ []) u h = and_true (test v) ∙ ap test (same_place v u h)
+all_single test (v ∷ w ∷ us) u h = absurd cc
+
+leads_target : (test : Lval → Bool) (p : Piece) (u : Lval) → target p ≡ Some (starred u) → leads_to_heap test (found p) ≡ test u
+leads_target test (whole (own o)) u h = absurd cc
+leads_target test (whole (view o)) u h = absurd cc
+leads_target test (whole (shared us)) u h = all_single test us u h
+leads_target test (whole (mutable us)) u h = all_single test us u h
+leads_target test (gone k) u h = absurd cc
+leads_target test (boxed p) u h = absurd cc
+
+-- it stands below
+pub lower : (n : ℕ) (p : Piece) (u : Lval) → AreBelow n (piece_places p) → target p ≡ Some (starred u) → u.slot < n
+lower n p u below is = subst (StartsBelow n) is (target_below n p below)
+
+-- under a star a place is in the heap where the one place is that stands there
+pub heap_on : (names : List Text) (vs : List Held) (w u : Lval) (p : Piece) → AreNested vs → w.slot < length vs → 0 < w.depth → type_at (env_of names vs) (record { slot = w.slot; depth = w.depth - 1 }) ≡ found p → target p ≡ Some (starred u) → is_heap_place (env_of names vs) w ≡ is_heap_place (env_of names vs) u
+heap_on names vs w u p nested lt some is to = heap_star names vs w (found p) nested lt some is ∙ leads_target (is_heap_place (env_of names vs)) p u to
 
 -- a whole value
 pub whole_leads : {E : Type 0} (test : Lval → Bool) (p : Part) (t : Ty) (r : Result Bool E) → p ≡ Whole t → IfOk r (λ b. b ≡ leads_to_heap test (found (whole (kind_of t)))) → IfOk r (λ b. b ≡ leads_to_heap test (found (piece_of p)))

@@ -3,10 +3,11 @@
 ghost use Rattle.std.specs.Prelude.{◌≡◌, ◌<◌, List, length, IfOk, Some, None, if◌then◌else◌};
 ghost use Rattle.std.specs.List.{list_all};
 ghost use Rattle.fr_terms.specs.Terms.{Text};
-ghost use Rattle.fr_typing.specs.Kinds.{whole};
+ghost use Rattle.fr_typing.specs.Kinds.{whole, map_some};
 ghost use Rattle.fr_typing.specs.Places.{AreBelow, kind_places, piece_places, found, type_at, leads_to_heap, is_heap_place, whole_owned};
 ghost use Rattle.fr_types.specs.Types.{kind_of, piece_of};
 ghost use Rattle.fr_types.specs.States.{env_of};
+ghost use Rattle.fr_types.specs.Bases.{starred, single, target};
 ghost use Rattle.borrow_check.specs.Heaps.{owned_in};
 
 use fr_base::{Lval, NoMemory};
@@ -14,24 +15,51 @@ use fr_types::{Env, O, Part, Ty, TypeError, is_owned, lval_type};
 use std::alloc::Global;
 
 /// Whether the place is in the heap, whoever owns it: with one star less it is a box or a view, or a reference to places in the
-/// heap. It costs the references on the way.
+/// heap. It costs the references on the way, which it follows one after another; the places of a larger set are looked up each.
 #[cycle(heap)]
 fn is_heap_place(alloc: Global, env: &Env, w: Lval) -> Result<bool, NoMemory>
     requires here { w.slot < length env.now }
     ensures { (names : List Text) → IfOk result (λ b. b ≡ is_heap_place (env_of names env.now) w) }
 {
-    if w.depth == 0 {
-        return Ok(false);
+    let mut at = w;
+    'references: while at.depth > 0 {
+        let outer = Lval {
+            slot: at.slot,
+            depth: at.depth - 1,
+        };
+        match lval_type(alloc, env, outer) {
+            Ok(part) => match only_place(&part) {
+                Some(u) => {
+                    drop(part);
+                    at = u;
+                }
+                None => return leads_to_heap(alloc, env, &part, at.slot),
+            },
+            Err(TypeError::NotDefined) => return Ok(false),
+            Err(TypeError::NoTarget) => return Ok(false),
+            Err(TypeError::NoMemory) => return Err(NoMemory),
+        }
     }
-    let outer = Lval {
-        slot: w.slot,
-        depth: w.depth - 1,
-    };
-    match lval_type(alloc, env, outer) {
-        Ok(part) => leads_to_heap(alloc, env, &part, w.slot),
-        Err(TypeError::NotDefined) => Ok(false),
-        Err(TypeError::NoTarget) => Ok(false),
-        Err(TypeError::NoMemory) => Err(NoMemory),
+    Ok(false)
+}
+
+// The place that a whole reference leads to, where it is one alone.
+fn only_place(part: &Part) -> Option<Lval>
+    ensures { map_some starred result ≡ target (piece_of part.now) }
+{
+    match part {
+        Part::Whole(Ty::Shared(us) | Ty::Mut(us)) => only(us.as_slice()),
+        _ => None,
+    }
+}
+
+// The only place of a list.
+fn only(us: &[Lval]) -> Option<Lval>
+    ensures { map_some starred result ≡ single us.now }
+{
+    match us {
+        [u] => Some(*u),
+        _ => None,
     }
 }
 

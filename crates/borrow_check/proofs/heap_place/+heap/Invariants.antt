@@ -1,4 +1,4 @@
-use Rattle.std.proofs.Common.{◌≡◌, ◌+◌, ◌*◌, List, drop}
+use Rattle.std.proofs.Common.{◌≡◌, ◌≤◌, ◌+◌, ◌*◌, List, drop}
 use Rattle.std.specs.List.{list_all}
 use Rattle.fr_terms.specs.Terms.{Text}
 use Rattle.fr_typing.specs.Places.{is_heap_place}
@@ -7,6 +7,15 @@ use Rattle.borrow_check.proofs.heap_place.+heap.Given as goal
 
 abbrev pub decreases-is_heap_place : goal.decreases-is_heap_place
 decreases-is_heap_place l = 4 * l.w.slot + 3
+
+abbrev pub invariant-is_heap_place-references : goal.invariant-is_heap_place-references
+invariant-is_heap_place-references l = record {
+  low : l.at.slot ≤ l.fn.w.slot;
+  same : (names : List Text) → is_heap_place (env_of names l.env) l.at ≡ is_heap_place (env_of names l.env) l.fn.w;
+}
+
+abbrev pub decreases-is_heap_place-references : goal.decreases-is_heap_place-references
+decreases-is_heap_place-references l = l.at.slot
 
 abbrev pub decreases-leads_to_heap : goal.decreases-leads_to_heap
 decreases-leads_to_heap l = 4 * l.bound + 2
