@@ -70,6 +70,14 @@ abbrev mutual
   usages_in none e = []
   usages_in (item t ts) e = usages_of t e ++ usages_in ts (env_after (typing t e))
 
+-- the usages of two operands, the second one from the environment that the first one leaves
+abbrev pub operand_usages : Term → Term → Env → List (Option Usage)
+operand_usages a b e = usages_of a e ++ usages_of b (env_after (typing a e))
+
+-- the usages of a new thread's captured names, and of its body from them alone
+abbrev pub thread_usages : Capturer → List Captured → Term → Env → List (Option Usage)
+thread_usages by cs b e = capture_usages by e [] cs ++ usages_of b (env_of_all by e cs)
+
 -- these usages, at these nodes, in a list by node
 abbrev pub IsUsed : List Usage → ℕ → Option Usage → Type 0
 IsUsed us n None = ⊤

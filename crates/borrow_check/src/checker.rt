@@ -4,7 +4,7 @@ ghost use Rattle.std.specs.Prelude.{◌≡◌, ◌<◌, ◌≤◌, ◌+◌, ◌+
 ghost use Rattle.fr_base.specs.declared.place.Op.{Op};
 ghost use Rattle.fr_terms.specs.Terms.{arith_t, spawn_t, start_of};
 ghost use Rattle.fr_typing.specs.Places.{AreBelow, kind_places};
-ghost use Rattle.fr_typing.specs.Captures.{by_spawn, env_of_all};
+ghost use Rattle.fr_typing.specs.Captures.{by_spawn};
 ghost use Rattle.fr_typing.specs.Typing.{typing};
 ghost use Rattle.fr_syntax.specs.Meanings.{meanings, meaning_at, term_at, items_at, captures_at, sort_of, term_s, capture_s, all_need, nodes_in};
 ghost use Rattle.fr_types.specs.Types.{kind_of};
@@ -12,8 +12,7 @@ ghost use Rattle.fr_types.specs.States.{env_of};
 ghost use Rattle.borrow_check.specs.Rules.{IsInScope, Gives, GivesType, GivesItems};
 ghost use Rattle.borrow_check.specs.Nodes.{IsReady, AreReady};
 ghost use Rattle.borrow_check.specs.Capturing.{AreNames};
-ghost use Rattle.borrow_check.specs.Usages.{capture_usages, usages_of, usages_in, AreWritten};
-ghost use Rattle.fr_typing.specs.Finding.{env_after};
+ghost use Rattle.borrow_check.specs.Usages.{operand_usages, thread_usages, usages_of, usages_in, AreWritten};
 ghost use Rattle.fr_types.specs.Bounds.{most_slots};
 
 use crate::captures::{capture_all, capture_both};
@@ -154,7 +153,9 @@ fn check_arith(
     ensures scope { OnOk result (IsInScope tree.now.names env.new) }
     ensures grows { OnOk result (length env.old ≤ length env.new) }
     ensures few { OnOk result (length env.new ≤ length env.old + length (meaning_at (meanings tree.now) left).nodes + length (meaning_at (meanings tree.now) right).nodes) }
-    ensures usages { OnOk result (AreWritten checker.old.usages.items checker.new.usages.items ((meaning_at (meanings tree.now) left).nodes ++ (meaning_at (meanings tree.now) right).nodes) (usages_of (term_at (meanings tree.now) left) (env_of tree.now.names env.old) ++ usages_of (term_at (meanings tree.now) right) (env_after (typing (term_at (meanings tree.now) left) (env_of tree.now.names env.old))))) }
+    ensures usages { let ms = meanings tree.now in
+        OnOk result (AreWritten checker.old.usages.items checker.new.usages.items ((meaning_at ms left).nodes ++ (meaning_at ms right).nodes)
+        (operand_usages (term_at ms left) (term_at ms right) (env_of tree.now.names env.old))) }
 {
     let first = check_term(checker, tree, left, env)?;
     number(&first, start(tree, left))?;
@@ -181,7 +182,9 @@ fn check_spawn(
     ensures below { IfOk result (λ t. kind_places (kind_of t) ≡ []) }
     ensures scope { OnOk result (IsInScope tree.now.names env.new) }
     ensures same { OnOk result (length env.new ≡ length env.old) }
-    ensures usages { OnOk result (AreWritten checker.old.usages.items checker.new.usages.items (nodes_in (meanings tree.now) (all_need capture_s captures.now.items) ++ (meaning_at (meanings tree.now) body).nodes) (capture_usages by_spawn (env_of tree.now.names env.old) [] (captures_at (meanings tree.now) captures.now.items) ++ usages_of (term_at (meanings tree.now) body) (env_of_all by_spawn (env_of tree.now.names env.old) (captures_at (meanings tree.now) captures.now.items)))) }
+    ensures usages { let ms = meanings tree.now in
+        OnOk result (AreWritten checker.old.usages.items checker.new.usages.items (nodes_in ms (all_need capture_s captures.now.items) ++ (meaning_at ms body).nodes)
+        (thread_usages by_spawn (captures_at ms captures.now.items) (term_at ms body) (env_of tree.now.names env.old))) }
 {
     let mut new = checker.spare.take();
     capture_all(checker, tree, Starter::Spawn, captures, env, &mut new)?;
