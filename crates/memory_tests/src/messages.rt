@@ -1,9 +1,10 @@
 //! Kinds of messages.
 
-use fr_base::{MutexNo, ObjNo, Released, ThreadNo};
+use fr_base::{MutexNo, NoMemory, ObjNo, Released, ThreadNo};
 use global_addr::Word;
 use heap_partition::{Cell, Owned};
 use server_msgs::Message;
+use std::alloc::Global;
 use std::test::Fail;
 use thread_state::{BoxedThread, Parcel, Thread};
 
@@ -33,36 +34,50 @@ fn cell() -> Cell {
     }
 }
 
+// The kind of the message.
+fn kind(message: Message) -> usize {
+    message.kind()
+}
+
 #[test]
 fn objects_come_and_go(rt: HostRuntime) {
     let word = Word::pack(0, 1, 5);
-    assert_eq!(rt; Message::Fetch(word, object(), 0, thread()).kind(), 0);
-    assert_eq!(rt; Message::Fetched(word, cell(), thread()).kind(), 1);
-    assert_eq!(rt; Message::Move(word, object(), 0, thread()).kind(), 2);
-    assert_eq!(rt; Message::Moved(word, cell(), thread()).kind(), 3);
-    assert_eq!(rt; Message::Drop(word, object()).kind(), 4);
+    let kinds = [
+        kind(Message::Fetch(word, object(), 0, thread())),
+        kind(Message::Fetched(word, cell(), thread())),
+        kind(Message::Move(word, object(), 0, thread())),
+        kind(Message::Moved(word, cell(), thread())),
+        kind(Message::Drop(word, object())),
+    ];
+    assert_eq!(rt; kinds, [0, 1, 2, 3, 4]);
 }
 
 #[test]
 fn mutexes_and_threads_are_asked_for(rt: HostRuntime) {
-    assert_eq!(rt; Message::Lock(mutex(), 0, thread()).kind(), 5);
-    assert_eq!(rt; Message::Granted(mutex(), Owned::Unit, thread()).kind(), 6);
-    assert_eq!(rt; Message::Unlock(mutex(), Owned::Unit).kind(), 7);
-    assert_eq!(rt; Message::Dup(mutex(), 0, thread()).kind(), 8);
-    assert_eq!(rt; Message::Dupped(mutex(), thread()).kind(), 9);
-    assert_eq!(rt; Message::Release(Released::Mutex(mutex())).kind(), 10);
-    assert_eq!(rt; Message::Join(thread(), 0, thread()).kind(), 12);
-    assert_eq!(rt; Message::Joined(thread(), Owned::Unit, thread()).kind(), 13);
-    assert_eq!(rt; Message::Finished(thread(), Owned::Unit).kind(), 14);
+    let kinds = [
+        kind(Message::Lock(mutex(), 0, thread())),
+        kind(Message::Granted(mutex(), Owned::Unit, thread())),
+        kind(Message::Unlock(mutex(), Owned::Unit)),
+        kind(Message::Dup(mutex(), 0, thread())),
+        kind(Message::Dupped(mutex(), thread())),
+        kind(Message::Release(Released::Mutex(mutex()))),
+        kind(Message::Join(thread(), 0, thread())),
+        kind(Message::Joined(thread(), Owned::Unit, thread())),
+        kind(Message::Finished(thread(), Owned::Unit)),
+    ];
+    assert_eq!(rt; kinds, [5, 6, 7, 8, 9, 10, 12, 13, 14]);
+}
+
+// A thread in a parcel.
+fn parcel(alloc: Global) -> Result<Parcel, NoMemory> {
+    let thread = Thread::new(alloc, thread(), 3, Vec::new(alloc));
+    Ok(Parcel::new(BoxedThread::new(alloc, thread)?))
 }
 
 #[test]
 fn threads_travel(rt: HostRuntime) -> Result<(), Fail> {
-    let new = Thread::new(rt.alloc(), thread(), 3, Vec::new(rt.alloc()));
-    let new = Parcel::new(BoxedThread::new(rt.alloc(), new)?);
-    assert_eq!(rt; Message::Start(new).kind(), 11);
-    let moved = Thread::new(rt.alloc(), thread(), 3, Vec::new(rt.alloc()));
-    let moved = Parcel::new(BoxedThread::new(rt.alloc(), moved)?);
-    assert_eq!(rt; Message::Migrate(moved).kind(), 15);
+    let start = kind(Message::Start(parcel(rt.alloc())?));
+    let migrate = kind(Message::Migrate(parcel(rt.alloc())?));
+    assert_eq!(rt; (start, migrate), (11, 15));
     Ok(())
 }

@@ -1,39 +1,46 @@
 //! Mutexes made, asked for, given back and counted.
 
-ghost use Rattle.std.specs.Prelude.{◌≡◌, true, OnOk, OnSome, IsTrue};
+ghost use Rattle.std.specs.Prelude.{◌≡◌, [], true, OnOk, OnSome, IsTrue};
 ghost use Rattle.memory_tests.specs.Mutexes.{is_out};
 
+use crate::answers::first_wrong;
 use fr_base::{MutexNo, NoMemory, ThreadNo};
 use heap_partition::Owned;
 use mutex_home::{Asked, Back, Mutexes};
 use std::test::Fail;
 
-#[test]
-fn grants_in_the_order_of_asking(rt: HostRuntime) -> Result<(), Fail> {
+// The number of the first wrong answer, where two mutexes are asked for and given back, and a third one has gone.
+fn wrong_answer(mutexes: &mut Mutexes) -> Result<Option<usize>, NoMemory>
+    requires state { mutexes.old.state ≡ record { home = 2; made = 0; there = [] } }
+{
     let by = ThreadNo::new(0, 4);
     let next = ThreadNo::new(1, 5);
-    let mut mutexes = Mutexes::new(rt.alloc(), 2);
     mutexes.reserve(4)?;
     let gone = mutexes.make(Owned::Unit);
-    assert_eq!(rt; mutexes.less(gone), Some(Owned::Unit));
+    let left = mutexes.less(gone);
     let first = mutexes.make(Owned::Int(3));
     let second = mutexes.make(Owned::Int(9));
-    assert_eq!(rt; second, MutexNo { home: 2, count: 3 });
-    assert_eq!(rt; mutexes.ask(first, 0, by), Asked::Granted(Owned::Int(3)));
+    let granted = mutexes.ask(first, 0, by);
     mutexes.more(first);
-    assert_eq!(rt; mutexes.ask(first, 1, next), Asked::Queued);
-    assert_eq!(rt; mutexes.ask(second, 1, by), Asked::Granted(Owned::Int(9)));
-    assert_eq!(rt;
-        mutexes.give_back(first, Owned::Int(6)),
-        Back::Next(1, next, Owned::Int(6))
-    );
-    assert_eq!(rt; mutexes.give_back(second, Owned::Int(8)), Back::Kept);
-    assert_eq!(rt; mutexes.less(first), None);
-    assert_eq!(rt; mutexes.less(first), None);
-    assert_eq!(rt;
-        mutexes.give_back(first, Owned::Int(7)),
-        Back::Ended(Owned::Int(7))
-    );
+    let right = [
+        left == Some(Owned::Unit),
+        second == MutexNo { home: 2, count: 3 },
+        granted == Asked::Granted(Owned::Int(3)),
+        mutexes.ask(first, 1, next) == Asked::Queued,
+        mutexes.ask(second, 1, by) == Asked::Granted(Owned::Int(9)),
+        mutexes.give_back(first, Owned::Int(6)) == Back::Next(1, next, Owned::Int(6)),
+        mutexes.give_back(second, Owned::Int(8)) == Back::Kept,
+        mutexes.less(first) == None,
+        mutexes.less(first) == None,
+        mutexes.give_back(first, Owned::Int(7)) == Back::Ended(Owned::Int(7)),
+    ];
+    Ok(first_wrong(&right))
+}
+
+#[test]
+fn grants_in_the_order_of_asking(rt: HostRuntime) -> Result<(), Fail> {
+    let mut mutexes = Mutexes::new(rt.alloc(), 2);
+    assert_eq!(rt; wrong_answer(&mut mutexes)?, None);
     Ok(())
 }
 
@@ -103,18 +110,29 @@ fn granted_in_turn(mutexes: &mut Mutexes, first: MutexNo, second: MutexNo) -> bo
     true
 }
 
-#[test]
-fn grants_each_mutex_in_its_order(rt: HostRuntime) -> Result<(), Fail> {
+// The number of the first wrong answer, where many threads wait for each of two mutexes.
+fn wrong_turn(mutexes: &mut Mutexes) -> Result<Option<usize>, NoMemory>
+    requires state { mutexes.old.state ≡ record { home = 0; made = 0; there = [] } }
+{
     let by = ThreadNo::new(0, 0);
-    let mut mutexes = Mutexes::new(rt.alloc(), 0);
     mutexes.reserve(2)?;
     let first = mutexes.make(Owned::Int(3));
     let second = mutexes.make(Owned::Int(9));
-    assert_eq!(rt; mutexes.ask(first, 0, by), Asked::Granted(Owned::Int(3)));
-    assert_eq!(rt; mutexes.ask(second, 0, by), Asked::Granted(Owned::Int(9)));
-    wait_in_turn(&mut mutexes, first, second)?;
-    let in_turn = granted_in_turn(&mut mutexes, first, second);
-    assert!(rt; in_turn);
-    assert_eq!(rt; mutexes.give_back(second, Owned::Unit), Back::Kept);
+    let granted = (mutexes.ask(first, 0, by), mutexes.ask(second, 0, by));
+    wait_in_turn(mutexes, first, second)?;
+    let in_turn = granted_in_turn(mutexes, first, second);
+    let right = [
+        in_turn,
+        granted.0 == Asked::Granted(Owned::Int(3)),
+        granted.1 == Asked::Granted(Owned::Int(9)),
+        in_turn && mutexes.give_back(second, Owned::Unit) == Back::Kept,
+    ];
+    Ok(first_wrong(&right))
+}
+
+#[test]
+fn grants_each_mutex_in_its_order(rt: HostRuntime) -> Result<(), Fail> {
+    let mut mutexes = Mutexes::new(rt.alloc(), 0);
+    assert_eq!(rt; wrong_turn(&mut mutexes)?, None);
     Ok(())
 }

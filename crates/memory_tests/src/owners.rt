@@ -1,7 +1,9 @@
 //! Calls in an order that is drawn: each word that the partition gives, and each tint, is compared with all before it.
 
-ghost use Rattle.std.specs.Prelude.{◌<◌, ◌≤◌, vec_len, IfSome};
+ghost use Rattle.std.specs.Prelude.{◌≡◌, ◌<◌, ◌≤◌, vec_len, IfSome};
+ghost use Rattle.owner_box.specs.Partition.{started};
 
+use crate::answers::first_wrong;
 use fr_base::{NoMemory, ObjNo, ThreadNo};
 use global_addr::Word;
 use heap_partition::{Cell, Owned};
@@ -156,62 +158,97 @@ impl Trial {
     }
 }
 
+// How many of four thousand calls did what they shouldn't.
+fn wrong_calls(trial: &mut Trial, limit: u32) -> Result<u32, NoMemory> {
+    let mut generator = Lcg64Xsh32::new(u64::from(limit), 54);
+    let mut wrong = 0u32;
+    for number in 0..4_000 {
+        let kind = generator.next_word() % 8;
+        let drawn = generator.next_word();
+        if !trial.step(kind, drawn, number)? {
+            wrong = wrong.saturating_add(1);
+        }
+    }
+    Ok(wrong)
+}
+
+// Whether each call did what it should, no word was issued twice, and many were issued, renewed and tinted.
+fn is_right(trial: &mut Trial, limit: u32) -> Result<bool, NoMemory> {
+    let wrong = wrong_calls(trial, limit)?;
+    Ok(
+        wrong == 0
+            && trial.again == 0
+            && trial.issued.len() > 1_400
+            && trial.renewed > 15
+            && (limit == 1 || trial.tinted > 100),
+    )
+}
+
+// The same at that limit.
+fn right_at(alloc: Global, limit: u32) -> Result<bool, NoMemory>
+    requires { (1 ≤ limit) × (limit ≤ 65536) }
+{
+    let mut trial = Trial::new(alloc, limit);
+    is_right(&mut trial, limit)
+}
+
 #[test]
 fn issues_no_word_twice(rt: HostRuntime) -> Result<(), Fail> {
-    for limit in [1, 2, 3, 65_536] {
-        assert!(rt; 1 <= limit && limit <= 65_536);
-        let mut trial = Trial::new(rt.alloc(), limit);
-        let mut generator = Lcg64Xsh32::new(u64::from(limit), 54);
-        let mut wrong = 0u32;
-        for number in 0..4_000 {
-            let kind = generator.next_word() % 8;
-            let drawn = generator.next_word();
-            if !trial.step(kind, drawn, number)? {
-                wrong = wrong.saturating_add(1);
-            }
-        }
-        assert_eq!(rt; wrong, 0, "at limit {limit}");
-        assert_eq!(rt; trial.again, 0, "at limit {limit}");
-        assert!(rt; trial.issued.len() > 1_400 && trial.renewed > 15);
-        assert!(rt; limit == 1 || trial.tinted > 100);
-    }
+    let alloc = rt.alloc();
+    let right = [
+        right_at(alloc, 1)?,
+        right_at(alloc, 2)?,
+        right_at(alloc, 3)?,
+        right_at(alloc, 65_536)?,
+    ];
+    assert_eq!(rt; first_wrong(&right), None);
     Ok(())
 }
 
-// Made, tinted to the last colour, renewed, and freed at the last colour: the addresses and colours by hand.
+// A word's colour, server and address.
+fn parts(word: Word) -> (u16, u8, u64) {
+    (word.colour(), word.server(), word.address())
+}
+
+// The number of the first wrong answer. An object is made, another one is made in its place when it was given, and renewed at the last
+// colour: the addresses and colours by hand.
+fn wrong_colour(partition: &mut Partition) -> Result<Option<usize>, NoMemory>
+    requires state { partition.old.state ≡ started 1 2 }
+{
+    partition.reserve(4)?;
+    let first = partition.make(cell(1));
+    if !partition.leads_to(first) {
+        return Ok(Some(8));
+    }
+    let given = partition.give(first);
+    let used = partition.next();
+    let second = partition.make(cell(2));
+    if !partition.leads_to(second) {
+        return Ok(Some(9));
+    }
+    let made = (partition.limit(), partition.next());
+    let third = partition.renew(second);
+    if !partition.leads_to(third) {
+        return Ok(Some(10));
+    }
+    let right = [
+        parts(first) == (0, 1, 0),
+        given == cell(1),
+        used == 1,
+        parts(second) == (1, 1, 0),
+        made == (2, 1),
+        parts(third) == (0, 1, 1),
+        partition.retired() == 1,
+        partition.look(third) == cell(2),
+    ];
+    partition.tidy();
+    Ok(first_wrong(&right))
+}
+
 #[test]
 fn goes_through_the_colours(rt: HostRuntime) -> Result<(), Fail> {
     let mut partition = Partition::new(rt.alloc(), 1, 2);
-    partition.reserve(4)?;
-    let first = partition.make(cell(1));
-    assert_eq!(rt;
-        (first.colour(), first.server(), first.address()),
-        (0, 1, 0)
-    );
-    assert!(rt; partition.leads_to(first));
-    let given = partition.give(first);
-    assert_eq!(rt; given, cell(1));
-    assert!(rt; partition.next() == 1);
-    let second = partition.make(cell(2));
-    assert_eq!(rt;
-        (second.colour(), second.server(), second.address()),
-        (1, 1, 0)
-    );
-    assert!(rt;
-        partition.leads_to(second)
-            && partition.limit() == 2
-            && second.colour() == 1
-            && partition.next() == 1
-    );
-    let third = partition.renew(second);
-    assert_eq!(rt;
-        (third.colour(), third.server(), third.address()),
-        (0, 1, 1)
-    );
-    assert_eq!(rt; partition.retired(), 1);
-    assert!(rt; partition.leads_to(third));
-    assert_eq!(rt; partition.look(third), cell(2));
-    partition.tidy();
+    assert_eq!(rt; wrong_colour(&mut partition)?, None);
     fresh_law();
     runs_law();
     Ok(())

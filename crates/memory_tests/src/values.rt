@@ -1,6 +1,9 @@
 //! Cells put, read, changed and taken.
 
-use fr_base::{MutexNo, ObjNo, Plain, ThreadNo};
+ghost use Rattle.std.specs.Prelude.{◌≡◌, []};
+
+use crate::answers::first_wrong;
+use fr_base::{MutexNo, NoMemory, ObjNo, Plain, ThreadNo};
 use global_addr::Word;
 use heap_partition::{BoxPtr, Cell, Cells, Owned};
 use std::test::Fail;
@@ -15,28 +18,33 @@ fn cell(number: u32) -> Cell {
     }
 }
 
+// The number of the first wrong answer, where two cells are put and one is taken, put back and changed.
+fn wrong_answer(cells: &mut Cells) -> Result<Option<usize>, NoMemory>
+    requires state { cells.old.state ≡ [] }
+{
+    let none = (cells.next(), cells.get(0));
+    cells.reserve(2)?;
+    let put = (cells.put(cell(7)), cells.put(cell(8)), cells.next());
+    let there = (cells.get(0), cells.get(1));
+    let taken = cells.take(0);
+    let left = (cells.next(), cells.get(0), cells.get(1), cells.get(2));
+    cells.put_at(0, cell(9));
+    cells.set(0, cell(10));
+    let right = [
+        none == (0, None),
+        put == (0, 1, 2),
+        there == (Some(cell(7)), Some(cell(8))),
+        taken == cell(7),
+        left == (2, None, Some(cell(8)), None),
+        (cells.get(0), cells.next()) == (Some(cell(10)), 2),
+    ];
+    Ok(first_wrong(&right))
+}
+
 #[test]
 fn keeps_cells_by_address(rt: HostRuntime) -> Result<(), Fail> {
     let mut cells = Cells::new(rt.alloc());
-    assert_eq!(rt; cells.next(), 0);
-    assert_eq!(rt; cells.get(0), None);
-    cells.reserve(2)?;
-    assert_eq!(rt; cells.put(cell(7)), 0);
-    assert_eq!(rt; cells.put(cell(8)), 1);
-    assert_eq!(rt; cells.next(), 2);
-    assert!(rt; cells.get(0) == Some(cell(7)));
-    assert!(rt; cells.get(1) == Some(cell(8)));
-    assert!(rt; cells.get(0).is_some());
-    assert_eq!(rt; cells.take(0), cell(7));
-    assert_eq!(rt;
-        (cells.get(0), cells.get(1), cells.get(2)),
-        (None, Some(cell(8)), None)
-    );
-    assert!(rt; cells.next() == 2 && cells.get(0).is_none());
-    cells.put_at(0, cell(9));
-    assert!(rt; cells.get(0).is_some());
-    cells.set(0, cell(10));
-    assert_eq!(rt; (cells.get(0), cells.next()), (Some(cell(10)), 2));
+    assert_eq!(rt; wrong_answer(&mut cells)?, None);
     Ok(())
 }
 
