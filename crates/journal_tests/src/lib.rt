@@ -3,6 +3,8 @@
 #![tactic(auto)]
 
 #[cfg(test)]
+mod answers;
+#[cfg(test)]
 mod legality;
 #[cfg(test)]
 mod orders;
@@ -12,3 +14,5 @@ mod rows;
 mod runs;
 #[cfg(test)]
 mod texts;
+#[cfg(test)]
+mod words;
