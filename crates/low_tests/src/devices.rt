@@ -1,56 +1,101 @@
 //! Each source and sink at work: both sides of the limit, short calls, and faults in the middle.
 
+ghost use Rattle.std.specs.Prelude.{◌<◌};
+
+use crate::answers::first_wrong;
 use drust_io::{
     Gate, MemorySink, MemorySource, NoFaultSink, NoFaultSource, NoGate, ReadError, Sink, Source,
     StdSink, StdSource, WriteFault, read_all, write_all,
 };
+use std::alloc::Global;
 use std::cell::Cell;
 use std::io;
 use std::io::{ErrorKind, Read, Write};
 use std::test::Fail;
 
+// How many bytes are read, where they are all that the source has.
+fn count(alloc: Global, source: &mut NoFaultSource, limit: usize) -> Result<usize, ReadError> {
+    let bytes = read_all(alloc, source, limit)?;
+    if bytes.as_slice() == [1, 2, 3, 4, 5].as_slice() {
+        Ok(bytes.len())
+    } else {
+        Ok(0)
+    }
+}
+
+// What is read of five bytes, so many at a time, up to a limit, and how many faults are counted.
+fn read_five(
+    alloc: Global,
+    most: usize,
+    limit: usize,
+) -> Result<(Result<usize, ReadError>, u64), Fail>
+    requires { 0 < most }
+{
+    let mut source = NoFaultSource::new(vec![in alloc; 1, 2, 3, 4, 5]?, most);
+    Ok((count(alloc, &mut source, limit), source.faults()))
+}
+
+// The number of the first wrong answer.
+fn wrong_read(alloc: Global) -> Result<Option<usize>, Fail> {
+    let right = [
+        read_five(alloc, 1, 5)? == (Ok(5), 0),
+        read_five(alloc, 2, 5)? == (Ok(5), 0),
+        read_five(alloc, 9, 6)? == (Ok(5), 0),
+        read_five(alloc, 9, usize::MAX)? == (Ok(5), 0),
+        read_five(alloc, 1, 4)? == (Err(ReadError::TooLong), 0),
+        read_five(alloc, 9, 4)? == (Err(ReadError::TooLong), 0),
+        read_five(alloc, 9, 0)? == (Err(ReadError::TooLong), 0),
+    ];
+    Ok(first_wrong(&right))
+}
+
 #[test]
 fn reads_up_to_the_limit(rt: HostRuntime) -> Result<(), Fail> {
-    for (most, limit, want) in [
-        (1, 5, Ok(5)),
-        (2, 5, Ok(5)),
-        (9, 6, Ok(5)),
-        (9, usize::MAX, Ok(5)),
-        (1, 4, Err(ReadError::TooLong)),
-        (9, 4, Err(ReadError::TooLong)),
-        (9, 0, Err(ReadError::TooLong)),
-    ] {
-        assert!(rt; most > 0);
-        let mut source = NoFaultSource::new(vec![in rt.alloc(); 1, 2, 3, 4, 5]?, most);
-        let got = match read_all(rt.alloc(), &mut source, limit) {
-            Ok(bytes) => {
-                assert_eq!(rt; bytes.as_slice(), [1, 2, 3, 4, 5].as_slice());
-                Ok(bytes.len())
-            }
-            Err(error) => Err(error),
-        };
-        assert_eq!(rt; got, want, "{most} at a time up to {limit}");
-        assert_eq!(rt; source.faults(), 0);
-    }
+    assert_eq!(rt; wrong_read(rt.alloc())?, None);
     Ok(())
+}
+
+// What is read where it can't be, if anything.
+fn refusal<S: Source>(alloc: Global, source: &mut S, limit: usize) -> Option<ReadError> {
+    read_all(alloc, source, limit).err()
+}
+
+// Whether all that is left is read, and is this.
+fn reads<S: Source>(alloc: Global, source: &mut S, limit: usize, want: &[u8]) -> bool {
+    match read_all(alloc, source, limit) {
+        Ok(bytes) => bytes.as_slice() == want,
+        Err(_) => false,
+    }
+}
+
+// The number of the first wrong answer: a read in the middle fails, and the next one goes on.
+fn wrong_source(alloc: Global, source: &mut MemorySource) -> Option<usize> {
+    let right = [
+        refusal(alloc, source, 9) == Some(ReadError::ReadFault),
+        source.faults() == 1,
+        reads(alloc, source, 9, b"cde"),
+    ];
+    first_wrong(&right)
+}
+
+// The same of writes.
+fn wrong_sink(sink: &mut MemorySink) -> Option<usize> {
+    let right = [
+        write_all(sink, b"abcde") == Err(WriteFault { written: 2 }),
+        sink.faults() == 1,
+        write_all(sink, b"cde") == Ok(()),
+        sink.bytes() == b"abcde".as_slice(),
+    ];
+    first_wrong(&right)
 }
 
 #[test]
 fn goes_on_after_a_fault(rt: HostRuntime) -> Result<(), Fail> {
     let bytes = vec![in rt.alloc(); b'a', b'b', b'c', b'd', b'e']?;
     let mut source = MemorySource::new(bytes, 2, vec![in rt.alloc(); 2]?);
-    let first = read_all(rt.alloc(), &mut source, 9);
-    assert_eq!(rt; first.err(), Some(ReadError::ReadFault));
-    assert_eq!(rt; source.faults(), 1);
-    let rest = read_all(rt.alloc(), &mut source, 9)?;
-    assert_eq!(rt; rest.as_slice(), b"cde".as_slice());
-
     let mut sink = MemorySink::new(rt.alloc(), 2, vec![in rt.alloc(); 2]?);
-    let first = write_all(&mut sink, b"abcde");
-    assert_eq!(rt; first, Err(WriteFault { written: 2 }));
-    assert_eq!(rt; sink.faults(), 1);
-    assert_eq!(rt; write_all(&mut sink, b"cde"), Ok(()));
-    assert_eq!(rt; sink.bytes(), b"abcde".as_slice());
+    let wrong = (wrong_source(rt.alloc(), &mut source), wrong_sink(&mut sink));
+    assert_eq!(rt; wrong, (None, None));
     let mut nowhere = NoFaultSink::new(1);
     assert_eq!(rt; write_all(&mut nowhere, b"abcde"), Ok(()));
     Ok(())
@@ -98,47 +143,47 @@ impl<'a> Write for Flushed<'a> {
     }
 }
 
-#[test]
-fn flushes_each_piece(rt: HostRuntime) -> Result<(), Fail> {
-    for (last, written, faults, want) in [
-        (9, Ok(()), 0, 3),
-        (3, Err(WriteFault { written: 4 }), 1, 3),
-        (1, Err(WriteFault { written: 0 }), 1, 1),
-    ] {
-        let flushes = Cell::new(0u64);
-        let mut sink = StdSink::new(Flushed {
-            flushes: &flushes,
-            last,
-        });
-        assert_eq!(rt; write_all(&mut sink, b"abcde"), written);
-        assert_eq!(rt; sink.faults(), faults);
-        assert_eq!(rt; flushes.get(), want);
-    }
-    Ok(())
+// What comes of five bytes where the flush of that number fails, how many faults are counted, and how many flushes there were.
+fn flush_five(last: u64) -> (Result<(), WriteFault>, u64, u64) {
+    let flushes = Cell::new(0u64);
+    let mut sink = StdSink::new(Flushed {
+        flushes: &flushes,
+        last,
+    });
+    let written = write_all(&mut sink, b"abcde");
+    (written, sink.faults(), flushes.get())
 }
 
 #[test]
-fn counts_errors_of_devices(rt: HostRuntime) -> Result<(), Fail> {
-    let mut source = StdSource::new(b"abc".as_slice());
-    assert_eq!(rt;
-        read_all(rt.alloc(), &mut source, 3)?.as_slice(),
-        b"abc".as_slice()
-    );
-    assert_eq!(rt; source.faults(), 0);
+fn flushes_each_piece(rt: HostRuntime) {
+    let right = [
+        flush_five(9) == (Ok(()), 0, 3),
+        flush_five(3) == (Err(WriteFault { written: 4 }), 1, 3),
+        flush_five(1) == (Err(WriteFault { written: 0 }), 1, 1),
+    ];
+    assert_eq!(rt; first_wrong(&right), None);
+}
+
+// The number of the first wrong answer, of devices whose calls fail.
+fn wrong_device(alloc: Global) -> Option<usize> {
+    let mut whole = StdSource::new(b"abc".as_slice());
     let mut source = StdSource::new(Broken);
-    assert_eq!(rt;
-        read_all(rt.alloc(), &mut source, 3).err(),
-        Some(ReadError::ReadFault)
-    );
-    assert_eq!(rt; source.faults(), 1);
+    let mut sink = StdSink::new(Broken);
+    let right = [
+        reads(alloc, &mut whole, 3, b"abc"),
+        whole.faults() == 0,
+        refusal(alloc, &mut source, 3) == Some(ReadError::ReadFault),
+        source.faults() == 1,
+        write_all(&mut sink, b"abc") == Err(WriteFault { written: 0 }),
+        sink.faults() == 1,
+    ];
+    first_wrong(&right)
+}
+
+#[test]
+fn counts_errors_of_devices(rt: HostRuntime) {
     let mut sink = StdSink::new(rt.stdout());
     assert_eq!(rt; write_all(&mut sink, b""), Ok(()));
-    let mut sink = StdSink::new(Broken);
-    assert_eq!(rt;
-        write_all(&mut sink, b"abc"),
-        Err(WriteFault { written: 0 })
-    );
-    assert_eq!(rt; sink.faults(), 1);
+    assert_eq!(rt; wrong_device(rt.alloc()), None);
     NoGate.arrive(3);
-    Ok(())
 }

@@ -1,6 +1,7 @@
 //! Lists that grow, and code whose bodies are put in.
 
-use fr_base::{Captures, Code, Instr, Kind, Operand, ThreadNo, Wait, Waits};
+use crate::answers::first_wrong;
+use fr_base::{Captures, Code, Instr, Kind, NoMemory, Operand, ThreadNo, Wait, Waits};
 use std::alloc::Global;
 use std::test::Fail;
 
@@ -22,48 +23,71 @@ fn two_starts(alloc: Global) -> Result<Code, Fail> {
     Ok(code)
 }
 
-#[test]
-fn bodies_are_put_into_code(rt: HostRuntime) -> Result<(), Fail> {
-    let mut code = two_starts(rt.alloc())?;
+// The number of the first wrong answer, where bodies are put in, also where no instruction has one.
+fn wrong_body(code: &mut Code) -> Option<usize> {
     code.set_body(0, 7);
     code.set_other(0, 8);
     code.set_body(1, 9);
     code.set_other(1, 10);
     code.set_body(2, 11);
     code.set_body(3, 12);
-    assert_eq!(rt; bodies(&code, 0), (7, 0));
-    assert_eq!(rt; bodies(&code, 1), (9, 10));
-    assert_eq!(rt; code.len(), 3);
-    assert!(rt; matches!(code.at(2), Some(Instr::End(Operand::Unit))));
-    assert!(rt; code.at(3).is_none());
+    let right = [
+        bodies(code, 0) == (7, 0),
+        bodies(code, 1) == (9, 10),
+        code.len() == 3,
+        matches!(code.at(2), Some(Instr::End(Operand::Unit))),
+        code.at(3).is_none(),
+    ];
+    first_wrong(&right)
+}
+
+#[test]
+fn bodies_are_put_into_code(rt: HostRuntime) -> Result<(), Fail> {
+    let mut code = two_starts(rt.alloc())?;
+    assert_eq!(rt; wrong_body(&mut code), None);
     Ok(())
+}
+
+// Whether a list has the two captures that it gets.
+fn lists_captures(captures: &mut Captures) -> Result<bool, NoMemory> {
+    captures.reserve(1)?;
+    captures.push((3, true))?;
+    captures.push((1, false))?;
+    let ends = (captures.len(), captures.at(1), captures.at(2));
+    Ok(
+        captures.as_slice() == [(3, true), (1, false)].as_slice()
+            && ends == (2, Some(&(1, false)), None),
+    )
+}
+
+// The same of two waits.
+fn lists_waits(waits: &mut Waits, thread: ThreadNo) -> Result<bool, NoMemory> {
+    waits.reserve(1)?;
+    waits.push((ThreadNo::new(0, 0), Wait::Join(thread)))?;
+    waits.push((thread, Wait::Par(thread, thread)))?;
+    let last = (thread, Wait::Par(thread, thread));
+    Ok((waits.len(), waits.at(1), waits.at(2)) == (2, Some(&last), None))
+}
+
+// The number of the first wrong answer, of lists that are empty before.
+fn wrong_list(captures: &mut Captures, waits: &mut Waits) -> Result<Option<usize>, NoMemory> {
+    let thread = ThreadNo::new(3, 5);
+    let right = [
+        lists_captures(captures)?,
+        lists_waits(waits, thread)?,
+        thread.number() == 12_884_901_893,
+        ThreadNo::from_number(12_884_901_893) == thread,
+        Kind::Fetch.number() == 0,
+        Kind::Release.number() == 10,
+        Kind::Migrate.number() == 15,
+    ];
+    Ok(first_wrong(&right))
 }
 
 #[test]
 fn lists_and_numbers(rt: HostRuntime) -> Result<(), Fail> {
     let mut captures = Captures::new(rt.alloc());
-    captures.reserve(1)?;
-    captures.push((3, true))?;
-    captures.push((1, false))?;
-    assert_eq!(rt; captures.as_slice(), [(3, true), (1, false)].as_slice());
-    assert_eq!(rt;
-        (captures.len(), captures.at(1), captures.at(2)),
-        (2, Some(&(1, false)), None)
-    );
-    let thread = ThreadNo::new(3, 5);
     let mut waits = Waits::new(rt.alloc());
-    waits.reserve(1)?;
-    waits.push((ThreadNo::new(0, 0), Wait::Join(thread)))?;
-    waits.push((thread, Wait::Par(thread, thread)))?;
-    let last = (thread, Wait::Par(thread, thread));
-    assert_eq!(rt;
-        (waits.len(), waits.at(1), waits.at(2)),
-        (2, Some(&last), None)
-    );
-    assert_eq!(rt; thread.number(), 12_884_901_893);
-    assert_eq!(rt; ThreadNo::from_number(12_884_901_893), thread);
-    for (kind, number) in [(Kind::Fetch, 0), (Kind::Release, 10), (Kind::Migrate, 15)] {
-        assert_eq!(rt; kind.number(), number);
-    }
+    assert_eq!(rt; wrong_list(&mut captures, &mut waits)?, None);
     Ok(())
 }

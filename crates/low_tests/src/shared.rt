@@ -1,5 +1,6 @@
 //! A mutex whose shares come and go, and pairs that end out of order.
 
+use crate::answers::first_wrong;
 use fr_base::{MutexNo, NoMemory, Plain, ThreadNo};
 use fr_shared::{Mutexes, Pairs, Two};
 use std::test::Fail;
@@ -24,23 +25,36 @@ fn share(mutexes: &mut Mutexes, mutex: MutexNo) -> bool {
     true
 }
 
-#[test]
-fn content_goes_with_the_last_share(rt: HostRuntime) -> Result<(), Fail> {
+// The content is given back, and a share dropped that isn't the last one.
+fn gives_back(mutexes: &mut Mutexes, mutex: MutexNo, content: Plain) -> bool {
+    mutexes.give_back(mutex, content);
+    mutexes.drop_share(mutex).is_none()
+}
+
+// The number of the first wrong answer, of two mutexes of which nothing is known before.
+fn wrong_content(mutexes: &mut Mutexes) -> Result<Option<usize>, NoMemory> {
     let mutex = MutexNo { home: 1, count: 7 };
     let other = MutexNo { home: 2, count: 7 };
+    let right = [
+        give(mutexes, mutex, Plain::Int(3))?,
+        give(mutexes, other, Plain::Unit)?,
+        !give(mutexes, mutex, Plain::Unit)?,
+        share(mutexes, mutex),
+        mutexes.take_content(mutex) == Some(Plain::Int(3)),
+        mutexes.take_content(mutex).is_none(),
+        gives_back(mutexes, mutex, Plain::Int(4)),
+        mutexes.drop_share(mutex) == Some(Plain::Int(4)),
+        mutexes.there(mutex).is_none(),
+        mutexes.is_given(mutex),
+        mutexes.take_content(other) == Some(Plain::Unit),
+    ];
+    Ok(first_wrong(&right))
+}
+
+#[test]
+fn content_goes_with_the_last_share(rt: HostRuntime) -> Result<(), Fail> {
     let mut mutexes = Mutexes::new(rt.alloc());
-    assert!(rt; give(&mut mutexes, mutex, Plain::Int(3))?);
-    assert!(rt; give(&mut mutexes, other, Plain::Unit)?);
-    assert!(rt; !give(&mut mutexes, mutex, Plain::Unit)?);
-    assert!(rt; share(&mut mutexes, mutex));
-    assert!(rt; matches!(mutexes.take_content(mutex), Some(Plain::Int(3))));
-    assert!(rt; mutexes.take_content(mutex).is_none());
-    mutexes.give_back(mutex, Plain::Int(4));
-    assert!(rt; mutexes.drop_share(mutex).is_none());
-    assert!(rt; matches!(mutexes.drop_share(mutex), Some(Plain::Int(4))));
-    assert!(rt; mutexes.there(mutex).is_none());
-    assert!(rt; mutexes.is_given(mutex));
-    assert!(rt; matches!(mutexes.take_content(other), Some(Plain::Unit)));
+    assert_eq!(rt; wrong_content(&mut mutexes)?, None);
     Ok(())
 }
 
@@ -60,20 +74,39 @@ fn pair(
     Ok(true)
 }
 
-#[test]
-fn pairs_end_out_of_order(rt: HostRuntime) -> Result<(), Fail> {
+// Whether the parent waits for these two.
+fn waits_for(pairs: &Pairs, parent: ThreadNo, first: ThreadNo, second: ThreadNo) -> bool {
+    match pairs.of(parent) {
+        Some(two) => two.first == first && two.second == second,
+        None => false,
+    }
+}
+
+// The number of the first wrong answer, where a pair ends before another one that began after it.
+fn wrong_pair(pairs: &mut Pairs) -> Result<Option<usize>, NoMemory> {
     let main = ThreadNo::new(0, 0);
     let other = ThreadNo::new(1, 0);
     let first = ThreadNo::new(1, 1);
     let second = ThreadNo::new(1, 2);
-    let mut pairs = Pairs::new(rt.alloc());
-    assert!(rt; pair(&mut pairs, main, other, first)?);
-    assert!(rt; pair(&mut pairs, other, first, second)?);
-    assert!(rt; !pair(&mut pairs, main, first, second)?);
+    let begun = [
+        pair(pairs, main, other, first)?,
+        pair(pairs, other, first, second)?,
+        !pair(pairs, main, first, second)?,
+    ];
     pairs.remove(main);
-    assert!(rt; pairs.of(main).is_none());
-    assert!(rt; matches!(pairs.of(other), Some(two) if two.first == first && two.second == second));
-    assert!(rt; pair(&mut pairs, main, second, first)?);
-    assert!(rt; matches!(pairs.of(main), Some(two) if two.first == second));
+    let right = [
+        first_wrong(&begun).is_none(),
+        pairs.of(main).is_none(),
+        waits_for(pairs, other, first, second),
+        pair(pairs, main, second, first)?,
+        waits_for(pairs, main, second, first),
+    ];
+    Ok(first_wrong(&right))
+}
+
+#[test]
+fn pairs_end_out_of_order(rt: HostRuntime) -> Result<(), Fail> {
+    let mut pairs = Pairs::new(rt.alloc());
+    assert_eq!(rt; wrong_pair(&mut pairs)?, None);
     Ok(())
 }
