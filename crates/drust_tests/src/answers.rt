@@ -1,17 +1,10 @@
-//! Whole answers, over sources and sinks in memory: tables of programs and of orders, other words, inputs of all lengths, single bytes,
-//! and devices that fail.
+//! Whole answers, over sources and sinks in memory: inputs of all lengths, single bytes, and devices that fail. What programs and orders write stands in
+//! `examples/`.
 
-use crate::order_cases::{ORDERS, REFUSED_THREAD_ORDERS, TASK_ORDERS, THREAD_ORDERS};
-use crate::program_cases::{
-    REFUSED_ASSIGNMENTS_AND_BLOCKS, REFUSED_BORROWS_AND_VALUES, REFUSED_NAMES_AND_READS, RUNS,
-    TYPED,
-};
-use crate::served_cases::{NO_WORDS, READ, WRITTEN};
-use crate::shared_cases::{MUTEX_ORDERS, PAIR_ORDERS, REFUSED_SHARED_ORDERS, SHARED_ORDERS};
+use crate::right::first_wrong;
 use drust_io::{Gate, MemorySink, MemorySource, NoGate};
 use drust_top::drust;
 use std::alloc::Global;
-use std::process::Abort;
 use std::sync::Wait;
 use std::test::Fail;
 use std::thread::Threads;
@@ -59,34 +52,10 @@ const HALF_A_SINK: Devices = Devices {
     ..SMALL
 };
 
-// Words, and an input that begins with a text and goes on with one byte up to a length.
-#[rattlefmt::skip]
-const INPUTS: [(&[&str], &str, u8, usize, Devices, u8, &str); 9] = [
-    (&["run"], FIRST, b' ', 0, LARGE, 0, FIRST_REPORT),
-    (&["run"], FIRST, b' ', 0, SINGLE, 0, FIRST_REPORT),
-    (&["run"], FIRST, b' ', 0, NO_SOURCE, 6, ""),
-    (&["run"], FIRST, b' ', 0, HALF_A_SINK, 7, "ended finished\np"),
-    (&["run"], "{ }", b' ', 3, LARGE, 0, EMPTY_REPORT),
-    (&["run"], "{{{{{{{{{{{{{{{{{{{{{{{{{{{{{{{{{{{{{{{{{{{{{{{{{{{{{{{{{{{{{{{{", b'}', 128, LARGE, 0, EMPTY_REPORT),
-    (&["run"], "{{{{{{{{{{{{{{{{{{{{{{{{{{{{{{{{{{{{{{{{{{{{{{{{{{{{{{{{{{{{{{{{{", b'}', 130, LARGE, 3, "refused depth at 64\n"),
-    (&["run"], FIRST, b' ', 1_048_576, LARGE, 0, FIRST_REPORT),
-    (&["run"], FIRST, b' ', 1_048_577, LARGE, 9, "refused size\n"),
-];
+// As deep a source as may be, and a deeper one, but for what closes them.
+const DEEP: &str = "{{{{{{{{{{{{{{{{{{{{{{{{{{{{{{{{{{{{{{{{{{{{{{{{{{{{{{{{{{{{{{{{";
 
-// Inputs as long as may be, and one byte longer, that no grammar has, and the places where they are refused.
-#[rattlefmt::skip]
-const LONG_INPUTS: [(&str, u8, usize, u8, &str); 10] = [
-    ("", b' ', 1_048_576, 3, "refused syntax at 1048576\n"),
-    ("", b' ', 1_048_577, 9, "refused size\n"),
-    ("", b'{', 1_048_576, 3, "refused depth at 64\n"),
-    ("", b'*', 1_048_576, 3, "refused syntax at 0\n"),
-    ("{", b'*', 1_048_576, 3, "refused depth at 9\n"),
-    ("{", b'(', 1_048_576, 3, "refused depth at 64\n"),
-    ("{", b'n', 1_048_576, 3, "refused name at 1\n"),
-    ("{", b'9', 1_048_576, 3, "refused number at 1\n"),
-    ("{", b';', 1_048_576, 3, "refused syntax at 1\n"),
-    ("{", b'&', 1_048_576, 3, "refused syntax at 2\n"),
-];
+const TOO_DEEP: &str = "{{{{{{{{{{{{{{{{{{{{{{{{{{{{{{{{{{{{{{{{{{{{{{{{{{{{{{{{{{{{{{{{{";
 
 // The words of a command line.
 fn words_of(alloc: Global, texts: &[&str]) -> Result<Vec<String>, Fail> {
@@ -98,7 +67,7 @@ fn words_of(alloc: Global, texts: &[&str]) -> Result<Vec<String>, Fail> {
 }
 
 /// The status and the bytes that are written for words and an input, where each server's work comes by that gate.
-pub fn answer_by<G: Gate + Sync, R: Threads + Wait + Abort + Sync>(
+pub fn answer_by<G: Gate + Sync, R: Threads + Wait + Sync>(
     rt: &R,
     alloc: Global,
     words: &[&str],
@@ -106,8 +75,7 @@ pub fn answer_by<G: Gate + Sync, R: Threads + Wait + Abort + Sync>(
     devices: &Devices,
     gate: &G,
 ) -> Result<(u8, Vec<u8>), Fail> {
-    let most = devices.most;
-    assert!(rt; most > 0);
+    let most = devices.most.max(1);
     let words = words_of(alloc, words)?;
     let mut source = MemorySource::new(input.to_vec(alloc)?, most, devices.reads.to_vec(alloc)?);
     let mut sink = MemorySink::new(alloc, most, devices.writes.to_vec(alloc)?);
@@ -115,125 +83,33 @@ pub fn answer_by<G: Gate + Sync, R: Threads + Wait + Abort + Sync>(
     Ok((outcome.status, sink.bytes().to_vec(alloc)?))
 }
 
-// The same, where each comes at once.
-fn answer<R: Threads + Wait + Abort + Sync>(
+// Whether an input is run, and answered with this status and this text.
+fn is_answered<R: Threads + Wait + Sync>(
     rt: &R,
     alloc: Global,
-    words: &[&str],
-    input: &[u8],
-    devices: &Devices,
-) -> Result<(u8, Vec<u8>), Fail> {
-    answer_by(rt, alloc, words, input, devices, &NoGate)
-}
-
-// Words and an input are answered with this status and this text.
-fn answers<R: Threads + Wait + Abort + Sync>(
-    rt: &R,
-    alloc: Global,
-    words: &[&str],
     input: &[u8],
     devices: &Devices,
     want: (u8, &str),
-) -> Result<(), Fail> {
-    let (status, text) = want;
-    let (given, bytes) = answer(rt, alloc, words, input, devices)?;
-    assert_eq!(rt; given, status, "{text}");
-    assert_eq!(rt; bytes.as_slice(), text.as_bytes(), "{text}");
-    Ok(())
+) -> Result<bool, Fail> {
+    let (status, bytes) = answer_by(rt, alloc, &["run"], input, devices, &NoGate)?;
+    Ok(status == want.0 && bytes.as_slice() == want.1.as_bytes())
 }
 
-// Words and an input are answered with status 0 and a text with this beginning and this end.
-fn is_told<R: Threads + Wait + Abort + Sync>(
-    rt: &R,
-    alloc: Global,
-    words: &[&str],
-    input: &[u8],
-    first: &str,
-    last: &str,
-) -> Result<(), Fail> {
-    let (given, bytes) = answer(rt, alloc, words, input, &LARGE)?;
-    assert_eq!(rt; given, 0, "{first}");
-    assert!(rt; bytes.starts_with(first.as_bytes()), "{first}");
-    assert!(rt; bytes.ends_with(last.as_bytes()), "{last}");
-    Ok(())
-}
-
-// A source with an order behind it.
-fn input_of(alloc: Global, source: &str, order: &str) -> Result<Vec<u8>, Fail> {
-    let mut input = source.as_bytes().to_vec(alloc)?;
-    input.extend_from_slice(b"%\n")?;
-    input.extend_from_slice(order.as_bytes())?;
-    Ok(input)
+// The first source, with devices that give and take single bytes or fail.
+fn wrong_device<R: Threads + Wait + Sync>(rt: &R, alloc: Global) -> Result<Option<usize>, Fail> {
+    let first = FIRST.as_bytes();
+    let right = [
+        is_answered(rt, alloc, first, &LARGE, (0, FIRST_REPORT))?,
+        is_answered(rt, alloc, first, &SINGLE, (0, FIRST_REPORT))?,
+        is_answered(rt, alloc, first, &NO_SOURCE, (6, ""))?,
+        is_answered(rt, alloc, first, &HALF_A_SINK, (7, "ended finished\np"))?,
+    ];
+    Ok(first_wrong(&right))
 }
 
 #[test]
-fn programs(rt: HostRuntime) -> Result<(), Fail> {
-    for (word, rows) in [
-        ("run", REFUSED_NAMES_AND_READS.as_slice()),
-        ("run", REFUSED_BORROWS_AND_VALUES.as_slice()),
-        ("run", REFUSED_ASSIGNMENTS_AND_BLOCKS.as_slice()),
-        ("replay", ORDERS.as_slice()),
-    ] {
-        for (input, status, text) in rows {
-            answers(
-                &rt,
-                rt.alloc(),
-                &[word],
-                input.as_bytes(),
-                &SMALL,
-                (*status, text),
-            )?;
-        }
-    }
-    for rows in [
-        THREAD_ORDERS.as_slice(),
-        TASK_ORDERS.as_slice(),
-        REFUSED_THREAD_ORDERS.as_slice(),
-        MUTEX_ORDERS.as_slice(),
-        SHARED_ORDERS.as_slice(),
-        PAIR_ORDERS.as_slice(),
-        REFUSED_SHARED_ORDERS.as_slice(),
-    ] {
-        for (source, order, status, text) in rows {
-            let input = input_of(rt.alloc(), source, order)?;
-            answers(
-                &rt,
-                rt.alloc(),
-                &["replay"],
-                &input,
-                &SMALL,
-                (*status, text),
-            )?;
-        }
-    }
-    for (input, _, text) in RUNS.as_slice() {
-        is_told(&rt, rt.alloc(), &["run"], input.as_bytes(), text, "")?;
-    }
-    // Whatever they print.
-    for input in TYPED {
-        let (status, _) = answer(&rt, rt.alloc(), &["run"], input.as_bytes(), &LARGE)?;
-        assert_eq!(rt; status, 0, "{input}");
-    }
-    Ok(())
-}
-
-#[test]
-fn programs_on_servers(rt: HostRuntime) -> Result<(), Fail> {
-    for rows in [READ.as_slice(), WRITTEN.as_slice()] {
-        for (words, input, first, last) in rows {
-            is_told(&rt, rt.alloc(), words, input.as_bytes(), first, last)?;
-        }
-    }
-    for words in NO_WORDS {
-        answers(
-            &rt,
-            rt.alloc(),
-            words,
-            FIRST.as_bytes(),
-            &SMALL,
-            (5, "refused words\n"),
-        )?;
-    }
+fn devices_that_give_little_or_fail(rt: HostRuntime) -> Result<(), Fail> {
+    assert_eq!(rt; wrong_device(&rt, rt.alloc())?, None);
     Ok(())
 }
 
@@ -245,65 +121,135 @@ fn bytes_of(alloc: Global, first: &str, next: u8, length: usize) -> Result<Vec<u
     Ok(bytes)
 }
 
+// Whether an input that begins with a text and goes on with one byte up to a length is answered so.
+fn is_told<R: Threads + Wait + Sync>(
+    rt: &R,
+    alloc: Global,
+    input: (&str, u8, usize),
+    status: u8,
+    text: &str,
+) -> Result<bool, Fail> {
+    let input = bytes_of(alloc, input.0, input.1, input.2)?;
+    is_answered(rt, alloc, &input, &LARGE, (status, text))
+}
+
+// The number of the first wrong answer to an input that is padded.
+fn wrong_padded<R: Threads + Wait + Sync>(rt: &R, alloc: Global) -> Result<Option<usize>, Fail> {
+    let right = [
+        is_told(rt, alloc, ("{ }", b' ', 3), 0, EMPTY_REPORT)?,
+        is_told(rt, alloc, (DEEP, b'}', 128), 0, EMPTY_REPORT)?,
+        is_told(rt, alloc, (TOO_DEEP, b'}', 130), 3, "refused depth at 64\n")?,
+        is_told(rt, alloc, (FIRST, b' ', 1_048_576), 0, FIRST_REPORT)?,
+        is_told(rt, alloc, (FIRST, b' ', 1_048_577), 9, "refused size\n")?,
+    ];
+    Ok(first_wrong(&right))
+}
+
 #[test]
-fn words_and_inputs(rt: HostRuntime) -> Result<(), Fail> {
-    for (words, first, next, length, devices, status, text) in INPUTS {
-        let input = bytes_of(rt.alloc(), first, next, length)?;
-        answers(&rt, rt.alloc(), words, &input, &devices, (status, text))?;
-    }
+fn padded_inputs(rt: HostRuntime) -> Result<(), Fail> {
+    assert_eq!(rt; wrong_padded(&rt, rt.alloc())?, None);
     Ok(())
+}
+
+// How many bytes an input may have.
+const MOST: usize = 1_048_576;
+
+// The number of the first wrong answer to an input as long as may be, or one byte longer, that no grammar has.
+fn wrong_long<R: Threads + Wait + Sync>(rt: &R, alloc: Global) -> Result<Option<usize>, Fail> {
+    let right = [
+        is_told(
+            rt,
+            alloc,
+            ("", b' ', MOST),
+            3,
+            "refused syntax at 1048576\n",
+        )?,
+        is_told(rt, alloc, ("", b' ', MOST + 1), 9, "refused size\n")?,
+        is_told(rt, alloc, ("", b'{', MOST), 3, "refused depth at 64\n")?,
+        is_told(rt, alloc, ("", b'*', MOST), 3, "refused syntax at 0\n")?,
+        is_told(rt, alloc, ("{", b'*', MOST), 3, "refused depth at 9\n")?,
+        is_told(rt, alloc, ("{", b'(', MOST), 3, "refused depth at 64\n")?,
+        is_told(rt, alloc, ("{", b'n', MOST), 3, "refused name at 1\n")?,
+        is_told(rt, alloc, ("{", b'9', MOST), 3, "refused number at 1\n")?,
+        is_told(rt, alloc, ("{", b';', MOST), 3, "refused syntax at 1\n")?,
+        is_told(rt, alloc, ("{", b'&', MOST), 3, "refused syntax at 2\n")?,
+    ];
+    Ok(first_wrong(&right))
 }
 
 #[test]
 fn long_inputs(rt: HostRuntime) -> Result<(), Fail> {
-    for (first, next, length, status, text) in LONG_INPUTS {
-        let input = bytes_of(rt.alloc(), first, next, length)?;
-        answers(&rt, rt.alloc(), &["run"], &input, &LARGE, (status, text))?;
-    }
+    assert_eq!(rt; wrong_long(&rt, rt.alloc())?, None);
     Ok(())
+}
+
+// Whether the first so many bytes of the first source are refused at that place.
+fn is_cut<R: Threads + Wait + Sync>(
+    rt: &R,
+    alloc: Global,
+    length: usize,
+    place: usize,
+) -> Result<bool, Fail> {
+    let text = format!(in alloc; "refused syntax at {place}\n")?;
+    let input = FIRST.as_bytes().get(..length).unwrap_or(b"");
+    is_answered(rt, alloc, input, &SMALL, (3, text.as_str()))
+}
+
+// The length of the first proper prefix of the first source that isn't refused at its end.
+fn wrong_prefix<R: Threads + Wait + Sync>(rt: &R, alloc: Global) -> Result<Option<usize>, Fail> {
+    for length in 0..FIRST.len() {
+        // a word that is cut is a name: that matters where `mut` has to stand
+        let place = if length == 7 || length == 8 {
+            6
+        } else {
+            length
+        };
+        if !is_cut(rt, alloc, length, place)? {
+            return Ok(Some(length));
+        }
+    }
+    Ok(None)
 }
 
 #[test]
 fn each_proper_prefix_is_refused_at_its_end(rt: HostRuntime) -> Result<(), Fail> {
-    let first = FIRST.as_bytes();
-    for len in 0..first.len() {
-        // a word that is cut is a name: that matters where `mut` has to stand
-        let place = if len == 7 || len == 8 { 6 } else { len };
-        let text = format!(in rt.alloc(); "refused syntax at {place}\n")?;
-        answers(
-            &rt,
-            rt.alloc(),
-            &["run"],
-            &first[..len],
-            &SMALL,
-            (3, text.as_str()),
-        )?;
-    }
+    assert_eq!(rt; wrong_prefix(&rt, rt.alloc())?, None);
     Ok(())
 }
 
-// The first source with this byte at this place is answered, with a line at least.
-fn is_answered<R: Threads + Wait + Abort + Sync>(
+// Whether the first source with this byte at this place is answered, with a line at least.
+fn tells_of_byte<R: Threads + Wait + Sync>(
     rt: &R,
     alloc: Global,
     place: usize,
     byte: u8,
-) -> Result<(), Fail> {
+) -> Result<bool, Fail> {
     let mut input = FIRST.as_bytes().to_vec(alloc)?;
-    assert!(rt; place < input.len());
-    input[place] = byte;
-    let (status, bytes) = answer(rt, alloc, &["run"], &input, &LARGE)?;
-    assert!(rt; matches!(status, 0 | 3 | 4));
-    assert!(rt; bytes.ends_with(b"\n"));
-    Ok(())
+    match input.get_mut(place) {
+        Some(old) => *old = byte,
+        None => return Ok(false),
+    }
+    let (status, bytes) = answer_by(rt, alloc, &["run"], &input, &LARGE, &NoGate)?;
+    Ok(matches!(status, 0 | 3 | 4) && bytes.ends_with(b"\n"))
+}
+
+// The first place with a byte, of all bytes, that isn't answered so.
+fn wrong_byte<R: Threads + Wait + Sync>(
+    rt: &R,
+    alloc: Global,
+) -> Result<Option<(usize, u8)>, Fail> {
+    for place in 0..FIRST.len() {
+        for byte in 0..=255u8 {
+            if !tells_of_byte(rt, alloc, place, byte)? {
+                return Ok(Some((place, byte)));
+            }
+        }
+    }
+    Ok(None)
 }
 
 #[test]
 fn any_byte_at_any_place_is_answered(rt: HostRuntime) -> Result<(), Fail> {
-    for place in 0..FIRST.len() {
-        for byte in 0..=255u8 {
-            is_answered(&rt, rt.alloc(), place, byte)?;
-        }
-    }
+    assert_eq!(rt; wrong_byte(&rt, rt.alloc())?, None);
     Ok(())
 }

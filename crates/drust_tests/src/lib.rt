@@ -4,12 +4,6 @@
 #[cfg(test)]
 mod answers;
 #[cfg(test)]
-mod order_cases;
-#[cfg(test)]
-mod program_cases;
-#[cfg(test)]
-mod served_cases;
-#[cfg(test)]
-mod shared_cases;
+mod right;
 #[cfg(test)]
 mod workers;
