@@ -2,9 +2,9 @@
 
 ghost use Rattle.std.specs.Prelude.{◌<◌, ◌^◌};
 
+use crate::answers::first_wrong;
 use fr_base::NoMemory;
 use server_index::{FrontQueue, MarkSet, Table};
-use std::alloc::Global;
 use std::test::Fail;
 
 // How many items come.
@@ -44,36 +44,78 @@ fn same(queue: &FrontQueue<u64>, list: &[u64]) -> bool {
     same
 }
 
-#[test]
-fn takes_from_front_and_behind(rt: HostRuntime) -> Result<(), Fail> {
-    let alloc: Global = rt.alloc();
-    let mut queue = FrontQueue::new(alloc);
-    let mut list = Vec::new(alloc);
+// The first item after which both differ, where items come, and go near the front.
+fn wrong_in_front(
+    queue: &mut FrontQueue<u64>,
+    list: &mut Vec<u64>,
+) -> Result<Option<u64>, NoMemory> {
     for item in 0..COME {
-        put(&mut queue, &mut list, item)?;
-        if item % 3 == 2 {
-            assert!(rt; take_same(&mut queue, &mut list, (item * 7 % 23) as usize));
+        put(queue, list, item)?;
+        let taken = item % 3 != 2 || take_same(queue, list, (item * 7 % 23) as usize);
+        if !taken || !same(queue, list) {
+            return Ok(Some(item));
         }
-        assert!(rt; same(&queue, &list));
     }
+    Ok(None)
+}
+
+// The first turn after which both differ, where the items go near the front.
+fn wrong_behind(queue: &mut FrontQueue<u64>, list: &mut Vec<u64>) -> Option<u64> {
     for turn in 0..COME {
-        assert!(rt; take_same(&mut queue, &mut list, (turn * 5 % 11) as usize));
-        assert!(rt; same(&queue, &list));
-    }
-    for item in 0..CROWD {
-        put(&mut queue, &mut list, item)?;
-        if item % 3 == 2 {
-            // out of the front, or of the middle
-            let at = (item * 7) as usize % list.len().max(1);
-            assert!(rt; take_same(&mut queue, &mut list, at));
+        if !take_same(queue, list, (turn * 5 % 11) as usize) || !same(queue, list) {
+            return Some(turn);
         }
     }
-    assert!(rt; same(&queue, &list));
+    None
+}
+
+// The first item after which both differ, where many items come, and go out of the front or of the middle.
+fn wrong_in_crowd(
+    queue: &mut FrontQueue<u64>,
+    list: &mut Vec<u64>,
+) -> Result<Option<u64>, NoMemory> {
+    for item in 0..CROWD {
+        put(queue, list, item)?;
+        let at = (item * 7) as usize % list.len().max(1);
+        if item % 3 == 2 && !take_same(queue, list, at) {
+            return Ok(Some(item));
+        }
+    }
+    Ok(None)
+}
+
+// The first turn after which both differ, where the items go from anywhere.
+fn wrong_anywhere(queue: &mut FrontQueue<u64>, list: &mut Vec<u64>) -> Option<u64> {
     for turn in 0..CROWD {
         let at = (turn * 31) as usize % list.len().max(1);
-        assert!(rt; take_same(&mut queue, &mut list, at));
+        if !take_same(queue, list, at) {
+            return Some(turn);
+        }
     }
-    assert!(rt; list.is_empty() && queue.len() == 0);
+    None
+}
+
+// The number of the first wrong answer, of a queue and a list that are empty before.
+fn wrong_queue(
+    queue: &mut FrontQueue<u64>,
+    list: &mut Vec<u64>,
+) -> Result<Option<usize>, NoMemory> {
+    let right = [
+        wrong_in_front(queue, list)?.is_none(),
+        wrong_behind(queue, list).is_none(),
+        wrong_in_crowd(queue, list)?.is_none(),
+        same(queue, list),
+        wrong_anywhere(queue, list).is_none(),
+        list.is_empty() && queue.len() == 0,
+    ];
+    Ok(first_wrong(&right))
+}
+
+#[test]
+fn takes_from_front_and_behind(rt: HostRuntime) -> Result<(), Fail> {
+    let mut queue = FrontQueue::new(rt.alloc());
+    let mut list = Vec::new(rt.alloc());
+    assert_eq!(rt; wrong_queue(&mut queue, &mut list)?, None);
     Ok(())
 }
 
@@ -106,23 +148,51 @@ fn leave(table: &mut Table<u64>, key: u64) -> Result<Option<u64>, NoMemory>
     Ok(table.take(key))
 }
 
-#[test]
-fn finds_by_number(rt: HostRuntime) -> Result<(), Fail> {
-    let mut table = Table::new(rt.alloc());
+// Whether the key has a place, but no item.
+fn is_vacant(table: &Table<u64>, key: u64) -> bool
+    requires { key < 2 ^ 40 }
+{
+    table.has_place(key) && table.get(key).is_none()
+}
+
+// The first turn in which a key was there before.
+fn wrong_stand(table: &mut Table<u64>) -> Result<Option<u64>, NoMemory> {
     for turn in 0..KEYS {
         let key = key_of(turn * 37 % KEYS);
-        assert!(rt; !table.has_place(key) && table.get(key).is_none());
-        assert_eq!(rt; stand(&mut table, key, turn)?, None);
+        let new = !table.has_place(key) && table.get(key).is_none();
+        if !new || stand(table, key, turn)?.is_some() {
+            return Ok(Some(turn));
+        }
     }
+    Ok(None)
+}
+
+// The first turn in which another item stood at a key, or it doesn't go.
+fn wrong_leave(table: &mut Table<u64>) -> Result<Option<u64>, NoMemory> {
     for turn in 0..KEYS {
         let number = turn * 101 % KEYS;
         let key = key_of(number);
         // 37 times 132 is 1 more than a multiple of 257
-        assert_eq!(rt; table.get(key), Some(&(number * 132 % KEYS)));
-        assert_eq!(rt; stand(&mut table, key, turn)?, Some(number * 132 % KEYS));
-        assert_eq!(rt; leave(&mut table, key)?, Some(turn));
-        assert!(rt; table.has_place(key) && table.get(key).is_none());
+        let old = number * 132 % KEYS;
+        let there = table.get(key) == Some(&old);
+        let replaced = stand(table, key, turn)? == Some(old);
+        let left = leave(table, key)? == Some(turn);
+        if !there || !replaced || !left || !is_vacant(table, key) {
+            return Ok(Some(turn));
+        }
     }
+    Ok(None)
+}
+
+// The first wrong turns, of a table that is empty before.
+fn wrong_turns(table: &mut Table<u64>) -> Result<(Option<u64>, Option<u64>), NoMemory> {
+    Ok((wrong_stand(table)?, wrong_leave(table)?))
+}
+
+#[test]
+fn finds_by_number(rt: HostRuntime) -> Result<(), Fail> {
+    let mut table = Table::new(rt.alloc());
+    assert_eq!(rt; wrong_turns(&mut table)?, (None, None));
     Ok(())
 }
 
@@ -149,20 +219,43 @@ fn are_marked(marks: &MarkSet, first: u64, count: u64) -> bool {
     same
 }
 
+// The first turn after which other numbers are marked, where they come downwards.
+fn wrong_mark(marks: &mut MarkSet) -> Result<Option<u64>, NoMemory> {
+    for turn in 0..COME {
+        change(marks, COME - turn, true)?;
+        if !are_marked(marks, COME - turn, turn + 1) {
+            return Ok(Some(turn));
+        }
+    }
+    Ok(None)
+}
+
+// The same where they go upwards.
+fn wrong_unmark(marks: &mut MarkSet) -> Result<Option<u64>, NoMemory> {
+    for turn in 0..COME {
+        change(marks, turn + 1, false)?;
+        if !are_marked(marks, turn + 2, COME - turn - 1) {
+            return Ok(Some(turn));
+        }
+    }
+    Ok(None)
+}
+
+// The number of the first wrong answer: up to sixty and down to none, twice, through sixteen and eight.
+fn wrong_marks(marks: &mut MarkSet) -> Result<Option<usize>, NoMemory> {
+    let right = [
+        wrong_mark(marks)?.is_none(),
+        wrong_unmark(marks)?.is_none(),
+        wrong_mark(marks)?.is_none(),
+        wrong_unmark(marks)?.is_none(),
+    ];
+    Ok(first_wrong(&right))
+}
+
 #[test]
 fn marks_few_and_many(rt: HostRuntime) -> Result<(), Fail> {
     let mut marks = MarkSet::new(rt.alloc());
-    // up to sixty and down to none, twice: through sixteen and eight
-    for _ in 0..2 {
-        for turn in 0..COME {
-            change(&mut marks, COME - turn, true)?;
-            assert!(rt; are_marked(&marks, COME - turn, turn + 1));
-        }
-        for turn in 0..COME {
-            change(&mut marks, turn + 1, false)?;
-            assert!(rt; are_marked(&marks, turn + 2, COME - turn - 1));
-        }
-    }
+    assert_eq!(rt; wrong_marks(&mut marks)?, None);
     Ok(())
 }
 
@@ -181,22 +274,58 @@ fn spread(at: u64) -> u64
     at / MANY * ROW + at % MANY * APART
 }
 
+// All are marked in mixed order: 7,919 and 15,000 have no common divisor.
+fn mark_all(marks: &mut MarkSet) -> Result<(), NoMemory> {
+    for turn in 0..ALL {
+        change(marks, spread(turn * 7_919 % ALL), true)?;
+    }
+    Ok(())
+}
+
+// Each second one goes, from the first on.
+fn unmark_half(marks: &mut MarkSet) -> Result<(), NoMemory> {
+    for turn in 0..ALL / 2 {
+        change(marks, spread(turn * 2), false)?;
+    }
+    Ok(())
+}
+
+// The first rank at which another number is marked, where all are.
+fn wrong_of_all(marks: &MarkSet) -> Option<u64> {
+    for at in 0..ALL {
+        if marks.nth(at as usize) != Some(spread(at)) {
+            return Some(at);
+        }
+    }
+    None
+}
+
+// The same where each second one is.
+fn wrong_of_half(marks: &MarkSet) -> Option<u64> {
+    for at in 0..ALL / 2 {
+        if marks.nth(at as usize) != Some(spread(at * 2 + 1)) {
+            return Some(at);
+        }
+    }
+    None
+}
+
+// The number of the first wrong answer, where none is marked before.
+fn wrong_rows(marks: &mut MarkSet) -> Result<Option<usize>, NoMemory> {
+    mark_all(marks)?;
+    let all = wrong_of_all(marks);
+    unmark_half(marks)?;
+    let right = [
+        all.is_none(),
+        marks.len() as u64 == ALL / 2,
+        wrong_of_half(marks).is_none(),
+    ];
+    Ok(first_wrong(&right))
+}
+
 #[test]
 fn marks_in_rows(rt: HostRuntime) -> Result<(), Fail> {
     let mut marks = MarkSet::new(rt.alloc());
-    for turn in 0..ALL {
-        // all of them in mixed order: 7,919 and 15,000 have no common divisor
-        change(&mut marks, spread(turn * 7_919 % ALL), true)?;
-    }
-    for at in 0..ALL {
-        assert_eq!(rt; marks.nth(at as usize), Some(spread(at)));
-    }
-    for turn in 0..ALL / 2 {
-        change(&mut marks, spread(turn * 2), false)?;
-    }
-    assert_eq!(rt; marks.len() as u64, ALL / 2);
-    for at in 0..ALL / 2 {
-        assert_eq!(rt; marks.nth(at as usize), Some(spread(at * 2 + 1)));
-    }
+    assert_eq!(rt; wrong_rows(&mut marks)?, None);
     Ok(())
 }

@@ -2,6 +2,7 @@
 
 ghost use Rattle.std.specs.Prelude.{◌<◌};
 
+use crate::answers::first_wrong;
 use controller::{Choice, Load, balance, next};
 use fr_base::{Code, Instr, MutexNo, Operand, Options, ThreadNo};
 use server_core::Server;
@@ -31,17 +32,18 @@ fn moved(count: u32, to: u8) -> Option<(ThreadNo, u8)> {
 
 #[test]
 fn which_thread_is_moved(rt: HostRuntime) {
-    assert_eq!(rt; balance(&[load(3, 1), load(1, 2), load(1, 3)]), moved(1, 1));
-    assert_eq!(rt; balance(&[fixed(3), load(1, 2), load(1, 3)]), None);
-    assert_eq!(rt; balance(&[load(2, 1), load(1, 2), load(1, 3)]), None);
-    assert_eq!(rt;
-        balance(&[load(1, 1), load(3, 2), load(3, 3), load(0, 4), load(0, 5)]),
-        moved(2, 3)
-    );
-    assert_eq!(rt; balance(&[fixed(3), load(3, 2), fixed(0)]), None);
-    assert_eq!(rt; balance(&[load(7, 1)]), None);
-    assert_eq!(rt; balance(&[]), None);
-    assert_eq!(rt; balance(&[load(0, 1), load(u64::MAX, 2)]), moved(2, 0));
+    let five = [load(1, 1), load(3, 2), load(3, 3), load(0, 4), load(0, 5)];
+    let right = [
+        balance(&[load(3, 1), load(1, 2), load(1, 3)]) == moved(1, 1),
+        balance(&[fixed(3), load(1, 2), load(1, 3)]) == None,
+        balance(&[load(2, 1), load(1, 2), load(1, 3)]) == None,
+        balance(&five) == moved(2, 3),
+        balance(&[fixed(3), load(3, 2), fixed(0)]) == None,
+        balance(&[load(7, 1)]) == None,
+        balance(&[]) == None,
+        balance(&[load(0, 1), load(u64::MAX, 2)]) == moved(2, 0),
+    ];
+    assert_eq!(rt; first_wrong(&right), None);
 }
 
 // A server of a run of two, with so many messages.
