@@ -27,11 +27,11 @@ use controller::Choice;
 use drust_io::Gate;
 use fr_base::{Ending, Ending3, NoMemory, Options};
 use journal::Journal;
+use law_runs_order::coherent_in_any_order;
 use law_runs_rounds::{rounds_go_on, starts_are_under_way};
 use std::alloc::Global;
 use std::sync::Arc;
 use std::thread::Threads;
-use law_runs_order::coherent_in_any_order;
 
 // The generators of so many servers.
 fn choices_of(alloc: Global, options: &Options) -> Result<Vec<Choice>, NoMemory>

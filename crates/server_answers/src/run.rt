@@ -14,13 +14,15 @@ use drust_io::Gate;
 use drust_run::{Ran, run_rounds};
 use fr_base::{Ending, NoMemory, Options};
 use gen_load::generate;
+use law_length_programs::{
+    programs_have_blocks, runs_in_rounds_are_right, runs_in_rounds_come_to_an_end,
+};
 use law_plain_generated::programs_are_sources;
 use source_front::{Refused, checked_source};
 use std::alloc::Global;
 use std::sync::Arc;
 use std::thread::Threads;
 use tracer::{report_text, summary_text, trace_text};
-use law_length_programs::{programs_have_blocks, runs_in_rounds_are_right, runs_in_rounds_come_to_an_end};
 
 // The status of a run that ended so.
 fn status_of(ending: Ending) -> u8
